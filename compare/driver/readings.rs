@@ -1,0 +1,115 @@
+//! Prints what the original Rust reads each 8-bit number as, the code of each kind of error, and its
+//! times at their limits, one form a line. Every answer is computed by calling the original code.
+
+mod forms;
+
+use forms::{ERRORS, hex};
+use powerlink_rs::NodeId;
+use powerlink_rs::common::NetTime;
+use powerlink_rs::nmt::events::{NmtManagingCommand, NmtStateCommand};
+use powerlink_rs::nmt::states::NmtState;
+
+fn main() {
+    forms::check_order();
+    print_nodes();
+    print_readings("state", |number| {
+        NmtState::try_from(number).ok().map(|state| state as u8)
+    });
+    print_readings("command", |number| {
+        NmtStateCommand::try_from(number)
+            .ok()
+            .map(|command| command as u8)
+    });
+    print_readings("managing", |number| {
+        NmtManagingCommand::try_from(number)
+            .ok()
+            .map(|command| command as u8)
+    });
+    print_codes();
+    print_times();
+    print_additions();
+    print_differences();
+}
+
+fn print_nodes() {
+    for number in 0..=u8::MAX {
+        let answer = if NodeId::try_from(number).is_ok() {
+            "taken"
+        } else {
+            "refused"
+        };
+        println!("(node {number} {answer})");
+    }
+}
+
+/// Prints, for each 8-bit number, the number of what was read from it.
+fn print_readings(name: &str, read: impl Fn(u8) -> Option<u8>) {
+    for number in 0..=u8::MAX {
+        let answer = read(number).map_or("refused".to_string(), hex);
+        println!("({name} {number} {answer})");
+    }
+}
+
+fn print_codes() {
+    for error in &ERRORS {
+        println!(
+            "(code {} 0x{:04X})",
+            forms::kind(error),
+            error.to_error_code()
+        );
+    }
+}
+
+const MICROS: [u64; 10] = [
+    0,
+    1,
+    999_999,
+    1_000_000,
+    12_100,
+    1_234_567_890_123,
+    4_294_967_295_999_999,
+    4_294_967_296_000_000,
+    4_611_686_018_427_387_903,
+    u64::MAX,
+];
+
+/// Times as seconds and nanoseconds.
+const TIMES: [(u32, u32); 4] = [
+    (0, 0),
+    (0, 999_999_999),
+    (1, 500_000_000),
+    (u32::MAX, 999_999_999),
+];
+
+const NANOS: [u64; 5] = [0, 1, 1_000_000_000, 1_999_999_999, u64::MAX];
+
+fn print_times() {
+    for micros in MICROS {
+        let time = NetTime::from_micros(micros);
+        let (seconds, nanoseconds) = (time.seconds, time.nanoseconds);
+        let nanos = time.as_nanos();
+        println!("(time {micros} (seconds {seconds}) (nanoseconds {nanoseconds}) (nanos {nanos}))");
+    }
+}
+
+fn print_additions() {
+    for (s, n) in TIMES {
+        for nanos in NANOS {
+            let mut time = NetTime::new(s, n);
+            time.add_nanos(nanos);
+            println!(
+                "(add {s} {n} {nanos} (seconds {}) (nanoseconds {}))",
+                time.seconds, time.nanoseconds
+            );
+        }
+    }
+}
+
+fn print_differences() {
+    for (s1, n1) in TIMES {
+        for (s2, n2) in TIMES {
+            let difference = NetTime::new(s1, n1).sub_net_time(NetTime::new(s2, n2));
+            println!("(difference {s1} {n1} {s2} {n2} {difference})");
+        }
+    }
+}

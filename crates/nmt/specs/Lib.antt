@@ -1,0 +1,2 @@
+pub mod Resets
+pub mod Nmt

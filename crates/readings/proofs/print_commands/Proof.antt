@@ -1,0 +1,25 @@
+-- `readings::print_commands` is safe and ends: the loop counts up to a constant.
+-- Assumes nothing.
+use Prim.Native.Nat.{_-_}
+use borrow.Author.Needs.{needs}
+use Rattle.readings.proofs.print_commands.Statement.{statement}
+use Rattle.readings.proofs.print_commands.Tie as tie
+
+abbrev Inv-loop : tie.InvT-loop
+Inv-loop n₀ n = Unit
+
+abbrev μ-loop : tie.MeasureT-loop
+μ-loop n₀ n = 256 - n
+
+pub print-commands-spec : {M : Type 1} → statement M
+print-commands-spec =
+    tie.close
+    (tie.spec
+    Inv-loop
+    μ-loop
+    (λ c. search needs)
+    (λ c κs. search needs)
+    (λ c. search needs)
+    (λ c. search needs)
+    (λ c. search needs)
+    (λ c. search needs))

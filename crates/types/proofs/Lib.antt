@@ -1,0 +1,4 @@
+pub mod Cases
+pub mod Reading
+pub mod Reported
+pub mod RoundTrips

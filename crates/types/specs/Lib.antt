@@ -1,0 +1,9 @@
+pub mod Pick
+pub mod Refusals
+pub mod Types
+pub mod Common
+pub mod Flags
+pub mod States
+pub mod Events
+pub mod CsEvents
+pub mod Errors

@@ -1,0 +1,15 @@
+-- The numbers of the refusals.
+-- Assumes nothing.
+use Prim.Native.Nat.{ℕ}
+use Rattle.types.specs.declared.refusals.Refusal.{Refusal}
+use Rattle.types.specs.declared.refusals.Refusal.the-variants.{NodeNumber, QueueCapacity, WatchedNodes, UnknownNumber, TimeLimit, BeforeHeard, NotWatched, ReadyToOperate}
+
+abbrev pub refusalNumber : Refusal → ℕ
+refusalNumber NodeNumber = 1
+refusalNumber QueueCapacity = 2
+refusalNumber WatchedNodes = 3
+refusalNumber UnknownNumber = 4
+refusalNumber TimeLimit = 5
+refusalNumber BeforeHeard = 6
+refusalNumber NotWatched = 7
+refusalNumber ReadyToOperate = 8
