@@ -56,7 +56,7 @@ done < <(cd "$here/standins/powerlink-rs" && find . -name '*.rs' | cut -c 3-)
 
 compile log "$here/standins/log/lib.rs" --crate-type rlib
 compile powerlink_rs "$tree/lib.rs" --crate-type rlib --extern "log=$out/liblog.rlib"
-for driver in startup readings transitions; do
+for driver in startup readings transitions counting entry_bytes; do
     compile "$driver" "$here/driver/$driver.rs" --crate-type bin --extern "powerlink_rs=$out/libpowerlink_rs.rlib"
 done
 

@@ -7,7 +7,7 @@ root=$(dirname "$here")
 
 "$here/build.sh"
 failed=0
-for driver in startup readings transitions; do
+for driver in startup readings transitions counting entry_bytes; do
     printed="$root/target/compare/$driver.out"
     stored="$root/crates/$driver/stdout"
     "$root/target/compare/$driver" >"$printed"

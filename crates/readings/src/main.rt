@@ -45,54 +45,59 @@ fn print_nodes() {
     }
 }
 
-fn taken(number: u8) {
-    say(b" ");
-    say_hex2(number as u64);
-    say(b")\n");
+// The number of what was read, or nothing.
+enum Reading {
+    Number(u8),
+    Nothing,
 }
 
-fn print_state(n: u64) {
-    say(b"(state ");
-    say_number(n);
+fn state(n: u64) -> Reading {
     match NmtState::try_from(n) {
-        NmtStateRead::Taken(state) => taken(state.as_u8()),
-        NmtStateRead::Refused(_) => say(b" refused)\n"),
+        NmtStateRead::Taken(state) => Reading::Number(state.as_u8()),
+        NmtStateRead::Refused(_) => Reading::Nothing,
     }
 }
 
-fn print_states() {
-    for n in 0..256u64 {
-        print_state(n);
-    }
-}
-
-fn print_command(n: u64) {
-    say(b"(command ");
-    say_number(n);
+fn command(n: u64) -> Reading {
     match NmtStateCommand::try_from(n) {
-        NmtStateCommandRead::Taken(command) => taken(command.as_u8()),
-        NmtStateCommandRead::Refused(_) => say(b" refused)\n"),
+        NmtStateCommandRead::Taken(command) => Reading::Number(command.as_u8()),
+        NmtStateCommandRead::Refused(_) => Reading::Nothing,
     }
 }
 
-fn print_commands() {
-    for n in 0..256u64 {
-        print_command(n);
-    }
-}
-
-fn print_managing_command(n: u64) {
-    say(b"(managing ");
-    say_number(n);
+fn managing_command(n: u64) -> Reading {
     match NmtManagingCommand::try_from(n) {
-        NmtManagingCommandRead::Taken(command) => taken(command.as_u8()),
-        NmtManagingCommandRead::Refused(_) => say(b" refused)\n"),
+        NmtManagingCommandRead::Taken(command) => Reading::Number(command.as_u8()),
+        NmtManagingCommandRead::Refused(_) => Reading::Nothing,
     }
 }
 
-fn print_managing_commands() {
-    for n in 0..256u64 {
-        print_managing_command(n);
+fn print_reading(name: &[u8], n: u64, reading: Reading) {
+    say(name);
+    say_number(n);
+    match reading {
+        Reading::Number(number) => {
+            say(b" ");
+            say_hex2(number as u64);
+            say(b")\n");
+        }
+        Reading::Nothing => say(b" refused)\n"),
+    }
+}
+
+// A line of the three tables of 256 numbers, which stand one after the other.
+fn print_line(k: u64) {
+    let n = k % 256;
+    match k / 256 {
+        0 => print_reading(b"(state ", n, state(n)),
+        1 => print_reading(b"(command ", n, command(n)),
+        _ => print_reading(b"(managing ", n, managing_command(n)),
+    }
+}
+
+fn print_readings() {
+    for k in 0..768u64 {
+        print_line(k);
     }
 }
 
@@ -117,9 +122,7 @@ fn print_codes() {
 
 fn main() {
     print_nodes();
-    print_states();
-    print_commands();
-    print_managing_commands();
+    print_readings();
     print_codes();
     times::print_times();
     times::print_additions();

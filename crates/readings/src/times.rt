@@ -60,7 +60,7 @@ fn print_time(micros: u64) {
     say(b"))\n");
 }
 
-pub fn print_times() {
+pub(crate) fn print_times() {
     for i in 0..10usize {
         print_time(MICROS[i]);
     }
@@ -75,7 +75,7 @@ fn print_addition(time: NetTime, nanos: u64) {
     say(b")\n");
 }
 
-pub fn print_additions() {
+pub(crate) fn print_additions() {
     for k in 0..20usize {
         print_addition(time(k / 5), NANOS[k % 5]);
     }
@@ -104,7 +104,7 @@ fn print_difference(a: NetTime, b: NetTime) {
     say(b")\n");
 }
 
-pub fn print_differences() {
+pub(crate) fn print_differences() {
     for k in 0..16usize {
         print_difference(time(k / 4), time(k % 4));
     }

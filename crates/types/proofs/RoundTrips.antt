@@ -26,6 +26,7 @@ use Rattle.types.specs.declared.frame.error.types.DllError.the-variants.
 use Rattle.types.specs.declared.frame.error.types.DllErrorRead.{DllErrorRead}
 use Rattle.types.specs.declared.frame.error.types.DllErrorRead.the-variants.{Taken, Refused}
 use Rattle.types.proofs.Cases.{everywhere, NmtStates, NmtEvents, DllCsEvents}
+use Rattle.types.proofs.ErrorCases.{carriedA, carriedB}
 use Rattle.types.proofs.Reading.{Faithful, faithful, reads-holds}
 
 pub states-faithful : Faithful stateNumber state.Taken readState
@@ -79,55 +80,6 @@ cs-events-faithful =
     (λ y e. let z : _≡_ {A = ℕ} 0 1 = cc in omega arith)
     (everywhere DllCsEvents (λ e. readCsEvent (csEventNumber e)) cs-event.Taken refl refl)
 
--- what an error carries: a, its node or its state, and b, its event; 0 where it carries none
-abbrev pub carriedA : DllError → ℕ
-carriedA LossOfLink = 0
-carriedA BadPhysicalMode = 0
-carriedA MacBuffer = 0
-carriedA Crc = 0
-carriedA Collision = 0
-carriedA InvalidFormat = 0
-carriedA LossOfSoc = 0
-carriedA LossOfSoa = 0
-carriedA LossOfPreq = 0
-carriedA (LossOfPres n) = n .0
-carriedA (LossOfStatusRes n) = n .0
-carriedA CycleTimeExceeded = 0
-carriedA (LatePres n) = n .0
-carriedA SoCJitter = 0
-carriedA MsWaitSoc = 0
-carriedA MultipleMn = 0
-carriedA AddressConflict = 0
-carriedA MevAsndTimeout = 0
-carriedA (UnexpectedEventInState s e) = s
-carriedA (PdoMapVersion n) = n .0
-carriedA (PdoPayloadShort n) = n .0
-carriedA (HeartbeatTimeout n) = n .0
-
-abbrev pub carriedB : DllError → ℕ
-carriedB LossOfLink = 0
-carriedB BadPhysicalMode = 0
-carriedB MacBuffer = 0
-carriedB Crc = 0
-carriedB Collision = 0
-carriedB InvalidFormat = 0
-carriedB LossOfSoc = 0
-carriedB LossOfSoa = 0
-carriedB LossOfPreq = 0
-carriedB (LossOfPres n) = 0
-carriedB (LossOfStatusRes n) = 0
-carriedB CycleTimeExceeded = 0
-carriedB (LatePres n) = 0
-carriedB SoCJitter = 0
-carriedB MsWaitSoc = 0
-carriedB MultipleMn = 0
-carriedB AddressConflict = 0
-carriedB MevAsndTimeout = 0
-carriedB (UnexpectedEventInState s e) = e
-carriedB (PdoMapVersion n) = 0
-carriedB (PdoPayloadShort n) = 0
-carriedB (HeartbeatTimeout n) = 0
-
 -- the error itself, or the refusal of its node
 abbrev pub admitted : DllError → DllErrorRead
 admitted LossOfLink = Taken LossOfLink
@@ -153,30 +105,30 @@ admitted (PdoMapVersion n) = carried (readNode (n .0)) (PdoMapVersion n)
 admitted (PdoPayloadShort n) = carried (readNode (n .0)) (PdoPayloadShort n)
 admitted (HeartbeatTimeout n) = carried (readNode (n .0)) (HeartbeatTimeout n)
 
-pub error-back : (x : DllError) → readError (errorKind x) (carriedA x) (carriedB x) ≡ admitted x
+pub error-read : (x : DllError) → readError (errorKind x) (carriedA x) (carriedB x) ≡ admitted x
 unfolding readError
-error-back LossOfLink = refl
-error-back BadPhysicalMode = refl
-error-back MacBuffer = refl
-error-back Crc = refl
-error-back Collision = refl
-error-back InvalidFormat = refl
-error-back LossOfSoc = refl
-error-back LossOfSoa = refl
-error-back LossOfPreq = refl
-error-back (LossOfPres n) = refl
-error-back (LossOfStatusRes n) = refl
-error-back CycleTimeExceeded = refl
-error-back (LatePres n) = refl
-error-back SoCJitter = refl
-error-back MsWaitSoc = refl
-error-back MultipleMn = refl
-error-back AddressConflict = refl
-error-back MevAsndTimeout = refl
-error-back (UnexpectedEventInState s e) = refl
-error-back (PdoMapVersion n) = refl
-error-back (PdoPayloadShort n) = refl
-error-back (HeartbeatTimeout n) = refl
+error-read LossOfLink = refl
+error-read BadPhysicalMode = refl
+error-read MacBuffer = refl
+error-read Crc = refl
+error-read Collision = refl
+error-read InvalidFormat = refl
+error-read LossOfSoc = refl
+error-read LossOfSoa = refl
+error-read LossOfPreq = refl
+error-read (LossOfPres n) = refl
+error-read (LossOfStatusRes n) = refl
+error-read CycleTimeExceeded = refl
+error-read (LatePres n) = refl
+error-read SoCJitter = refl
+error-read MsWaitSoc = refl
+error-read MultipleMn = refl
+error-read AddressConflict = refl
+error-read MevAsndTimeout = refl
+error-read (UnexpectedEventInState s e) = refl
+error-read (PdoMapVersion n) = refl
+error-read (PdoPayloadShort n) = refl
+error-read (HeartbeatTimeout n) = refl
 
 taken-same : (x y : DllError) → Taken x ≡ Taken y → errorKind x ≡ errorKind y
 taken-same x y e = let s : x ≡ y = cc in ap errorKind s

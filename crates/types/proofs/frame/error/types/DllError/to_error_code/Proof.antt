@@ -1,47 +1,12 @@
--- `types::frame::error::types::DllError::to_error_code` meets its contract. The last arm takes five variants: there the code is a function of the
--- variant's place.
+-- `types::frame::error::types::DllError::to_error_code` meets its contract: each arm is told its variant, and the last that it is one of five.
 -- Assumes nothing.
-use Prim.Native.Nat.{ℕ}
-use mathlib.Core.Path.{_≡_, refl, _∙_}
-use mathlib.Core.List.{List, [], _∷_}
-use lib.ListN.{getD}
-use denote.Enum.Declared.{tagOf}
+use mathlib.Core.Path.{refl}
+use mathlib.Core.List.{[], _∷_}
 use borrow.Author.Needs.{needs}
 use Rattle.types.specs.Errors.{errorCode}
-use Rattle.types.specs.declared.frame.error.types.DllError.{DllError}
-use Rattle.types.specs.declared.frame.error.types.DllError.the-variants.{LossOfLink, BadPhysicalMode, MacBuffer, Crc, Collision, InvalidFormat, LossOfSoc, LossOfSoa, LossOfPreq, LossOfPres, LossOfStatusRes, CycleTimeExceeded, LatePres, SoCJitter, MsWaitSoc, MultipleMn, AddressConflict, MevAsndTimeout, UnexpectedEventInState, PdoMapVersion, PdoPayloadShort, HeartbeatTimeout}
-use Rattle.types.proofs.frame.error.types.DllError as DllErrorType
-use Rattle.types.proofs.Cases.{at-keys}
+use Rattle.types.proofs.ErrorCases.{errors-arm}
 use Rattle.types.proofs.frame.error.types.DllError.to_error_code.Statement.{statement}
 use Rattle.types.proofs.frame.error.types.DllError.to_error_code.Tie as tie
-
-abbrev codes : List ℕ
-codes =
-    0x8165 ∷ 0x8161 ∷ 0x8166 ∷ 0x8164 ∷ 0x8163 ∷ 0x8241 ∷ 0x8245 ∷ 0x8244 ∷ 0x8242 ∷ 0x8243 ∷ 0x8246 ∷ 0x8233 ∷ 0x8236 ∷ 0x8235 ∷ 0x8000 ∷ 0x8000 ∷ 0x8000 ∷ 0x8000 ∷ 0x8000 ∷ 0x8211 ∷ 0x8210 ∷ 0x8250 ∷ []
-
-by-place : (e : DllError) → getD codes (tagOf DllErrorType.the-type e) 0 ≡ errorCode e
-by-place LossOfLink = refl
-by-place BadPhysicalMode = refl
-by-place MacBuffer = refl
-by-place Crc = refl
-by-place Collision = refl
-by-place InvalidFormat = refl
-by-place LossOfSoc = refl
-by-place LossOfSoa = refl
-by-place LossOfPreq = refl
-by-place (LossOfPres n) = refl
-by-place (LossOfStatusRes n) = refl
-by-place CycleTimeExceeded = refl
-by-place (LatePres n) = refl
-by-place SoCJitter = refl
-by-place MsWaitSoc = refl
-by-place MultipleMn = refl
-by-place AddressConflict = refl
-by-place MevAsndTimeout = refl
-by-place (UnexpectedEventInState s e) = refl
-by-place (PdoMapVersion n) = refl
-by-place (PdoPayloadShort n) = refl
-by-place (HeartbeatTimeout n) = refl
 
 pub to-error-code-spec : {M : Type 1} → statement M
 to-error-code-spec =
@@ -82,5 +47,4 @@ to-error-code-spec =
     (λ c. rw (c .enum-told16 .given .1))
     (λ c. rw (c .enum-told17 .given .1))
     (λ c.
-    at-keys (λ (k : ℕ). 0x8000) (λ (k : ℕ). getD codes k 0) (14 ∷ 15 ∷ 16 ∷ 17 ∷ 18 ∷ []) (tagOf DllErrorType.the-type (c .before .args .self)) refl (c .match .keys18) ∙
-    by-place (c .before .args .self)))
+    errors-arm (λ e. 0x8000) errorCode (14 ∷ 15 ∷ 16 ∷ 17 ∷ 18 ∷ []) (c .before .args .self) (c .match .keys18) (λ a b. refl)))

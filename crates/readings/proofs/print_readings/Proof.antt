@@ -1,18 +1,18 @@
--- `readings::print_states` is safe and ends: the loop counts up to a constant.
+-- `readings::print_readings` is safe and ends: the loop counts up to a constant.
 -- Assumes nothing.
 use Prim.Native.Nat.{_-_}
 use borrow.Author.Needs.{needs}
-use Rattle.readings.proofs.print_states.Statement.{statement}
-use Rattle.readings.proofs.print_states.Tie as tie
+use Rattle.readings.proofs.print_readings.Statement.{statement}
+use Rattle.readings.proofs.print_readings.Tie as tie
 
 abbrev Inv-loop : tie.InvT-loop
-Inv-loop n₀ n = Unit
+Inv-loop k₀ k = Unit
 
 abbrev μ-loop : tie.MeasureT-loop
-μ-loop n₀ n = 256 - n
+μ-loop k₀ k = 768 - k
 
-pub print-states-spec : {M : Type 1} → statement M
-print-states-spec =
+pub print-readings-spec : {M : Type 1} → statement M
+print-readings-spec =
     tie.close
     (tie.spec
     Inv-loop

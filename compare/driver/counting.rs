@@ -1,0 +1,116 @@
+//! Prints what the original error counters answer to a sequence of errors and completed cycles, and
+//! their levels and counts after each, one form a line. Every answer is computed by calling the
+//! original code.
+
+mod forms;
+mod generator;
+
+use forms::{ERRORS, error_form, named_form};
+use generator::Generator;
+use powerlink_rs::ErrorHandler;
+use powerlink_rs::frame::DllError;
+use powerlink_rs::frame::error::{CnErrorCounters, DllErrorManager, NmtAction, ThresholdCounter};
+
+/// Keeps the errors that the counters log.
+struct Recorder {
+    logged: Vec<DllError>,
+}
+
+impl ErrorHandler for Recorder {
+    fn log_error(&mut self, error: &DllError) {
+        self.logged.push(*error);
+    }
+}
+
+type Manager = DllErrorManager<CnErrorCounters, Recorder>;
+
+fn main() {
+    forms::check_order();
+    let recorder = Recorder { logged: Vec::new() };
+    let mut manager = Manager::new(CnErrorCounters::new(), recorder);
+    let mut generator = Generator::new();
+    for _ in 0..2000 {
+        // A third of the calls complete a cycle, so that levels both cross the threshold and come
+        // down to 0.
+        match ERRORS.get(generator.below(32) as usize) {
+            Some(error) => print_error(&mut manager, *error),
+            None => print_cycle(&mut manager),
+        }
+    }
+}
+
+fn print_error(manager: &mut Manager, error: DllError) {
+    let (action, signal) = manager.handle_error(error);
+    println!(
+        "(error {} (action {}) (signal {}) {} {})",
+        forms::kind(&error),
+        action_number(action),
+        signal as u8,
+        named_form(
+            "logged",
+            manager.handler.logged.drain(..).map(|e| error_form(&e))
+        ),
+        counters_form(&manager.counters),
+    );
+}
+
+fn print_cycle(manager: &mut Manager) {
+    let cleared = manager.on_cycle_complete();
+    assert_eq!(manager.handler.logged, [], "a cycle logs nothing");
+    println!(
+        "(cycle (cleared {}) {})",
+        cleared as u8,
+        counters_form(&manager.counters),
+    );
+}
+
+/// The place of an action in its enum, from 0.
+fn action_number(action: NmtAction) -> u8 {
+    match action {
+        NmtAction::None => 0,
+        NmtAction::ResetCommunication => 1,
+        NmtAction::ResetNode(_) => 2,
+    }
+}
+
+/// `(levels ..) (counts ..) (links 0)`, with a number for each of the seven counters.
+fn counters_form(counters: &CnErrorCounters) -> String {
+    let seven = [
+        &counters.collision,
+        &counters.loss_of_soc,
+        &counters.loss_of_soa,
+        &counters.loss_of_preq,
+        &counters.soc_jitter,
+        &counters.crc_errors,
+        &counters.heartbeat_timeout,
+    ];
+    let levels = seven.iter().map(|counter| level(counter));
+    let counts = seven
+        .iter()
+        .map(|counter| counter.cumulative_count().to_string());
+    format!(
+        "{} {} (links {})",
+        named_form("levels", levels),
+        named_form("counts", counts),
+        counters.loss_of_link_cumulative,
+    )
+}
+
+/// A counter's level. Its field is private, so it is read from the derived Debug form.
+fn level(counter: &ThresholdCounter) -> String {
+    let form = format!("{counter:?}");
+    let level = form
+        .split_once("threshold_cnt: ")
+        .and_then(|(_, rest)| rest.split_once(','))
+        .map(|(level, _)| level)
+        .expect("the Debug form names the level");
+    assert_eq!(
+        form,
+        format!(
+            "ThresholdCounter {{ cumulative_cnt: {}, threshold_cnt: {level}, threshold: 15 }}",
+            counter.cumulative_count(),
+        ),
+        "the level is read, and the threshold stays"
+    );
+    level.to_string()
+}

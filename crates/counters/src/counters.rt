@@ -1,0 +1,278 @@
+// The threshold counters (EPSG DS 301, Section 4.7.4.1) and those of a controlled node (Section 4.7.8).
+ghost use mathlib.Core.Path.{_≡_};
+ghost use Rattle.counters.specs.Counters.{addTop, newCounter, incremented, decremented, checked, active, newCounters, counter, replaced, unsignalled, signalled, counted, handled, lowered, anyActive, completed};
+use types::frame::error::types::DllError;
+use types::frame::error::types::DllErrors;
+use types::frame::error::types::NmtAction;
+
+// A level that an error raises by 8 and an error-free cycle lowers by 1, its threshold, and how often it was reached.
+pub struct ThresholdCounter {
+    pub cumulative_cnt: u32,
+    pub threshold_cnt: u32,
+    pub threshold: u32,
+}
+
+// A counter after its check.
+pub struct ThresholdCheck {
+    pub counter: ThresholdCounter,
+    pub reached: bool,
+}
+
+// a + b, stopping at the 32-bit top.
+fn saturating_add(a: u32, b: u32) -> u32
+    ensures { λ r. ⌜ r ≡ addTop a b ⌝ }
+{
+    if a <= 4294967295 - b {
+        a + b
+    } else {
+        4294967295
+    }
+}
+
+impl ThresholdCounter {
+    pub fn new(threshold: u32) -> Self
+        ensures { λ r. ⌜ r ≡ newCounter threshold ⌝ }
+    {
+        Self {
+            cumulative_cnt: 0,
+            threshold_cnt: 0,
+            threshold,
+        }
+    }
+
+    pub fn increment(mut self) -> Self
+        ensures { λ r. ⌜ r ≡ incremented self ⌝ }
+    {
+        self.threshold_cnt = saturating_add(self.threshold_cnt, 8);
+        self
+    }
+
+    pub fn decrement(mut self) -> Self
+        ensures { λ r. ⌜ r ≡ decremented self ⌝ }
+    {
+        if 0 < self.threshold_cnt {
+            self.threshold_cnt -= 1;
+        }
+        self
+    }
+
+    // A threshold of 0 is never reached.
+    pub fn check_and_reset(mut self) -> ThresholdCheck
+        ensures { λ r. ⌜ r ≡ checked self ⌝ }
+    {
+        if 0 < self.threshold && self.threshold <= self.threshold_cnt {
+            self.threshold_cnt = 0;
+            self.cumulative_cnt = saturating_add(self.cumulative_cnt, 1);
+            ThresholdCheck {
+                counter: self,
+                reached: true,
+            }
+        } else {
+            ThresholdCheck {
+                counter: self,
+                reached: false,
+            }
+        }
+    }
+
+    pub fn is_active(self) -> bool
+        ensures { λ r. ⌜ r ≡ active self ⌝ }
+    {
+        0 < self.threshold_cnt
+    }
+
+    pub fn cumulative_count(self) -> u32
+        ensures { λ r. ⌜ r ≡ self .«cumulative_cnt» ⌝ }
+    {
+        self.cumulative_cnt
+    }
+}
+
+// The kinds of error that have a threshold counter, in the order of the counters.
+pub enum CounterKind {
+    Collision,
+    LossOfSoc,
+    LossOfSoa,
+    LossOfPreq,
+    SoCJitter,
+    Crc,
+    HeartbeatTimeout,
+}
+
+// The DLL error counters of a controlled node.
+pub struct CnErrorCounters {
+    pub collision: ThresholdCounter,
+    pub loss_of_soc: ThresholdCounter,
+    pub loss_of_soa: ThresholdCounter,
+    pub loss_of_preq: ThresholdCounter,
+    pub soc_jitter: ThresholdCounter,
+    pub crc_errors: ThresholdCounter,
+    pub heartbeat_timeout: ThresholdCounter,
+    // Never reset.
+    pub loss_of_link_cumulative: u32,
+}
+
+// The answer to an error: what NMT is asked for, whether the error status changed, and what goes to the handler.
+pub struct HandledError {
+    pub counters: CnErrorCounters,
+    pub action: NmtAction,
+    pub signal: bool,
+    pub logged: DllErrors,
+}
+
+// The answer to a completed cycle: whether it cleared the last level.
+pub struct CompletedCycle {
+    pub counters: CnErrorCounters,
+    pub cleared: bool,
+}
+
+// Nothing is asked for, signalled or logged.
+fn unsignalled(counters: CnErrorCounters) -> HandledError
+    ensures { λ r. ⌜ r ≡ unsignalled counters ⌝ }
+{
+    HandledError {
+        counters,
+        action: NmtAction::None,
+        signal: false,
+        logged: DllErrors::None,
+    }
+}
+
+// The error is logged and signals, without an action.
+fn signalled(counters: CnErrorCounters, error: DllError) -> HandledError
+    ensures { λ r. ⌜ r ≡ signalled counters error ⌝ }
+{
+    HandledError {
+        counters,
+        action: NmtAction::None,
+        signal: true,
+        logged: DllErrors::One(error),
+    }
+}
+
+impl CnErrorCounters {
+    pub fn new() -> Self
+        ensures { λ r. ⌜ r ≡ newCounters ⌝ }
+    {
+        CnErrorCounters {
+            collision: ThresholdCounter::new(15),
+            loss_of_soc: ThresholdCounter::new(15),
+            loss_of_soa: ThresholdCounter::new(15),
+            loss_of_preq: ThresholdCounter::new(15),
+            soc_jitter: ThresholdCounter::new(15),
+            crc_errors: ThresholdCounter::new(15),
+            heartbeat_timeout: ThresholdCounter::new(15),
+            loss_of_link_cumulative: 0,
+        }
+    }
+
+    // The counter of a kind.
+    fn counter(self, kind: CounterKind) -> ThresholdCounter
+        ensures { λ r. ⌜ r ≡ counter kind self ⌝ }
+    {
+        match kind {
+            CounterKind::Collision => self.collision,
+            CounterKind::LossOfSoc => self.loss_of_soc,
+            CounterKind::LossOfSoa => self.loss_of_soa,
+            CounterKind::LossOfPreq => self.loss_of_preq,
+            CounterKind::SoCJitter => self.soc_jitter,
+            CounterKind::Crc => self.crc_errors,
+            CounterKind::HeartbeatTimeout => self.heartbeat_timeout,
+        }
+    }
+
+    // The counters with that of a kind replaced.
+    fn replace(mut self, kind: CounterKind, by: ThresholdCounter) -> Self
+        ensures { λ r. ⌜ r ≡ replaced kind by self ⌝ }
+    {
+        match kind {
+            CounterKind::Collision => self.collision = by,
+            CounterKind::LossOfSoc => self.loss_of_soc = by,
+            CounterKind::LossOfSoa => self.loss_of_soa = by,
+            CounterKind::LossOfPreq => self.loss_of_preq = by,
+            CounterKind::SoCJitter => self.soc_jitter = by,
+            CounterKind::Crc => self.crc_errors = by,
+            CounterKind::HeartbeatTimeout => self.heartbeat_timeout = by,
+        }
+        self
+    }
+
+    // An error that counts for a kind. A crossing asks for a reset, signals and is logged.
+    fn count(self, kind: CounterKind, error: DllError) -> HandledError
+        ensures { λ r. ⌜ r ≡ counted kind self error ⌝ }
+    {
+        let check = self.counter(kind).increment().check_and_reset();
+        let counters = self.replace(kind, check.counter);
+        if check.reached {
+            HandledError {
+                counters,
+                action: NmtAction::ResetCommunication,
+                signal: true,
+                logged: DllErrors::One(error),
+            }
+        } else {
+            unsignalled(counters)
+        }
+    }
+
+    pub fn handle_error(mut self, error: DllError) -> HandledError
+        ensures { λ r. ⌜ r ≡ handled self error ⌝ }
+    {
+        match error {
+            DllError::LossOfSoc => self.count(CounterKind::LossOfSoc, error),
+            DllError::LossOfSoa => self.count(CounterKind::LossOfSoa, error),
+            DllError::LossOfPreq => self.count(CounterKind::LossOfPreq, error),
+            DllError::Crc => self.count(CounterKind::Crc, error),
+            DllError::Collision => self.count(CounterKind::Collision, error),
+            DllError::SoCJitter => self.count(CounterKind::SoCJitter, error),
+            DllError::HeartbeatTimeout { .. } => self.count(CounterKind::HeartbeatTimeout, error),
+            DllError::LossOfLink => {
+                self.loss_of_link_cumulative = saturating_add(self.loss_of_link_cumulative, 1);
+                signalled(self, error)
+            }
+            DllError::PdoMapVersion { .. } | DllError::PdoPayloadShort { .. } => {
+                signalled(self, error)
+            }
+            // Errors of a managing node, and those that no counter has.
+            _ => unsignalled(self),
+        }
+    }
+
+    // Each level above 0 lowered by 1.
+    fn decrement(mut self) -> Self
+        ensures { λ r. ⌜ r ≡ lowered self ⌝ }
+    {
+        self.collision = self.collision.decrement();
+        self.loss_of_soc = self.loss_of_soc.decrement();
+        self.loss_of_soa = self.loss_of_soa.decrement();
+        self.loss_of_preq = self.loss_of_preq.decrement();
+        self.soc_jitter = self.soc_jitter.decrement();
+        self.crc_errors = self.crc_errors.decrement();
+        self.heartbeat_timeout = self.heartbeat_timeout.decrement();
+        self
+    }
+
+    fn is_any_active(self) -> bool
+        ensures { λ r. ⌜ r ≡ anyActive self ⌝ }
+    {
+        self.collision.is_active()
+            || self.loss_of_soc.is_active()
+            || self.loss_of_soa.is_active()
+            || self.loss_of_preq.is_active()
+            || self.soc_jitter.is_active()
+            || self.crc_errors.is_active()
+            || self.heartbeat_timeout.is_active()
+    }
+
+    pub fn on_cycle_complete(self) -> CompletedCycle
+        ensures { λ r. ⌜ r ≡ completed self ⌝ }
+    {
+        let was_active = self.is_any_active();
+        let counters = self.decrement();
+        let is_still_active = counters.is_any_active();
+        CompletedCycle {
+            counters,
+            cleared: was_active && !is_still_active,
+        }
+    }
+}

@@ -1,0 +1,6 @@
+pub mod Numbers
+pub mod Written
+pub mod Entries
+pub mod Rings
+pub mod Lists
+pub mod Modes

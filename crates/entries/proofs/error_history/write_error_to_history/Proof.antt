@@ -1,0 +1,22 @@
+-- `entries::error_history::write_error_to_history` meets its contract.
+-- Assumes nothing.
+use borrow.Author.Needs.{needs}
+use Rattle.entries.specs.History.{joined, joinedBytes}
+use Rattle.entries.proofs.error_history.write_error_to_history.Statement.{statement}
+use Rattle.entries.proofs.error_history.write_error_to_history.Tie as tie
+
+pub write-error-to-history-spec : {M : Type 1} → statement M
+unfolding joined joinedBytes
+write-error-to-history-spec =
+    tie.close
+    (tie.spec
+    (λ c. search needs)
+    (λ c. search needs)
+    (λ c. search needs)
+    (λ c κs. search needs)
+    (λ c. search needs)
+    (λ c. search needs)
+    (λ c κs. search needs)
+    (λ c. search needs)
+    (λ c. search needs)
+    (λ c. (rw (c .at-most .ensures), c .before .before .put-entry .ensures)))

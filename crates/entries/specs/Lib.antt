@@ -1,0 +1,4 @@
+pub mod Entry
+pub mod Ring
+pub mod Queue
+pub mod History
