@@ -2,12 +2,14 @@
 # make test     every check; the last line is 'N passed, 0 failed'
 # make compare  builds the original Rust and compares it with the stored outputs (needs rustc and the Rust source)
 
+SHELL := bash
+.SHELLFLAGS := -euo pipefail -c
 .PHONY: run test compare
 
 run:
 	@mkdir -p target
 	@echo "Proving the program and what it uses (a minute or two the first time)."
-	@rt check startup >target/run.log 2>&1 || { cat target/run.log; exit 1; }
+	@rt check startup 2>&1 | tee target/run.log | grep '^rt: .* proved' || { cat target/run.log; exit 1; }
 	@target/bin/startup
 
 test:

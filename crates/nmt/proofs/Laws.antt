@@ -2,13 +2,13 @@
 -- Assumes nothing.
 use mathlib.Core.Path.{_≡_, refl, sym, ap, _∙_}
 use mathlib.Core.Bool.{true, false}
-use mathlib.Core.List.{[]}
+use mathlib.Core.List.{[], map, _++_}
 use Rattle.types.specs.Pick.{pick}
 use Rattle.types.specs.declared.nmt.events.NmtEvent.{NmtEvent}
 use Rattle.types.specs.declared.nmt.states.NmtState.the-variants.{NmtNotActive}
 use Rattle.types.proofs.Cases.{everywhere, NmtEvents}
 use Rattle.nmt.specs.Resets.{isReset, statesEntered, resetSequence, passed}
-use Rattle.nmt.specs.Nmt.{Outcome, rowOf, enter, enterAll, applied, resetBy, processed}
+use Rattle.nmt.specs.Nmt.{Row, Outcome, bootUpRows, cyclicRows, rowOf, enter, enterAll, applied, resetBy, processed}
 use Rattle.nmt.specs.declared.cn_state_machine.CnNmtStateMachine.{CnNmtStateMachine}
 use Rattle.nmt.specs.declared.cn_state_machine.Move.{Move}
 use Rattle.nmt.specs.declared.state_machine.ResetSequence.{ResetSequence}
@@ -38,3 +38,10 @@ pub row-processed :
     o ≡ processed m e
 unfolding processed
 row-processed m e d o plain row done = done ∙ ap (applied m e) row ∙ sym (rw plain)
+
+-- every row is found: none hides another
+pub rows-found :
+    map (λ (r : Row). rowOf (r .state) (r .event)) (bootUpRows ++ cyclicRows) ≡
+    map (λ (r : Row). r .does) (bootUpRows ++ cyclicRows)
+unfolding rowOf
+rows-found = refl

@@ -37,7 +37,7 @@ at-keys g f (k ∷ []) n e h = ap g h ∙ first-same e ∙ ap f (sym h)
 at-keys g f (k ∷ j ∷ ks) n e (inl h) = ap g h ∙ first-same e ∙ ap f (sym h)
 at-keys g f (k ∷ j ∷ ks) n e (inr h) = at-keys g f (j ∷ ks) n (rest-same e) h
 
--- the items of the list whose position is not among the keys
+-- the numbers of a list of which a test does not hold
 abbrev out : (ℕ → Bool) → List ℕ → List ℕ
 out t [] = []
 out t (k ∷ ks) = pick (t k) (out t ks) (k ∷ out t ks)
