@@ -1,10 +1,11 @@
 # make run      prints a node's start-up
 # make test     every check; the last line is 'N passed, 0 failed'
-# make compare  builds the original Rust and compares it with the stored outputs (needs rustc and the Rust source)
+# make compare  builds the original Rust and compares it with the stored outputs (needs cargo and the Rust source)
+# make compare-oracle  replays and generates call scripts on the original Rust (the same needs)
 
 SHELL := bash
 .SHELLFLAGS := -euo pipefail -c
-.PHONY: run test compare
+.PHONY: run test compare compare-oracle
 
 run:
 	@mkdir -p target
@@ -22,3 +23,6 @@ test:
 
 compare:
 	@compare/run.sh
+
+compare-oracle:
+	@compare/oracle.sh

@@ -1,5 +1,5 @@
 #!/usr/bin/env bash
-# Builds the Rust side of the comparison into target/compare of the repository.
+# Builds the Rust side of the comparison: the programs are then in target/compare/cargo/release of the repository.
 #
 # The original Rust source is not part of this repository. It is read from the folder that POWERLINK_RS names, or else
 # from ../shared/docs/src beside the repository. The originals declare sibling modules that are not given, so the files
@@ -9,8 +9,8 @@ unset CDPATH # with it, cd would print
 
 here=$(cd "$(dirname "${BASH_SOURCE[0]}")" && pwd)
 root=$(dirname "$here")
-out="$root/target/compare"
-tree="$out/tree"
+tree="$root/target/compare/tree"
+cargo="$root/target/compare/cargo"
 
 fail() {
     echo "compare/build.sh: $*" >&2
@@ -23,19 +23,7 @@ link() {
     ln -s "$1" "$tree/$2" || fail "could not link $2; is it both in originals.txt and a stand-in?"
 }
 
-# Compiles the crate $1 whose root is $2; the other arguments go to rustc. Overflow checks are on, so that a sum that
-# wraps shows as a panic. One codegen unit, so that a build takes one core.
-compile() {
-    local name=$1 file=$2
-    shift 2
-    echo "Compiling $name."
-    rustc --edition 2024 -O -C overflow-checks=on -C codegen-units=1 \
-        --check-cfg 'cfg(feature, values("std", "sdo-udp"))' \
-        --crate-name "$name" --out-dir "$out" -L "dependency=$out" "$@" "$file" ||
-        fail "$name did not compile; the messages of rustc above say why."
-}
-
-command -v rustc >/dev/null || fail "rustc was not found. Install Rust (edition 2024, so 1.85 or newer)."
+command -v cargo >/dev/null || fail "cargo was not found. Install Rust (edition 2024, so 1.85 or newer)."
 
 given=${POWERLINK_RS:-$root/../shared/docs/src}
 [ -d "$given" ] || fail "there is no folder $given. Set POWERLINK_RS to the folder that has crates/powerlink-rs."
@@ -54,10 +42,20 @@ while read -r file; do
     link "$here/standins/powerlink-rs/$file" "$file"
 done < <(cd "$here/standins/powerlink-rs" && find . -name '*.rs' | cut -c 3-)
 
-compile log "$here/standins/log/lib.rs" --crate-type rlib
-compile powerlink_rs "$tree/lib.rs" --crate-type rlib --extern "log=$out/liblog.rlib"
-for driver in startup readings transitions counting entry_bytes; do
-    compile "$driver" "$here/driver/$driver.rs" --crate-type bin --extern "powerlink_rs=$out/libpowerlink_rs.rlib"
-done
+# Cargo tells a changed file by its time only, and the files of another folder may be older than the last build.
+sums=$(cd "$crate" && xargs cksum <"$here/originals.txt")
+if [ "$(cat "$cargo/sums" 2>/dev/null)" != "$sums" ]; then
+    rm -rf "$cargo"
+    mkdir -p "$cargo"
+    echo "$sums" >"$cargo/sums"
+fi
+cargo build --release --offline --manifest-path "$here/Cargo.toml" --target-dir "$cargo" ||
+    fail "the build failed; the messages of cargo above say why."
 
-echo "Built the drivers in target/compare."
+# Cargo names the files that it compiled.
+compiled="$cargo/release/libpowerlink_rs.d"
+while read -r file; do
+    cmp "$tree/$file" "$crate/$file" || fail "$file was not compiled as it is given."
+    grep -qF "target/compare/tree/$file" "$compiled" || fail "$file is in originals.txt and was not compiled."
+done <"$here/originals.txt"
+echo "Built the programs in target/compare/cargo/release, of $(wc -l <"$here/originals.txt") original files."

@@ -9,7 +9,7 @@ use forms::{ERRORS, error_form, named_form};
 use generator::Generator;
 use powerlink_rs::ErrorHandler;
 use powerlink_rs::frame::DllError;
-use powerlink_rs::frame::error::{CnErrorCounters, DllErrorManager, NmtAction, ThresholdCounter};
+use powerlink_rs::frame::error::{CnErrorCounters, DllErrorManager};
 
 /// Keeps the errors that the counters log.
 struct Recorder {
@@ -44,7 +44,7 @@ fn print_error(manager: &mut Manager, error: DllError) {
     println!(
         "(error {} (action {}) (signal {}) {} {})",
         forms::kind(&error),
-        action_number(action),
+        forms::action_number(action),
         signal as u8,
         named_form(
             "logged",
@@ -64,27 +64,12 @@ fn print_cycle(manager: &mut Manager) {
     );
 }
 
-/// The place of an action in its enum, from 0.
-fn action_number(action: NmtAction) -> u8 {
-    match action {
-        NmtAction::None => 0,
-        NmtAction::ResetCommunication => 1,
-        NmtAction::ResetNode(_) => 2,
-    }
-}
-
 /// `(levels ..) (counts ..) (links 0)`, with a number for each of the seven counters.
 fn counters_form(counters: &CnErrorCounters) -> String {
-    let seven = [
-        &counters.collision,
-        &counters.loss_of_soc,
-        &counters.loss_of_soa,
-        &counters.loss_of_preq,
-        &counters.soc_jitter,
-        &counters.crc_errors,
-        &counters.heartbeat_timeout,
-    ];
-    let levels = seven.iter().map(|counter| level(counter));
+    let seven = forms::seven(counters);
+    let levels = seven
+        .iter()
+        .map(|counter| forms::level(counter).to_string());
     let counts = seven
         .iter()
         .map(|counter| counter.cumulative_count().to_string());
@@ -94,23 +79,4 @@ fn counters_form(counters: &CnErrorCounters) -> String {
         named_form("counts", counts),
         counters.loss_of_link_cumulative,
     )
-}
-
-/// A counter's level. Its field is private, so it is read from the derived Debug form.
-fn level(counter: &ThresholdCounter) -> String {
-    let form = format!("{counter:?}");
-    let level = form
-        .split_once("threshold_cnt: ")
-        .and_then(|(_, rest)| rest.split_once(','))
-        .map(|(level, _)| level)
-        .expect("the Debug form names the level");
-    assert_eq!(
-        form,
-        format!(
-            "ThresholdCounter {{ cumulative_cnt: {}, threshold_cnt: {level}, threshold: 15 }}",
-            counter.cumulative_count(),
-        ),
-        "the level is read, and the threshold stays"
-    );
-    level.to_string()
 }

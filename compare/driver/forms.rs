@@ -1,11 +1,12 @@
-//! The enums of the node in the order of their declaration, and the printed forms of numbers and
-//! errors.
+//! The enums of the node in the order of their declaration, the counters' levels, and the printed
+//! forms of numbers and errors.
 
 // Each driver uses a part of them.
 #![allow(dead_code)]
 
 use powerlink_rs::NodeId;
-use powerlink_rs::frame::{DllCsEvent, DllError};
+use powerlink_rs::frame::error::{CnErrorCounters, ThresholdCounter};
+use powerlink_rs::frame::{DllCsEvent, DllError, NmtAction};
 use powerlink_rs::nmt::events::NmtEvent;
 use powerlink_rs::nmt::states::NmtState;
 use std::mem::discriminant;
@@ -152,4 +153,45 @@ pub fn named_form(name: &str, parts: impl Iterator<Item = String>) -> String {
     }
     form.push(')');
     form
+}
+
+/// The place of an action in its enum, from 0.
+pub fn action_number(action: NmtAction) -> u8 {
+    match action {
+        NmtAction::None => 0,
+        NmtAction::ResetCommunication => 1,
+        NmtAction::ResetNode(_) => 2,
+    }
+}
+
+/// The seven counters, in the order of their fields.
+pub fn seven(counters: &CnErrorCounters) -> [&ThresholdCounter; 7] {
+    [
+        &counters.collision,
+        &counters.loss_of_soc,
+        &counters.loss_of_soa,
+        &counters.loss_of_preq,
+        &counters.soc_jitter,
+        &counters.crc_errors,
+        &counters.heartbeat_timeout,
+    ]
+}
+
+/// A counter's level. Its field is private, so it is read from the derived Debug form.
+pub fn level(counter: &ThresholdCounter) -> u32 {
+    let form = format!("{counter:?}");
+    let level = form
+        .split_once("threshold_cnt: ")
+        .and_then(|(_, rest)| rest.split_once(','))
+        .map(|(level, _)| level)
+        .expect("the Debug form names the level");
+    assert_eq!(
+        form,
+        format!(
+            "ThresholdCounter {{ cumulative_cnt: {}, threshold_cnt: {level}, threshold: 15 }}",
+            counter.cumulative_count(),
+        ),
+        "the level is read, and the threshold stays"
+    );
+    level.parse().expect("a level is a number")
 }

@@ -1,0 +1,24 @@
+#!/usr/bin/env bash
+# The Rust as oracle: compares it with the stored outputs, generates scripts and reports what they reached, and tries its further
+# modes on them. CALLS names the length of a generated script.
+set -eu
+here=$(cd "$(dirname "${BASH_SOURCE[0]}")" && pwd)
+root=$(dirname "$here")
+calls=${CALLS:-200000}
+
+"$here/run.sh"
+oracle="$root/target/compare/cargo/release/oracle"
+work="$root/target/compare/generated"
+mkdir -p "$work"
+
+for seed in 1 2; do
+    echo "Generating a script of $calls calls with seed $seed."
+    "$oracle" generate "$seed" "$calls" >"$work/$seed.txt"
+    "$oracle" replay <"$work/$seed.txt" >"$work/$seed.out"
+    echo "Seed $seed: $(wc -l <"$work/$seed.txt") lines of script, $(wc -l <"$work/$seed.out") lines of output."
+done
+echo "Running the Rust where refusal 6 stands in front of it: it has to panic."
+"$oracle" panics <"$work/1.txt"
+echo "Giving the dictionary default values, and loading what each reset restored: the heads have to stay alike."
+"$oracle" restore <"$work/1.txt" >"$work/restored.txt"
+echo "$(wc -l <"$work/restored.txt") lines with $(($(wc -l <"$work/restored.txt") - $(wc -l <"$work/1.txt"))) loads behind resets."

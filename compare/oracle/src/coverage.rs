@@ -1,0 +1,666 @@
+//! Counts what a script reached, from the head's answers and from the head before and after each line.
+
+use crate::view::View;
+use std::io::{self, Write};
+
+/// One line of a script and what the head made of it.
+pub struct Step<'a> {
+    pub line: &'a str,
+    pub before: Option<&'a View>,
+    /// The run of watched nodes before a tick: node, timeout, last heard.
+    pub lent: &'a [(u8, u64, u64)],
+    pub after: Option<&'a View>,
+    pub answers: &'a [String],
+}
+
+const STATES: [(u8, &str); 12] = [
+    (0x00, "GsOff"),
+    (0x19, "GsInitialising"),
+    (0x29, "GsResetApplication"),
+    (0x39, "GsResetCommunication"),
+    (0x79, "GsResetConfiguration"),
+    (0x1C, "NotActive"),
+    (0x1D, "PreOperational1"),
+    (0x5D, "PreOperational2"),
+    (0x6D, "ReadyToOperate"),
+    (0xFD, "Operational"),
+    (0x4D, "CsStopped"),
+    (0x1E, "BasicEthernet"),
+];
+pub const NOT_ACTIVE: u8 = 0x1C;
+pub const BASIC_ETHERNET: u8 = 0x1E;
+pub const PRE_OPERATIONAL_2: u8 = 0x5D;
+pub const READY_TO_OPERATE: u8 = 0x6D;
+
+/// The states in which the DLL machine runs.
+pub const CYCLIC: [u8; 4] = [PRE_OPERATIONAL_2, READY_TO_OPERATE, 0xFD, 0x4D];
+const DLL_STATES: [&str; 4] = ["NonCyclic", "WaitSoc", "WaitPreq", "WaitSoa"];
+const DLL_EVENTS: [&str; 6] = ["Soc", "Preq", "Pres", "Soa", "Asnd", "SocTimeout"];
+const NMT_EVENTS: usize = 19;
+const ERROR_KINDS: usize = 22;
+
+const CALLS: [&str; 13] = [
+    "start", "nmt", "dll", "error", "cycle", "tick", "withdraw", "heard", "handout", "arm", "load",
+    "state", "command",
+];
+
+const THRESHOLD_KINDS: [&str; 7] = [
+    "collision",
+    "loss_of_soc",
+    "loss_of_soa",
+    "loss_of_preq",
+    "soc_jitter",
+    "crc_errors",
+    "heartbeat_timeout",
+];
+/// Those that a tick can count: loss_of_soc, loss_of_soa, heartbeat_timeout.
+const TICK_KINDS: [usize; 3] = [1, 2, 6];
+const COUNTERS: [&str; 4] = ["c1", "c2", "c3", "c5"];
+
+/// Each call with the refusals that it can give.
+const REFUSALS: [(&str, u8); 17] = [
+    ("start", 1),
+    ("error", 1),
+    ("start", 2),
+    ("start", 3),
+    ("tick", 3),
+    ("heard", 3),
+    ("nmt", 4),
+    ("dll", 4),
+    ("error", 4),
+    ("state", 4),
+    ("command", 4),
+    ("tick", 5),
+    ("arm", 5),
+    ("heard", 5),
+    ("tick", 6),
+    ("heard", 7),
+    ("withdraw", 8),
+];
+
+const TICKS: [&str; 8] = [
+    "refused",
+    "before the deadline, or none stands",
+    "basic timeout's deadline set",
+    "basic timeout passed",
+    "deadline passed, check off",
+    "within the limit",
+    "loss",
+    "heartbeat crossing",
+];
+const TICK_REFUSED: usize = 0;
+const TICK_EARLY: usize = 1;
+const TICK_DEADLINE_SET: usize = 2;
+const TICK_TIMEOUT: usize = 3;
+const TICK_CHECK_OFF: usize = 4;
+const TICK_WITHIN: usize = 5;
+const TICK_LOSS: usize = 6;
+const TICK_HEARTBEAT: usize = 7;
+
+/// Cases at a bound, each of which a wrong comparison or a forgotten rule would show.
+const BOUNDS: [&str; 12] = [
+    "tick at the deadline - 1",
+    "tick at the very deadline",
+    "elapsed at the limit",
+    "elapsed at the limit + 1",
+    "tick before the last SoC",
+    "loss with DLL NonCyclic",
+    "loss outside the cyclic states",
+    "check gone off by cycle 0",
+    "node heard its timeout ago",
+    "node heard its timeout + 1 ago",
+    "tick before a last-heard time, not checked",
+    "tick at 2^62 - 1 taken",
+];
+
+/// What a run of 200,000 calls has to reach.
+struct Minima {
+    call: u64,
+    state: u64,
+    nmt_pair: u64,
+    dll_pair: u64,
+    error_kind: u64,
+    refusal: u64,
+    crossing: u64,
+    tick: u64,
+    entry: u64,
+    wrap: u64,
+    history_past: u64,
+    bound: u64,
+    level: u64,
+    late: u64,
+    cleared: u64,
+    unreadable: u64,
+    passed_over: u64,
+    show: u64,
+}
+
+const MINIMA: Minima = Minima {
+    call: 500,
+    state: 500,
+    nmt_pair: 5,
+    dll_pair: 5,
+    error_kind: 50,
+    refusal: 20,
+    crossing: 20,
+    tick: 50,
+    entry: 50,
+    wrap: 1,
+    history_past: 10,
+    bound: 20,
+    level: 20,
+    late: 20,
+    cleared: 50,
+    unreadable: 500,
+    passed_over: 50,
+    show: 10_000,
+};
+
+/// The counts of one script.
+#[derive(Debug, Clone, Default)]
+pub struct Coverage {
+    calls: [u64; 13],
+    /// By the number of the refusal, from 1; place 0 counts accepted calls.
+    refusals: [[u64; 9]; 13],
+    states: [u64; 12],
+    /// By state, then ready, enabled and event.
+    nmt: [[[[u64; NMT_EVENTS]; 2]; 2]; 12],
+    /// By NMT state of `CYCLIC`, then DLL state, event and expected.
+    dll: [[[[u64; 2]; 6]; 4]; 4],
+    dll_elsewhere: u64,
+    errors: [u64; ERROR_KINDS],
+    crossings: [u64; 7],
+    crossings_in_ticks: [u64; 7],
+    /// Levels of 14 left by an error, and crossings at 15.
+    level_14: u64,
+    level_15: u64,
+    ticks: [u64; 8],
+    kept: u64,
+    dropped: u64,
+    dropped_without_places: u64,
+    handed_out: u64,
+    handed_none: u64,
+    wraps: [u64; 4],
+    history_past: u64,
+    bounds: [u64; 12],
+    one_late: u64,
+    several_late: u64,
+    first_heard: u64,
+    cleared: u64,
+    unreadable: u64,
+    passed_over: u64,
+    shows: u64,
+    run_lines: u64,
+}
+
+fn number(word: Option<&str>) -> Option<u64> {
+    let word = word?;
+    match word.strip_prefix("0x") {
+        Some(digits) => u64::from_str_radix(digits, 16).ok(),
+        None => word.parse().ok(),
+    }
+}
+
+/// The number as a place below `limit`.
+fn place(word: Option<&str>, limit: usize) -> Option<usize> {
+    let place = usize::try_from(number(word)?).ok()?;
+    (place < limit).then_some(place)
+}
+
+fn state_place(state: u8) -> usize {
+    STATES.iter().position(|s| s.0 == state).unwrap_or(0)
+}
+
+/// Whether a head can stand in the state with these flags: enabled only lasts in PreOperational2 without ready, and
+/// at ReadyToOperate, where ready cannot be withdrawn.
+fn stands(state: u8, ready: usize, enabled: usize) -> bool {
+    match state {
+        0x00 | 0x29 | 0x39 | 0x79 => false,
+        PRE_OPERATIONAL_2 => ready == 0 || enabled == 0,
+        READY_TO_OPERATE => ready == 1 && enabled == 1,
+        _ => enabled == 0,
+    }
+}
+
+/// µs from the last SoC within which no loss is seen.
+pub fn limit(view: &View) -> u64 {
+    u64::from(view.cycle.unwrap_or(0)) + u64::from(view.tolerance.unwrap_or(100_000)) / 1000
+}
+
+impl Coverage {
+    pub fn total_calls(&self) -> u64 {
+        self.calls.iter().sum()
+    }
+
+    /// Counts one line.
+    pub fn count(&mut self, step: &Step) {
+        if step.line.is_empty() || step.line.starts_with('#') {
+            self.passed_over += 1;
+            return;
+        }
+        let answer = step.answers.first().map_or("", |a| a.as_str());
+        if answer.starts_with("(unreadable") {
+            self.unreadable += 1;
+            return;
+        }
+        let mut words = step.line.split(' ');
+        let call = words.next().unwrap_or("");
+        match CALLS.iter().position(|c| *c == call) {
+            Some(place) => self.count_call(place, answer),
+            None if call == "show" => self.shows += 1,
+            None => self.run_lines += 1,
+        }
+        if let Some(after) = step.after {
+            self.states[state_place(after.nmt)] += 1;
+        }
+        if let (Some(before), Some(after)) = (step.before, step.after) {
+            self.count_effect(call, words, step, before, after, answer);
+        }
+    }
+
+    fn count_call(&mut self, call: usize, answer: &str) {
+        self.calls[call] += 1;
+        let digit = answer
+            .strip_prefix("(refused ")
+            .and_then(|rest| rest.chars().next());
+        let refusal = digit.and_then(|d| d.to_digit(10)).unwrap_or(0);
+        self.refusals[call][refusal.min(8) as usize] += 1;
+    }
+
+    fn count_effect<'a>(
+        &mut self,
+        call: &str,
+        mut words: impl Iterator<Item = &'a str>,
+        step: &Step,
+        before: &View,
+        after: &View,
+        answer: &str,
+    ) {
+        match call {
+            "nmt" => self.count_nmt(words.next(), before),
+            "dll" => self.count_dll(words.next(), words.next(), before),
+            "error" => {
+                if let Some(kind) = place(words.next(), ERROR_KINDS) {
+                    self.errors[kind] += 1;
+                }
+                Self::count_crossings(&mut self.crossings, before, after);
+                self.count_levels(before, after);
+            }
+            "tick" => {
+                Self::count_crossings(&mut self.crossings, before, after);
+                Self::count_crossings(&mut self.crossings_in_ticks, before, after);
+                let now = number(words.next()).unwrap_or(0);
+                self.count_tick(now, before, after, answer);
+                self.count_entries(before, after);
+                if !answer.starts_with("(refused") {
+                    self.count_bounds(now, step.lent, before, after);
+                    self.count_late(now, step.lent, before);
+                }
+            }
+            "handout" if answer == "(taken none)" => self.handed_none += 1,
+            "handout" => self.handed_out += 1,
+            "cycle" if answer == "(taken (cleared 1))" => self.cleared += 1,
+            _ => (),
+        }
+    }
+
+    fn count_nmt(&mut self, event: Option<&str>, before: &View) {
+        if let Some(event) = place(event, NMT_EVENTS) {
+            let flags = &mut self.nmt[state_place(before.nmt)][usize::from(before.ready)];
+            flags[usize::from(before.enabled)][event] += 1;
+        }
+    }
+
+    fn count_dll(&mut self, event: Option<&str>, expected: Option<&str>, before: &View) {
+        let (Some(event), Some(expected)) = (place(event, 6), place(expected, 2)) else {
+            return;
+        };
+        match CYCLIC.iter().position(|s| *s == before.nmt) {
+            Some(nmt) => self.dll[nmt][usize::from(before.dll) % 4][event][expected] += 1,
+            None => self.dll_elsewhere += 1,
+        }
+    }
+
+    fn count_crossings(counts: &mut [u64; 7], before: &View, after: &View) {
+        for (kind, count) in counts.iter_mut().enumerate() {
+            *count += u64::from(after.cumulative[kind].saturating_sub(before.cumulative[kind]));
+        }
+    }
+
+    fn count_tick(&mut self, now: u64, before: &View, after: &View, answer: &str) {
+        let passed = before.deadline.is_some_and(|deadline| now >= deadline);
+        let elapsed = now.saturating_sub(before.last_soc);
+        let kind = if answer.starts_with("(refused") {
+            TICK_REFUSED
+        } else if after.cumulative[6] > before.cumulative[6] {
+            TICK_HEARTBEAT
+        } else if before.nmt == NOT_ACTIVE && after.nmt == BASIC_ETHERNET {
+            TICK_TIMEOUT
+        } else if before.deadline.is_none() && after.deadline.is_some() {
+            TICK_DEADLINE_SET
+        } else if !passed {
+            TICK_EARLY
+        } else if !before.check || before.nmt == NOT_ACTIVE {
+            TICK_CHECK_OFF
+        } else if elapsed > limit(before) {
+            TICK_LOSS
+        } else {
+            TICK_WITHIN
+        };
+        self.ticks[kind] += 1;
+    }
+
+    fn count_levels(&mut self, before: &View, after: &View) {
+        for (before, after) in before.levels.iter().zip(&after.levels) {
+            self.level_14 += u64::from(*before == 6 && *after == 14);
+            self.level_15 += u64::from(*before == 7 && *after == 0);
+        }
+    }
+
+    fn count_bounds(&mut self, now: u64, lent: &[(u8, u64, u64)], before: &View, after: &View) {
+        let checks = before.nmt >= PRE_OPERATIONAL_2;
+        let passed = before.deadline.is_some_and(|deadline| now >= deadline);
+        let checked = passed && before.check && before.nmt != NOT_ACTIVE;
+        let elapsed = now.saturating_sub(before.last_soc);
+        let loss = checked && elapsed > limit(before);
+        let cyclic = CYCLIC.contains(&before.nmt);
+        let timed = |past: u64| {
+            let at = |(_, timeout, heard): &(u8, u64, u64)| now == heard + timeout + past;
+            checks && lent.iter().filter(|node| node.1 > 0 && node.2 > 0).any(at)
+        };
+        let met = [
+            before.deadline == now.checked_add(1),
+            before.deadline == Some(now),
+            checked && elapsed == limit(before),
+            checked && elapsed == limit(before) + 1,
+            before.check && now < before.last_soc,
+            loss && cyclic && before.dll == 0,
+            loss && !cyclic,
+            checked && !after.check && after.nmt == before.nmt,
+            timed(0),
+            timed(1),
+            !checks
+                && lent
+                    .iter()
+                    .any(|(_, timeout, heard)| *timeout > 0 && now < *heard),
+            now == (1 << 62) - 1,
+        ];
+        for (bound, met) in self.bounds.iter_mut().zip(met) {
+            *bound += u64::from(met);
+        }
+    }
+
+    fn count_late(&mut self, now: u64, lent: &[(u8, u64, u64)], before: &View) {
+        if before.nmt < PRE_OPERATIONAL_2 {
+            return;
+        }
+        let late = |(_, timeout, heard): &&(u8, u64, u64)| {
+            *heard > 0 && *timeout > 0 && now.saturating_sub(*heard) > *timeout
+        };
+        match lent.iter().filter(late).count() {
+            0 => (),
+            1 => self.one_late += 1,
+            _ => self.several_late += 1,
+        }
+        self.first_heard += u64::from(lent.iter().any(|(_, _, heard)| *heard == 0));
+    }
+
+    fn count_entries(&mut self, before: &View, after: &View) {
+        for (place, wraps) in self.wraps.iter_mut().enumerate() {
+            *wraps += u64::from(after.counters[place] < before.counters[place]);
+        }
+        if after.counters[1] != before.counters[1] {
+            self.kept += 1;
+            self.history_past += u64::from(before.history_length == 254);
+        }
+        if after.counters[2] != before.counters[2] {
+            self.dropped += 1;
+            self.dropped_without_places += u64::from(before.queue_capacity == 0);
+        }
+    }
+
+    /// The refusals of this number by all calls.
+    fn refused(&self, number: usize) -> u64 {
+        self.refusals.iter().map(|call| call[number]).sum()
+    }
+}
+
+/// A count with its name and the least that it has to be.
+struct Count {
+    name: String,
+    count: u64,
+    minimum: u64,
+}
+
+fn counted(name: impl Into<String>, count: u64, minimum: u64) -> Count {
+    Count {
+        name: name.into(),
+        count,
+        minimum,
+    }
+}
+
+/// The report and the shortfalls are made of the same groups, so that neither leaves out what the other has.
+impl Coverage {
+    fn groups(&self) -> Vec<(&'static str, Vec<Count>)> {
+        vec![
+            ("Calls", self.call_counts()),
+            ("Lines that are no call", self.line_counts()),
+            ("NMT state after a line", self.state_counts()),
+            ("Refusals", self.refusal_counts()),
+            ("Errors given to the counters, by kind", self.error_counts()),
+            ("Crossings", self.crossing_counts()),
+            ("Ticks", named(&TICKS, &self.ticks, MINIMA.tick)),
+            (
+                "Bounds in ticks",
+                named(&BOUNDS, &self.bounds, MINIMA.bound),
+            ),
+            ("Watched nodes in ticks", self.heartbeat_counts()),
+            ("Entries", self.entry_counts()),
+            (
+                "Counters wrapped from the top",
+                named(&COUNTERS, &self.wraps, MINIMA.wrap),
+            ),
+        ]
+    }
+
+    fn call_counts(&self) -> Vec<Count> {
+        let mut counts = named(&CALLS, &self.calls, MINIMA.call);
+        counts.push(counted(
+            "cycle that cleared the last level",
+            self.cleared,
+            MINIMA.cleared,
+        ));
+        counts
+    }
+
+    fn line_counts(&self) -> Vec<Count> {
+        vec![
+            counted("unreadable", self.unreadable, MINIMA.unreadable),
+            counted("comment or empty", self.passed_over, MINIMA.passed_over),
+            counted("show", self.shows, MINIMA.show),
+            counted("watch and unwatch", self.run_lines, MINIMA.call),
+        ]
+    }
+
+    fn state_counts(&self) -> Vec<Count> {
+        let count = |(place, (number, name)): (usize, &(u8, &str))| {
+            let stood = stands(*number, 1, 0) || stands(*number, 1, 1);
+            let minimum = if stood { MINIMA.state } else { 0 };
+            counted(
+                format!("{name} (0x{number:02X})"),
+                self.states[place],
+                minimum,
+            )
+        };
+        STATES.iter().enumerate().map(count).collect()
+    }
+
+    fn refusal_counts(&self) -> Vec<Count> {
+        let of_number = |n| counted(format!("number {n}"), self.refused(n), MINIMA.refusal);
+        let of_call = |(call, n): &(&str, u8)| {
+            let place = CALLS.iter().position(|c| c == call).unwrap_or(0);
+            let count = self.refusals[place][usize::from(*n)];
+            counted(format!("{call} refused {n}"), count, MINIMA.refusal)
+        };
+        (1..=8)
+            .map(of_number)
+            .chain(REFUSALS.iter().map(of_call))
+            .collect()
+    }
+
+    fn error_counts(&self) -> Vec<Count> {
+        let count = |(kind, count): (usize, &u64)| {
+            counted(format!("kind {kind}"), *count, MINIMA.error_kind)
+        };
+        self.errors.iter().enumerate().map(count).collect()
+    }
+
+    fn crossing_counts(&self) -> Vec<Count> {
+        let in_tick = |kind: usize| {
+            let name = format!("{} in a tick", THRESHOLD_KINDS[kind]);
+            counted(name, self.crossings_in_ticks[kind], MINIMA.crossing)
+        };
+        let mut counts = named(&THRESHOLD_KINDS, &self.crossings, MINIMA.crossing);
+        counts.extend(TICK_KINDS.into_iter().map(in_tick));
+        counts.push(counted(
+            "level of 14, no crossing",
+            self.level_14,
+            MINIMA.level,
+        ));
+        counts.push(counted(
+            "level of 15, a crossing",
+            self.level_15,
+            MINIMA.level,
+        ));
+        counts
+    }
+
+    fn heartbeat_counts(&self) -> Vec<Count> {
+        vec![
+            counted("one late", self.one_late, MINIMA.late),
+            counted("several late at once", self.several_late, MINIMA.late),
+            counted("last heard 0, set to now", self.first_heard, MINIMA.late),
+        ]
+    }
+
+    fn entry_counts(&self) -> Vec<Count> {
+        let no_places = self.dropped_without_places;
+        vec![
+            counted("kept", self.kept, MINIMA.entry),
+            counted("dropped", self.dropped, MINIMA.entry),
+            counted("dropped, queue of 0", no_places, MINIMA.entry),
+            counted(
+                "dropped, queue full",
+                self.dropped - no_places,
+                MINIMA.entry,
+            ),
+            counted("handed out", self.handed_out, MINIMA.entry),
+            counted("none to hand out", self.handed_none, MINIMA.entry),
+            counted(
+                "kept with 254 in the history",
+                self.history_past,
+                MINIMA.history_past,
+            ),
+        ]
+    }
+
+    /// Each state and event, with the flags that a head can have there.
+    fn nmt_counts(&self) -> Vec<Count> {
+        let mut counts = Vec::new();
+        for (place, (number, name)) in STATES.iter().enumerate() {
+            for (ready, enabled) in [(0, 0), (0, 1), (1, 0), (1, 1)] {
+                if !stands(*number, ready, enabled) {
+                    continue;
+                }
+                for (event, count) in self.nmt[place][ready][enabled].iter().enumerate() {
+                    let what = format!("{name}, ready {ready}, enabled {enabled}, event {event}");
+                    counts.push(counted(what, *count, MINIMA.nmt_pair));
+                }
+            }
+        }
+        counts
+    }
+
+    fn dll_counts(&self) -> Vec<Count> {
+        let mut counts = Vec::new();
+        for (nmt, states) in CYCLIC.iter().zip(&self.dll) {
+            for (state, events) in DLL_STATES.iter().zip(states) {
+                for (event, expectations) in DLL_EVENTS.iter().zip(events) {
+                    for (expected, count) in expectations.iter().enumerate() {
+                        let what = format!("0x{nmt:02X}, {state}, {event}, expected {expected}");
+                        counts.push(counted(what, *count, MINIMA.dll_pair));
+                    }
+                }
+            }
+        }
+        counts.push(counted(
+            "in other NMT states",
+            self.dll_elsewhere,
+            MINIMA.call,
+        ));
+        counts
+    }
+
+    /// Prints the counts in plain words; of the NMT and DLL pairs, which are hundreds, how many were given and how
+    /// often the rarest one.
+    pub fn report(&self, out: &mut dyn Write) -> io::Result<()> {
+        writeln!(out, "Calls in all: {}", self.total_calls())?;
+        for (title, counts) in self.groups() {
+            writeln!(out, "{title}:")?;
+            for count in counts {
+                writeln!(out, "  {}: {}", count.name, count.count)?;
+            }
+        }
+        report_pairs(out, "NMT states with flags, and events", &self.nmt_counts())?;
+        report_pairs(
+            out,
+            "DLL states in NMT states, events and expectations",
+            &self.dll_counts(),
+        )
+    }
+
+    /// Every count that is below what a run of 200,000 calls has to reach.
+    pub fn shortfalls(&self) -> Vec<String> {
+        let mut groups = self.groups();
+        groups.push(("NMT", self.nmt_counts()));
+        groups.push(("DLL", self.dll_counts()));
+        let mut short = Vec::new();
+        for (title, counts) in groups {
+            for count in counts.iter().filter(|count| count.count < count.minimum) {
+                let Count {
+                    name,
+                    count,
+                    minimum,
+                } = count;
+                short.push(format!(
+                    "{title}, {name}: {count}, at least {minimum} wanted"
+                ));
+            }
+        }
+        short
+    }
+}
+
+fn named(names: &[&str], counts: &[u64], minimum: u64) -> Vec<Count> {
+    names
+        .iter()
+        .zip(counts)
+        .map(|(name, count)| counted(*name, *count, minimum))
+        .collect()
+}
+
+fn report_pairs(out: &mut dyn Write, title: &str, counts: &[Count]) -> io::Result<()> {
+    let given = counts.iter().filter(|count| count.count > 0).count();
+    let total: u64 = counts.iter().map(|count| count.count).sum();
+    let rarest = counts.iter().min_by_key(|count| count.count);
+    writeln!(
+        out,
+        "{title}: {given} of {} given, {total} times in all",
+        counts.len()
+    )?;
+    match rarest {
+        Some(rarest) => writeln!(out, "  rarest: {} ({} times)", rarest.name, rarest.count),
+        None => Ok(()),
+    }
+}

@@ -1,0 +1,156 @@
+//! The lines that docs/CALLS.md gives for answers and for `show`.
+
+use crate::dictionary;
+use crate::places::{action_number, error_form, level, named_form, seven};
+use crate::reset::Range;
+use crate::script::Watched;
+use powerlink_rs::frame::DllError;
+use powerlink_rs::frame::error::{ErrorEntry, NmtAction};
+use powerlink_rs::nmt::states::NmtState;
+use powerlink_rs::node::cn::state::CnContext;
+
+pub use crate::places::{errors_form as errors, hex};
+
+pub fn unreadable(line: u64) -> String {
+    format!("(unreadable {line})")
+}
+
+pub fn refused(number: u8) -> String {
+    format!("(refused {number})")
+}
+
+/// `(taken)`, with the parts inside.
+pub fn taken(parts: &[String]) -> String {
+    named_form("taken", parts.iter().cloned())
+}
+
+pub fn logged(errors: &[DllError]) -> String {
+    named_form("logged", errors.iter().map(error_form))
+}
+
+pub fn entered(states: &[NmtState]) -> String {
+    named_form("entered", states.iter().map(|state| hex(*state as u8)))
+}
+
+pub fn restore(ranges: &[Range]) -> String {
+    named_form(
+        "restore",
+        ranges.iter().map(|(first, last)| range(*first, *last)),
+    )
+}
+
+pub fn range(first: u16, last: u16) -> String {
+    format!("(0x{first:04X} 0x{last:04X})")
+}
+
+pub fn error_answer(action: NmtAction, signal: bool, errors: &[DllError]) -> String {
+    taken(&[
+        format!("(action {})", action_number(action)),
+        format!("(signal {})", signal as u8),
+        logged(errors),
+    ])
+}
+
+pub fn handed_out(entry: Option<ErrorEntry>) -> String {
+    taken(&[match entry {
+        Some(entry) => format!("(entry {})", digits(&entry.serialize())),
+        None => "none".to_string(),
+    }])
+}
+
+/// Two hexadecimal digits for each byte.
+fn digits(bytes: &[u8]) -> String {
+    bytes.iter().map(|byte| format!("{byte:02X}")).collect()
+}
+
+/// The head and the lent run.
+pub fn show(context: &CnContext, run: &[Watched]) -> Vec<String> {
+    let mut lines = vec![
+        nmt(context),
+        format!("(dll {})", context.dll_state_machine.current_state() as u8),
+    ];
+    lines.extend(counters(context));
+    lines.extend([
+        soc(context),
+        dictionary(context),
+        queue(context),
+        named_form("history", dictionary::history(&context.core.od).map(digits)),
+        named_form("watched", run.iter().map(watched)),
+    ]);
+    lines
+}
+
+fn nmt(context: &CnContext) -> String {
+    let machine = &context.nmt_state_machine;
+    format!(
+        "(nmt (state {}) (enabled {}) (ready {}) (node {}) (flags {}) (timeout {}))",
+        hex(machine.current_state as u8),
+        machine.ready_to_operate_enabled as u8,
+        machine.app_ready as u8,
+        machine.node_id,
+        machine.feature_flags.0,
+        machine.basic_ethernet_timeout,
+    )
+}
+
+/// The names of the seven counters, in the order of their fields.
+const NAMES: [&str; 7] = [
+    "collision",
+    "loss_of_soc",
+    "loss_of_soa",
+    "loss_of_preq",
+    "soc_jitter",
+    "crc_errors",
+    "heartbeat_timeout",
+];
+
+fn counters(context: &CnContext) -> Vec<String> {
+    let counters = &context.dll_error_manager.counters;
+    let form = |(name, counter)| {
+        let (level, cumulative) = (level(counter), counter.cumulative_count());
+        format!("({name} (level {level}) (cumulative {cumulative}))")
+    };
+    let mut lines: Vec<String> = NAMES.into_iter().zip(seven(counters)).map(form).collect();
+    lines.push(format!(
+        "(loss_of_link {})",
+        counters.loss_of_link_cumulative
+    ));
+    lines
+}
+
+fn soc(context: &CnContext) -> String {
+    format!(
+        "(soc (last {}) (check {}) (deadline {}) (status_changed {}))",
+        context.last_soc_reception_time_us,
+        context.soc_timeout_check_active as u8,
+        context
+            .next_tick_us
+            .map_or("none".to_string(), |deadline| deadline.to_string()),
+        context.error_status_changed as u8,
+    )
+}
+
+fn dictionary(context: &CnContext) -> String {
+    let od = &context.core.od;
+    let or_missing =
+        |value: Option<u32>| value.map_or("missing".to_string(), |value| value.to_string());
+    let [c1, c2, c3, c5] = dictionary::counters(od);
+    format!(
+        "(dictionary (register {}) (cycle {}) (tolerance {}) \
+         (c1 {c1}) (c2 {c2}) (c3 {c3}) (c5 {c5}))",
+        dictionary::register(od),
+        or_missing(dictionary::cycle(od)),
+        or_missing(dictionary::tolerance(od)),
+    )
+}
+
+fn queue(context: &CnContext) -> String {
+    let queue = &context.emergency_queue;
+    let capacity = format!("(capacity {})", queue.capacity());
+    let entries = queue.iter().map(|entry| digits(&entry.serialize()));
+    named_form("queue", std::iter::once(capacity).chain(entries))
+}
+
+fn watched(watched: &Watched) -> String {
+    format!("({} {} {})", watched.node, watched.timeout, watched.heard)
+}

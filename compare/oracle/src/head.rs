@@ -1,0 +1,293 @@
+//! A head on top of the original `CnContext`, and its calls. Document 01's refusals stand in front
+//! of the original code, in their order: a call that is declined does not reach it.
+
+use crate::dictionary::{self, Defaults, Dictionary};
+use crate::places::{DLL_EVENTS, NMT_EVENTS};
+use crate::reset;
+use crate::script::{Load, Start, Watched};
+use crate::{forms, kinds};
+use powerlink_rs::NodeId;
+use powerlink_rs::common::{NetTime, RelativeTime};
+use powerlink_rs::frame::basic::MacAddress;
+use powerlink_rs::frame::error::{CnErrorCounters, DllErrorManager, LoggingErrorHandler};
+use powerlink_rs::frame::{DllCsStateMachine, DllError};
+use powerlink_rs::hal::TimeProvider;
+use powerlink_rs::nmt::NmtStateMachine;
+use powerlink_rs::nmt::cn_state_machine::CnNmtStateMachine;
+use powerlink_rs::nmt::events::NmtStateCommand;
+use powerlink_rs::nmt::flags::FeatureFlags;
+use powerlink_rs::nmt::states::NmtState;
+use powerlink_rs::node::cn::{run_tick, state::CnContext};
+use powerlink_rs::node::{CoreNodeContext, NodeAction};
+use powerlink_rs::sdo::transport::AsndTransport;
+use std::collections::{BTreeMap, VecDeque};
+use std::panic::{AssertUnwindSafe, catch_unwind};
+
+/// The line of an accepted call, or the number of the refusal.
+pub type Answer = Result<String, u8>;
+
+const LONGEST_QUEUE: u64 = 32;
+const LONGEST_RUN: usize = 32;
+const LAST_TIME: u64 = (1 << 62) - 1;
+const TOLERANCE_IF_MISSING: u32 = 100_000;
+
+/// The context asks for a clock; nothing that is driven here reads it.
+struct NoClock;
+
+impl TimeProvider for NoClock {
+    fn now_monotonic_us(&self) -> u64 {
+        unreachable!("times come with the calls")
+    }
+
+    fn now_net_time(&self) -> NetTime {
+        unreachable!("times come with the calls")
+    }
+}
+
+pub struct Head {
+    pub context: CnContext<'static>,
+    /// The capacity that start gave the queue.
+    capacity: usize,
+    dictionary: Dictionary,
+}
+
+impl Head {
+    pub fn start(start: &Start, run: &mut [Watched], defaults: Defaults) -> Result<Self, u8> {
+        let node = try_node(start.node)?;
+        if start.queue > LONGEST_QUEUE {
+            return Err(2);
+        }
+        try_run(run)?;
+        for watched in run {
+            watched.heard = 0;
+        }
+        let dictionary = Dictionary::new(defaults);
+        let capacity = start.queue as usize;
+        Ok(Self {
+            context: context(node, start, &dictionary, capacity),
+            capacity,
+            dictionary,
+        })
+    }
+
+    pub fn nmt(&mut self, event: u64) -> Answer {
+        let event = *at(&NMT_EVENTS, event)?;
+        let from = self.context.nmt_state_machine.current_state;
+        let errors = self
+            .context
+            .nmt_state_machine
+            .process_event(event, &mut self.context.core.od);
+        let to = self.context.nmt_state_machine.current_state;
+        let (entered, ranges) = reset::recorded(from, event);
+        match entered.last() {
+            None => Ok(forms::taken(&[forms::errors(errors)])),
+            Some(last) => {
+                assert_eq!(to, *last, "the machine ends where the recorder does");
+                assert_eq!(errors, None, "a reset reports no errors");
+                Ok(forms::taken(&[
+                    forms::entered(&entered),
+                    forms::restore(&ranges),
+                ]))
+            }
+        }
+    }
+
+    pub fn dll(&mut self, event: u64, expected: bool) -> Answer {
+        let event = *at(&DLL_EVENTS, event)?;
+        let nmt = &self.context.nmt_state_machine;
+        let (state, node) = (nmt.current_state, nmt.node_id);
+        let errors = self
+            .context
+            .dll_state_machine
+            .process_event(event, state, node, expected);
+        Ok(forms::taken(&[forms::errors(errors)]))
+    }
+
+    pub fn error(&mut self, kind: u64, a: u64, b: u64) -> Answer {
+        // A number that the kind does not carry may be wider.
+        let error = kinds::at(kind, a as u8, b as u8).ok_or(4)?;
+        if let Some(node) = kinds::node_of(&error) {
+            try_node(node.0)?;
+        }
+        let (action, signal) = self.context.dll_error_manager.handle_error(error);
+        Ok(forms::error_answer(action, signal, &kinds::take_logged()))
+    }
+
+    pub fn cycle(&mut self) -> Answer {
+        let cleared = self.context.dll_error_manager.on_cycle_complete();
+        Ok(forms::taken(&[format!("(cleared {})", cleared as u8)]))
+    }
+
+    pub fn tick(&mut self, now: u64, run: &mut [Watched]) -> Answer {
+        try_run(run)?;
+        try_time(now)?;
+        if self.heard_after(now, run) {
+            return Err(6);
+        }
+        let logged = self.run_tick(now, run);
+        Ok(forms::taken(&[forms::logged(&logged)]))
+    }
+
+    /// Number 6: the original would take a later time from an earlier one.
+    fn heard_after(&self, now: u64, run: &[Watched]) -> bool {
+        self.context.nmt_state_machine.current_state >= NmtState::NmtPreOperational2
+            && run
+                .iter()
+                .any(|watched| watched.timeout > 0 && watched.heard > 0 && now < watched.heard)
+    }
+
+    /// Makes the run the consumers of the original.
+    fn lend(&mut self, run: &[Watched]) {
+        self.context.heartbeat_consumers = run
+            .iter()
+            .map(|watched| (NodeId(watched.node), (watched.timeout, watched.heard)))
+            .collect();
+    }
+
+    /// The original tick; what it logged.
+    fn run_tick(&mut self, now: u64, run: &mut [Watched]) -> Vec<DllError> {
+        self.lend(run);
+        let action = run_tick(&mut self.context, now);
+        assert_eq!(action, NodeAction::NoAction, "a tick sends nothing");
+        assert_eq!(self.context.heartbeat_consumers.len(), run.len());
+        for (watched, (node, times)) in run.iter_mut().zip(&self.context.heartbeat_consumers) {
+            assert_eq!(watched.node, node.0, "a tick leaves the nodes");
+            assert_eq!(watched.timeout, times.0, "a tick leaves the timeouts");
+            watched.heard = times.1;
+        }
+        kinds::take_logged()
+    }
+
+    /// What the original says when it panics at this tick, all refusals aside; none: it does not.
+    /// The run is lent as a copy.
+    pub fn panic_at_tick(&mut self, now: u64, run: &[Watched]) -> Option<String> {
+        self.lend(run);
+        let caught = catch_unwind(AssertUnwindSafe(|| run_tick(&mut self.context, now)));
+        let message = caught.err()?;
+        Some(message.downcast_ref::<&str>()?.to_string())
+    }
+
+    pub fn withdraw(&mut self) -> Answer {
+        if self.context.nmt_state_machine.current_state == NmtState::NmtReadyToOperate {
+            return Err(8);
+        }
+        self.context.nmt_state_machine.app_ready = false;
+        Ok(forms::taken(&[]))
+    }
+
+    pub fn heard(&mut self, node: u8, time: u64, run: &mut [Watched]) -> Answer {
+        try_run(run)?;
+        try_time(time)?;
+        let watched = run.iter_mut().find(|watched| watched.node == node);
+        watched.ok_or(7)?.heard = time;
+        Ok(forms::taken(&[]))
+    }
+
+    pub fn hand_out(&mut self) -> Answer {
+        let entry = self.context.emergency_queue.pop_front();
+        Ok(forms::handed_out(entry))
+    }
+
+    pub fn arm(&mut self, time: u64) -> Answer {
+        try_time(time)?;
+        let od = &self.context.core.od;
+        let cycle = u64::from(dictionary::cycle(od).unwrap_or(0));
+        let tolerance = u64::from(dictionary::tolerance(od).unwrap_or(TOLERANCE_IF_MISSING));
+        let deadline = time + cycle + tolerance / 1000;
+        self.context.last_soc_reception_time_us = time;
+        self.context.soc_timeout_check_active = cycle > 0;
+        self.context.next_tick_us = (cycle > 0).then_some(deadline);
+        Ok(forms::taken(&[]))
+    }
+
+    pub fn load(&mut self, load: &Load) -> Answer {
+        self.dictionary.load(&mut self.context.core.od, load);
+        Ok(forms::taken(&[]))
+    }
+
+    pub fn check(&self) {
+        let capacity = self.context.emergency_queue.capacity();
+        assert_eq!(capacity, self.capacity, "the queue keeps its capacity");
+        assert!(kinds::take_logged().is_empty(), "only error and tick log");
+    }
+}
+
+pub fn read_state(number: u64) -> Answer {
+    let number = u8::try_from(number).map_err(|_| 4)?;
+    let state = NmtState::try_from(number).map_err(|_| 4)?;
+    Ok(forms::taken(&[forms::hex(state as u8)]))
+}
+
+pub fn read_command(number: u64) -> Answer {
+    let number = u8::try_from(number).map_err(|_| 4)?;
+    let command = NmtStateCommand::try_from(number).map_err(|_| 4)?;
+    Ok(forms::taken(&[forms::hex(command as u8)]))
+}
+
+/// Number 4: what stands at a place of a list.
+fn at<T>(list: &[T], place: u64) -> Result<&T, u8> {
+    let place = usize::try_from(place).map_err(|_| 4)?;
+    list.get(place).ok_or(4)
+}
+
+/// Number 1.
+fn try_node(number: u8) -> Result<NodeId, u8> {
+    NodeId::try_from(number).map_err(|_| 1)
+}
+
+/// Number 3.
+fn try_run(run: &[Watched]) -> Result<(), u8> {
+    let sound = run.len() <= LONGEST_RUN
+        && run.is_sorted_by(|one, next| one.node < next.node)
+        && run.iter().all(|watched| {
+            try_node(watched.node).is_ok()
+                && watched.timeout <= LAST_TIME
+                && watched.heard <= LAST_TIME
+        });
+    if sound { Ok(()) } else { Err(3) }
+}
+
+/// Number 5.
+fn try_time(time: u64) -> Result<(), u8> {
+    if time <= LAST_TIME { Ok(()) } else { Err(5) }
+}
+
+/// The context of a fresh head. What no call looks at is empty.
+fn context(
+    node: NodeId,
+    start: &Start,
+    dictionary: &Dictionary,
+    capacity: usize,
+) -> CnContext<'static> {
+    let flags = FeatureFlags(start.flags);
+    CnContext {
+        core: CoreNodeContext {
+            od: dictionary.fresh(start),
+            node_id: node,
+            mac_address: MacAddress([0; 6]),
+            sdo_server: Default::default(),
+            sdo_client: Default::default(),
+            embedded_sdo_server: Default::default(),
+            embedded_sdo_client: Default::default(),
+        },
+        time_provider: &NoClock,
+        nmt_state_machine: CnNmtStateMachine::new(node, flags, start.timeout),
+        dll_state_machine: DllCsStateMachine::new(),
+        dll_error_manager: DllErrorManager::new(CnErrorCounters::new(), LoggingErrorHandler),
+        asnd_transport: AsndTransport,
+        last_soc_net_time: NetTime::default(),
+        last_soc_relative_time: RelativeTime::default(),
+        last_soc_arrival_time_us: 0,
+        last_soc_ps_flag: false,
+        last_soc_mc_flag: false,
+        pending_nmt_requests: Vec::new(),
+        emergency_queue: VecDeque::with_capacity(capacity),
+        heartbeat_consumers: BTreeMap::new(),
+        last_soc_reception_time_us: 0,
+        soc_timeout_check_active: false,
+        next_tick_us: None,
+        en_flag: false,
+        ec_flag: false,
+        error_status_changed: false,
+    }
+}

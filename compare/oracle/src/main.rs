@@ -1,0 +1,81 @@
+//! The oracle of the comparison: reads a call script (docs/CALLS.md), drives the original Rust and
+//! prints what the script's calls answer.
+//!
+//!     oracle [replay] < SCRIPT     the answers
+//!     oracle restore < SCRIPT      the script again, with loads of what its resets restored
+//!     oracle panics < SCRIPT       how many ticks number 6 refused; the original panics at each
+//!     oracle generate SEED CALLS   a generated script; its coverage on standard error
+
+mod coverage;
+mod dictionary;
+#[path = "../../driver/forms.rs"]
+mod places;
+#[path = "../../driver/reset.rs"]
+mod reset;
+
+mod forms;
+mod generator;
+mod head;
+mod kinds;
+mod modes;
+mod oracle;
+mod script;
+mod view;
+
+use dictionary::Defaults;
+use oracle::Oracle;
+use std::io::{self, BufWriter, Read, Write};
+use std::process::ExitCode;
+
+/// The number of calls that the minima of coverage.rs are made for.
+const LONG: u64 = 200_000;
+
+const USAGE: &str =
+    "usage: oracle [replay | restore | panics] < SCRIPT, or oracle generate SEED CALLS";
+
+fn main() -> ExitCode {
+    let arguments: Vec<String> = std::env::args().skip(1).collect();
+    let arguments: Vec<&str> = arguments.iter().map(String::as_str).collect();
+    let mut out = BufWriter::new(io::stdout().lock());
+    let done = match arguments[..] {
+        [] | ["replay"] => script().and_then(|script| modes::replay(&script, &mut out)),
+        ["restore"] => script().and_then(|script| modes::restore(&script, &mut out)),
+        ["panics"] => script().and_then(|script| modes::panics(&script, &mut out)),
+        ["generate", seed, calls] => generate(seed, calls, &mut out),
+        _ => Err(io::Error::other(USAGE)),
+    };
+    match done.and_then(|()| out.flush()) {
+        Ok(()) => ExitCode::SUCCESS,
+        Err(error) => {
+            eprintln!("oracle: {error}");
+            ExitCode::FAILURE
+        }
+    }
+}
+
+fn script() -> io::Result<Vec<u8>> {
+    let mut script = Vec::new();
+    io::stdin().read_to_end(&mut script)?;
+    Ok(script)
+}
+
+fn generate(seed: &str, calls: &str, out: &mut dyn Write) -> io::Result<()> {
+    let (Ok(seed), Ok(calls)) = (seed.parse(), calls.parse()) else {
+        return Err(io::Error::other(USAGE));
+    };
+    let mut head = Oracle::new(Defaults::Without);
+    let coverage = generator::generate(&mut head, seed, calls, out)?;
+    let mut errors = io::stderr().lock();
+    coverage.report(&mut errors)?;
+    // The minima are those of a long script; a short one can't meet them all.
+    let shortfalls = coverage.shortfalls();
+    if calls < LONG || shortfalls.is_empty() {
+        return Ok(());
+    }
+    for shortfall in &shortfalls {
+        writeln!(errors, "too few: {shortfall}")?;
+    }
+    Err(io::Error::other(
+        "the script does not reach all that it should",
+    ))
+}

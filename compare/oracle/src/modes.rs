@@ -1,0 +1,87 @@
+//! What the oracle does with a whole script.
+
+use crate::dictionary::Defaults;
+use crate::forms;
+use crate::oracle::Oracle;
+use std::io::{self, Write};
+use std::panic;
+
+/// The lines of a script. A newline at the end begins no further line.
+fn lines(script: &[u8]) -> impl Iterator<Item = &[u8]> {
+    let script = script.strip_suffix(b"\n").unwrap_or(script);
+    script.split(|byte| *byte == b'\n')
+}
+
+/// Prints what each line answers.
+pub fn replay(script: &[u8], out: &mut dyn Write) -> io::Result<()> {
+    let mut oracle = Oracle::new(Defaults::Without);
+    for line in lines(script) {
+        for printed in oracle.take(line) {
+            writeln!(out, "{printed}")?;
+        }
+    }
+    Ok(())
+}
+
+/// Prints the script again, with loads added. A reset here restores default values; behind each that
+/// restores kept ones, the printed script loads what the restore made of them. The second oracle has
+/// no default values and is given the printed script: the two are held to each other.
+pub fn restore(script: &[u8], out: &mut dyn Write) -> io::Result<()> {
+    let mut restoring = Oracle::new(Defaults::With);
+    let mut loading = Oracle::new(Defaults::Without);
+    for line in lines(script) {
+        let restored = restoring.take(line);
+        let loaded = loading.take(line);
+        out.write_all(line)?;
+        writeln!(out)?;
+        if !is_unreadable(&restored) {
+            // Of an unreadable line the number is printed, which the added loads change.
+            assert_eq!(loaded, restored, "both answer alike");
+        }
+        if restored.iter().any(|answer| restores_kept(answer)) {
+            let load = restoring.load_line().expect("a reset has a head");
+            writeln!(out, "{load}")?;
+            loading.take(load.as_bytes());
+            assert_eq!(loading.show(), restoring.show(), "a load is a restore");
+        }
+    }
+    Ok(())
+}
+
+fn is_unreadable(printed: &[String]) -> bool {
+    printed.iter().any(|line| line.starts_with("(unreadable"))
+}
+
+/// Whether the answer is that of a reset whose ranges have the objects of the kept values.
+fn restores_kept(answer: &str) -> bool {
+    answer.starts_with("(taken (entered") && answer.contains(&forms::range(0x1000, 0x1FFF))
+}
+
+/// What the original says when it takes a later time from an earlier one.
+const TOO_EARLY: &str = "attempt to subtract with overflow";
+
+/// Runs the original tick where number 6 refuses, and asserts that it panics and that nothing of
+/// the head has changed by then; prints how often.
+pub fn panics(script: &[u8], out: &mut dyn Write) -> io::Result<()> {
+    let mut oracle = Oracle::new(Defaults::Without);
+    let mut tried = 0;
+    for line in lines(script) {
+        if oracle.take(line) != [forms::refused(6)] {
+            continue;
+        }
+        tried += 1;
+        let before = oracle.show();
+        // A panic that is looked for is not reported.
+        let hook = panic::take_hook();
+        panic::set_hook(Box::new(|_| {}));
+        let message = oracle.panic_at(line);
+        panic::set_hook(hook);
+        assert_eq!(message.as_deref(), Some(TOO_EARLY), "the original panics");
+        assert_eq!(
+            oracle.show(),
+            before,
+            "it panics before it changes the head"
+        );
+    }
+    writeln!(out, "(panics (tried {tried}))")
+}

@@ -1,0 +1,230 @@
+//! Reading the lines of a call script, as docs/CALLS.md lays them out.
+
+use crate::kinds;
+
+/// A record of the run of watched nodes that is lent.
+#[derive(Debug, Clone, Copy, PartialEq, Eq)]
+pub struct Watched {
+    pub node: u8,
+    pub timeout: u64,
+    pub heard: u64,
+}
+
+pub struct Start {
+    pub node: u8,
+    pub flags: u32,
+    pub timeout: u32,
+    pub queue: u64,
+    pub register: u8,
+    pub cycle: Option<u32>,
+    pub tolerance: Option<u32>,
+    pub counters: [u32; 4],
+}
+
+/// The values that a load names. A cycle or tolerance that it names may be missing.
+pub struct Load {
+    pub register: Option<u8>,
+    pub cycle: Option<Option<u32>>,
+    pub tolerance: Option<Option<u32>>,
+    pub counters: [Option<u32>; 4],
+    pub history: Option<Vec<[u8; 20]>>,
+}
+
+pub enum Call {
+    Start(Start),
+    Nmt(u64),
+    Dll { event: u64, expected: bool },
+    Error { kind: u64, a: u64, b: u64 },
+    Cycle,
+    Tick(u64),
+    Withdraw,
+    Heard { node: u8, time: u64 },
+    HandOut,
+    Arm(u64),
+    Load(Load),
+    State(u64),
+    Command(u64),
+}
+
+pub enum Line {
+    /// An empty line, or a comment.
+    Passed,
+    Watch(Watched),
+    Unwatch,
+    Show,
+    Call(Call),
+}
+
+const LONGEST_HISTORY: usize = 300;
+
+/// What a line says; none: it is unreadable.
+pub fn read(line: &[u8]) -> Option<Line> {
+    if line.is_empty() || line.starts_with(b"#") {
+        return Some(Line::Passed);
+    }
+    let mut words = Words { rest: Some(line) };
+    let read = match words.next()? {
+        b"watch" => Line::Watch(Watched {
+            node: words.number()?,
+            timeout: words.number()?,
+            heard: words.number()?,
+        }),
+        b"unwatch" => Line::Unwatch,
+        b"show" => Line::Show,
+        name => Line::Call(read_call(name, &mut words)?),
+    };
+    words.rest.is_none().then_some(read)
+}
+
+fn read_call(name: &[u8], words: &mut Words) -> Option<Call> {
+    Some(match name {
+        b"start" => Call::Start(read_start(words)?),
+        b"nmt" => Call::Nmt(words.number()?),
+        b"dll" => Call::Dll {
+            event: words.number()?,
+            expected: words.flag()?,
+        },
+        b"error" => read_error(words)?,
+        b"cycle" => Call::Cycle,
+        b"tick" => Call::Tick(words.number()?),
+        b"withdraw" => Call::Withdraw,
+        b"heard" => Call::Heard {
+            node: words.number()?,
+            time: words.number()?,
+        },
+        b"handout" => Call::HandOut,
+        b"arm" => Call::Arm(words.number()?),
+        b"load" => Call::Load(read_load(words)?),
+        b"state" => Call::State(words.number()?),
+        b"command" => Call::Command(words.number()?),
+        _ => return None,
+    })
+}
+
+fn read_start(words: &mut Words) -> Option<Start> {
+    Some(Start {
+        node: words.number()?,
+        flags: words.number()?,
+        timeout: words.number()?,
+        queue: words.number()?,
+        register: words.number()?,
+        cycle: words.number_or_missing()?,
+        tolerance: words.number_or_missing()?,
+        counters: [
+            words.number()?,
+            words.number()?,
+            words.number()?,
+            words.number()?,
+        ],
+    })
+}
+
+/// A and B have 8 bits where the kind carries them.
+fn read_error(words: &mut Words) -> Option<Call> {
+    let kind = words.number()?;
+    let a = words.number()?;
+    let b = words.number()?;
+    let carried = kinds::carried(kind);
+    let fits = |place, number| place >= carried || number <= u64::from(u8::MAX);
+    (fits(0, a) && fits(1, b)).then_some(Call::Error { kind, a, b })
+}
+
+fn read_load(words: &mut Words) -> Option<Load> {
+    Some(Load {
+        register: words.named(b"register", Words::number)?,
+        cycle: words.named(b"cycle", Words::number_or_missing)?,
+        tolerance: words.named(b"tolerance", Words::number_or_missing)?,
+        counters: [
+            words.named(b"c1", Words::number)?,
+            words.named(b"c2", Words::number)?,
+            words.named(b"c3", Words::number)?,
+            words.named(b"c5", Words::number)?,
+        ],
+        history: words.named(b"history", Words::entries)?,
+    })
+}
+
+/// The words of a line that are still to be read.
+struct Words<'a> {
+    /// What stands behind the last space; none behind the last word.
+    rest: Option<&'a [u8]>,
+}
+
+impl<'a> Words<'a> {
+    fn peek(&self) -> Option<&'a [u8]> {
+        self.rest?.split(|byte| *byte == b' ').next()
+    }
+
+    fn next(&mut self) -> Option<&'a [u8]> {
+        let word = self.peek()?;
+        self.rest = self.rest?.get(word.len() + 1..);
+        Some(word)
+    }
+
+    /// A number that fits its place.
+    fn number<N: TryFrom<u64>>(&mut self) -> Option<N> {
+        N::try_from(number(self.next()?)?).ok()
+    }
+
+    fn number_or_missing(&mut self) -> Option<Option<u32>> {
+        if self.peek()? == b"-" {
+            self.next();
+            return Some(None);
+        }
+        self.number().map(Some)
+    }
+
+    fn flag(&mut self) -> Option<bool> {
+        match self.number::<u64>()? {
+            0 => Some(false),
+            1 => Some(true),
+            _ => None,
+        }
+    }
+
+    /// What `read` reads behind the name, if the name is next.
+    fn named<T>(&mut self, name: &[u8], read: fn(&mut Self) -> Option<T>) -> Option<Option<T>> {
+        if self.peek() != Some(name) {
+            return Some(None);
+        }
+        self.next();
+        read(self).map(Some)
+    }
+
+    fn entries(&mut self) -> Option<Vec<[u8; 20]>> {
+        let mut entries = Vec::new();
+        while let Some(word) = self.next() {
+            entries.push(entry(word)?);
+        }
+        (entries.len() <= LONGEST_HISTORY).then_some(entries)
+    }
+}
+
+fn number(word: &[u8]) -> Option<u64> {
+    let (digits, base) = match word.strip_prefix(b"0x") {
+        Some(digits) => (digits, 16),
+        None => (word, 10),
+    };
+    if digits.is_empty() {
+        return None;
+    }
+    digits.iter().try_fold(0u64, |number, byte| {
+        let digit = char::from(*byte).to_digit(base)?;
+        number
+            .checked_mul(u64::from(base))?
+            .checked_add(u64::from(digit))
+    })
+}
+
+/// The 20 bytes of an entry that is written as 40 hexadecimal digits.
+fn entry(word: &[u8]) -> Option<[u8; 20]> {
+    if word.len() != 40 {
+        return None;
+    }
+    let mut bytes = [0; 20];
+    for (byte, pair) in bytes.iter_mut().zip(word.chunks(2)) {
+        let digit = |place: usize| char::from(pair[place]).to_digit(16);
+        *byte = (digit(0)? * 16 + digit(1)?) as u8;
+    }
+    Some(bytes)
+}
