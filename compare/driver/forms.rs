@@ -122,20 +122,28 @@ pub fn hex(number: u8) -> String {
     format!("0x{number:02X}")
 }
 
-/// An error as its kind with what it carries: `(6)`, `(21 17)`, `(18 0x6D 2)`.
-pub fn error_form(error: &DllError) -> String {
-    let kind = kind(error);
+/// The node that an error carries.
+pub fn node_of(error: &DllError) -> Option<NodeId> {
     match error {
         DllError::LossOfPres { node_id }
         | DllError::LossOfStatusRes { node_id }
         | DllError::LatePres { node_id }
         | DllError::PdoMapVersion { node_id }
         | DllError::PdoPayloadShort { node_id }
-        | DllError::HeartbeatTimeout { node_id } => format!("({kind} {node_id})"),
-        DllError::UnexpectedEventInState { state, event } => {
+        | DllError::HeartbeatTimeout { node_id } => Some(*node_id),
+        _ => None,
+    }
+}
+
+/// An error as its kind with what it carries: `(6)`, `(21 17)`, `(18 0x6D 2)`.
+pub fn error_form(error: &DllError) -> String {
+    let kind = kind(error);
+    match (node_of(error), error) {
+        (Some(node), _) => format!("({kind} {node})"),
+        (None, DllError::UnexpectedEventInState { state, event }) => {
             format!("({kind} {} {event})", hex(*state))
         }
-        _ => format!("({kind})"),
+        (None, _) => format!("({kind})"),
     }
 }
 

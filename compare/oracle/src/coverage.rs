@@ -1,6 +1,6 @@
 //! Counts what a script reached, from the head's answers and from the head before and after each line.
 
-use crate::view::View;
+use crate::view::{COUNTER_NAMES, View};
 use std::io::{self, Write};
 
 /// One line of a script and what the head made of it.
@@ -44,15 +44,6 @@ const CALLS: [&str; 13] = [
     "state", "command",
 ];
 
-const THRESHOLD_KINDS: [&str; 7] = [
-    "collision",
-    "loss_of_soc",
-    "loss_of_soa",
-    "loss_of_preq",
-    "soc_jitter",
-    "crc_errors",
-    "heartbeat_timeout",
-];
 /// Those that a tick can count: loss_of_soc, loss_of_soa, heartbeat_timeout.
 const TICK_KINDS: [usize; 3] = [1, 2, 6];
 const COUNTERS: [&str; 4] = ["c1", "c2", "c3", "c5"];
@@ -518,10 +509,10 @@ impl Coverage {
 
     fn crossing_counts(&self) -> Vec<Count> {
         let in_tick = |kind: usize| {
-            let name = format!("{} in a tick", THRESHOLD_KINDS[kind]);
+            let name = format!("{} in a tick", COUNTER_NAMES[kind]);
             counted(name, self.crossings_in_ticks[kind], MINIMA.crossing)
         };
-        let mut counts = named(&THRESHOLD_KINDS, &self.crossings, MINIMA.crossing);
+        let mut counts = named(&COUNTER_NAMES, &self.crossings, MINIMA.crossing);
         counts.extend(TICK_KINDS.into_iter().map(in_tick));
         counts.push(counted(
             "level of 14, no crossing",

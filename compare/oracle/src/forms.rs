@@ -4,6 +4,7 @@ use crate::dictionary;
 use crate::places::{action_number, error_form, level, named_form, seven};
 use crate::reset::Range;
 use crate::script::Watched;
+use crate::view::COUNTER_NAMES;
 use powerlink_rs::frame::DllError;
 use powerlink_rs::frame::error::{ErrorEntry, NmtAction};
 use powerlink_rs::nmt::states::NmtState;
@@ -93,24 +94,17 @@ fn nmt(context: &CnContext) -> String {
     )
 }
 
-/// The names of the seven counters, in the order of their fields.
-const NAMES: [&str; 7] = [
-    "collision",
-    "loss_of_soc",
-    "loss_of_soa",
-    "loss_of_preq",
-    "soc_jitter",
-    "crc_errors",
-    "heartbeat_timeout",
-];
-
 fn counters(context: &CnContext) -> Vec<String> {
     let counters = &context.dll_error_manager.counters;
     let form = |(name, counter)| {
         let (level, cumulative) = (level(counter), counter.cumulative_count());
         format!("({name} (level {level}) (cumulative {cumulative}))")
     };
-    let mut lines: Vec<String> = NAMES.into_iter().zip(seven(counters)).map(form).collect();
+    let mut lines: Vec<String> = COUNTER_NAMES
+        .into_iter()
+        .zip(seven(counters))
+        .map(form)
+        .collect();
     lines.push(format!(
         "(loss_of_link {})",
         counters.loss_of_link_cumulative

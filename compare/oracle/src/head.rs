@@ -2,7 +2,7 @@
 //! of the original code, in their order: a call that is declined does not reach it.
 
 use crate::dictionary::{self, Defaults, Dictionary};
-use crate::places::{DLL_EVENTS, NMT_EVENTS};
+use crate::places::{self, DLL_EVENTS, NMT_EVENTS};
 use crate::reset;
 use crate::script::{Load, Start, Watched};
 use crate::{forms, kinds};
@@ -106,7 +106,7 @@ impl Head {
     pub fn error(&mut self, kind: u64, a: u64, b: u64) -> Answer {
         // A number that the kind does not carry may be wider.
         let error = kinds::at(kind, a as u8, b as u8).ok_or(4)?;
-        if let Some(node) = kinds::node_of(&error) {
+        if let Some(node) = places::node_of(&error) {
             try_node(node.0)?;
         }
         let (action, signal) = self.context.dll_error_manager.handle_error(error);

@@ -1,6 +1,6 @@
 //! Errors by their kind's place, and back from the lines that the original handler logs.
 
-use crate::places::ERRORS;
+use crate::places::{ERRORS, node_of};
 use powerlink_rs::NodeId;
 use powerlink_rs::frame::DllError;
 
@@ -27,19 +27,6 @@ pub fn at(kind: u64, a: u8, b: u8) -> Option<DllError> {
         _ => {}
     }
     Some(error)
-}
-
-/// The node that an error carries.
-pub fn node_of(error: &DllError) -> Option<NodeId> {
-    match error {
-        DllError::LossOfPres { node_id }
-        | DllError::LossOfStatusRes { node_id }
-        | DllError::LatePres { node_id }
-        | DllError::PdoMapVersion { node_id }
-        | DllError::PdoPayloadShort { node_id }
-        | DllError::HeartbeatTimeout { node_id } => Some(*node_id),
-        _ => None,
-    }
 }
 
 /// The errors logged since the last call, read from the lines of the stand-in for `log`.

@@ -1,5 +1,16 @@
 //! What the script generator sees of the oracle: it gives lines and looks at the head between them.
 
+/// The names of the seven threshold counters, in the order of `View`'s levels and of what `show` prints.
+pub const COUNTER_NAMES: [&str; 7] = [
+    "collision",
+    "loss_of_soc",
+    "loss_of_soa",
+    "loss_of_preq",
+    "soc_jitter",
+    "crc_errors",
+    "heartbeat_timeout",
+];
+
 /// The head between two lines of a script.
 #[derive(Debug, Clone, PartialEq, Eq)]
 pub struct View {
@@ -10,7 +21,7 @@ pub struct View {
     pub basic_timeout: u32,
     /// The place of the DLL state in its enum, from 0.
     pub dll: u8,
-    /// In the order of CALLS.md: collision, loss_of_soc, loss_of_soa, loss_of_preq, soc_jitter, crc_errors, heartbeat_timeout.
+    /// In the order of `COUNTER_NAMES`.
     pub levels: [u32; 7],
     pub cumulative: [u32; 7],
     pub last_soc: u64,
