@@ -1,6 +1,6 @@
 #!/bin/sh
-# What the prover does not look at: no public function asks anything of its caller, and what docs/CLAIMS.md refers to is
-# there. A reference is a path between backquotes, with `:NAME` behind it where it means a name in that file.
+# What the prover does not look at: no public function asks anything of its caller, each of a library says what it ensures, and
+# what docs/CLAIMS.md refers to is there. A reference is a path between backquotes, with `:NAME` behind it where it means a name in that file.
 set -eu
 cd "$(dirname "$0")/.."
 failed=0
@@ -13,6 +13,17 @@ asking=$(find crates -name '*.rt' -exec awk '
 if [ -n "$asking" ]; then
     echo "public functions with a requires:"
     echo "$asking"
+    failed=1
+fi
+
+# A program has no callers, so only libraries are looked at. A clause stands on a line of its own, before the body's brace.
+silent=$(for lib in crates/*/src/lib.rt; do find "$(dirname "$lib")" -name '*.rt'; done | xargs awk '
+    /^ *pub (extern "C" )?fn/ { name = FILENAME ": " $0; open = 1; told = 0 }
+    /^ *ensures/ { told = 1 }
+    open && (/^ *\{/ || /^ *pub .*\{$/) { if (!told) print name; open = 0 }')
+if [ -n "$silent" ]; then
+    echo "public functions of a library without an ensures:"
+    echo "$silent"
     failed=1
 fi
 
@@ -31,6 +42,6 @@ if [ -n "$missing" ]; then
 fi
 
 if [ "$failed" -eq 0 ]; then
-    echo "ok: no public function has a requires; $(echo "$references" | wc -l) references of docs/CLAIMS.md are there"
+    echo "ok: no public function has a requires, each of a library has an ensures; $(echo "$references" | wc -l) references of docs/CLAIMS.md are there"
 fi
 exit "$failed"

@@ -1,5 +1,5 @@
-//! Prints what the original Rust reads each 8-bit number as, the code of each kind of error, and its
-//! times at their limits, one form a line. Every answer is computed by calling the original code.
+//! Prints what the original Rust reads each 8-bit number as, the code of each kind of error, its
+//! feature flags and its times at their limits, one form a line. Every answer is computed by calling the original code.
 
 mod forms;
 
@@ -7,6 +7,7 @@ use forms::{ERRORS, hex};
 use powerlink_rs::NodeId;
 use powerlink_rs::common::NetTime;
 use powerlink_rs::nmt::events::{NmtManagingCommand, NmtStateCommand};
+use powerlink_rs::nmt::flags::FeatureFlags;
 use powerlink_rs::nmt::states::NmtState;
 
 fn main() {
@@ -26,6 +27,7 @@ fn main() {
             .map(|command| command as u8)
     });
     print_codes();
+    print_flags();
     print_times();
     print_additions();
     print_differences();
@@ -57,6 +59,32 @@ fn print_codes() {
             forms::kind(error),
             error.to_error_code()
         );
+    }
+}
+
+/// The flags in the order of their declaration.
+const FLAGS: [FeatureFlags; 16] = [
+    FeatureFlags::ISOCHRONOUS,
+    FeatureFlags::SDO_UDP,
+    FeatureFlags::SDO_ASND,
+    FeatureFlags::SDO_PDO,
+    FeatureFlags::NMT_INFO_SERVICES,
+    FeatureFlags::EXTENDED_NMT_CMDS,
+    FeatureFlags::DYNAMIC_PDO_MAPPING,
+    FeatureFlags::NMT_SERVICE_UDP,
+    FeatureFlags::CONFIG_MANAGER,
+    FeatureFlags::MULTIPLEXED_ACCESS,
+    FeatureFlags::NODE_ID_BY_SW,
+    FeatureFlags::MN_BASIC_ETHERNET,
+    FeatureFlags::ROUTING_TYPE_1,
+    FeatureFlags::ROUTING_TYPE_2,
+    FeatureFlags::SDO_RW_ALL_BY_INDEX,
+    FeatureFlags::SDO_RW_MULTIPLE_BY_INDEX,
+];
+
+fn print_flags() {
+    for (place, flag) in FLAGS.iter().enumerate() {
+        println!("(flag {place} {})", flag.0);
     }
 }
 

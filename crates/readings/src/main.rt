@@ -1,4 +1,4 @@
-// What each 8-bit number is read as, and the code of each kind of error, one form a line. The stored output was printed by the
+// What each 8-bit number is read as, the code of each kind of error, the feature flags and times at their limits, one form a line. The stored output was printed by the
 // Rust (compare/), so a run shows that both agree.
 mod times;
 
@@ -9,6 +9,7 @@ use types::nmt::events::NmtManagingCommand;
 use types::nmt::events::NmtManagingCommandRead;
 use types::nmt::events::NmtStateCommand;
 use types::nmt::events::NmtStateCommandRead;
+use types::nmt::flags::FeatureFlags;
 use types::nmt::states::NmtState;
 use types::nmt::states::NmtStateRead;
 use types::types::NodeId;
@@ -120,10 +121,47 @@ fn print_codes() {
     }
 }
 
+// The flags in the order of their declaration.
+fn flag(k: u64) -> FeatureFlags {
+    match k {
+        0 => FeatureFlags::ISOCHRONOUS,
+        1 => FeatureFlags::SDO_UDP,
+        2 => FeatureFlags::SDO_ASND,
+        3 => FeatureFlags::SDO_PDO,
+        4 => FeatureFlags::NMT_INFO_SERVICES,
+        5 => FeatureFlags::EXTENDED_NMT_CMDS,
+        6 => FeatureFlags::DYNAMIC_PDO_MAPPING,
+        7 => FeatureFlags::NMT_SERVICE_UDP,
+        8 => FeatureFlags::CONFIG_MANAGER,
+        9 => FeatureFlags::MULTIPLEXED_ACCESS,
+        10 => FeatureFlags::NODE_ID_BY_SW,
+        11 => FeatureFlags::MN_BASIC_ETHERNET,
+        12 => FeatureFlags::ROUTING_TYPE_1,
+        13 => FeatureFlags::ROUTING_TYPE_2,
+        14 => FeatureFlags::SDO_RW_ALL_BY_INDEX,
+        _ => FeatureFlags::SDO_RW_MULTIPLE_BY_INDEX,
+    }
+}
+
+fn print_flag(k: u64) {
+    say(b"(flag ");
+    say_number(k);
+    say(b" ");
+    say_number(flag(k).bits() as u64);
+    say(b")\n");
+}
+
+fn print_flags() {
+    for k in 0..16u64 {
+        print_flag(k);
+    }
+}
+
 fn main() {
     print_nodes();
     print_readings();
     print_codes();
+    print_flags();
     times::print_times();
     times::print_additions();
     times::print_differences();

@@ -1,0 +1,25 @@
+-- `readings::print_flags` is safe and ends: the loop counts up to a constant.
+-- Assumes nothing.
+use Prim.Native.Nat.{_-_}
+use borrow.Author.Needs.{needs}
+use Rattle.readings.proofs.print_flags.Statement.{statement}
+use Rattle.readings.proofs.print_flags.Tie as tie
+
+abbrev Inv-loop : tie.InvT-loop
+Inv-loop k₀ k = Unit
+
+abbrev μ-loop : tie.MeasureT-loop
+μ-loop k₀ k = 16 - k
+
+pub print-flags-spec : {M : Type 1} → statement M
+print-flags-spec =
+    tie.close
+    (tie.spec
+    Inv-loop
+    μ-loop
+    (λ c. search needs)
+    (λ c κs. search needs)
+    (λ c. search needs)
+    (λ c. search needs)
+    (λ c. search needs)
+    (λ c. search needs))
