@@ -1,0 +1,284 @@
+-- Each call's refinement of the plain head, over plain variables: what the parts below answered gives what the call must leave.
+-- Assumes nothing.
+use Prim.Native.Nat.{ℕ, _+_, _<_, _≤_, min}
+use mathlib.Core.Path.{_≡_, refl, sym, ap, _∙_}
+use mathlib.Core.Bool.{Bool, true, false, not}
+use mathlib.Core.List.{List, [], _∷_}
+use borrow.Author.Tests.{lt-ltb, le-ltb}
+use Rattle.types.specs.Pick.{pick}
+use Rattle.types.specs.States.{sameState}
+use Rattle.types.specs.Events.{readEvent}
+use Rattle.types.specs.CsEvents.{readCsEvent}
+use Rattle.types.specs.Errors.{readError}
+use Rattle.types.specs.declared.refusals.Refusal.{Refusal}
+use Rattle.types.specs.declared.refusals.Refusal.the-variants.{TimeLimit, ReadyToOperate}
+use Rattle.types.specs.declared.nmt.states.NmtState.{NmtState}
+use Rattle.types.specs.declared.nmt.states.NmtState.the-variants.{NmtReadyToOperate}
+use Rattle.types.specs.declared.nmt.events.NmtEvent.{NmtEvent}
+use Rattle.types.specs.declared.nmt.events.NmtEventRead.the-variants as event
+use Rattle.types.specs.declared.frame.cs_state_machine.DllCsEvent.{DllCsEvent}
+use Rattle.types.specs.declared.frame.cs_state_machine.DllCsEventRead.the-variants as cs-event
+use Rattle.types.specs.declared.frame.error.types.DllError.{DllError}
+use Rattle.types.specs.declared.frame.error.types.DllErrorRead.the-variants as error-read
+use Rattle.nmt.specs.Nmt as Nmt
+use Rattle.nmt.specs.declared.cn_state_machine.CnNmtStateMachine.{CnNmtStateMachine}
+use Rattle.nmt.specs.declared.cn_state_machine.NmtAnswer.{NmtAnswer}
+use Rattle.dll.specs.Dll as Dll
+use Rattle.dll.specs.declared.cs_state_machine.DllCsStateMachine.{DllCsStateMachine}
+use Rattle.dll.specs.declared.cs_state_machine.DllAnswer.{DllAnswer}
+use Rattle.counters.specs.Counters.{handled, completed}
+use Rattle.counters.specs.Marks.{errorMarks, cycleMarks}
+use Rattle.counters.specs.declared.counters.CnErrorCounters.{CnErrorCounters}
+use Rattle.counters.specs.declared.counters.HandledError.{HandledError}
+use Rattle.counters.specs.declared.counters.CompletedCycle.{CompletedCycle}
+use Rattle.entries.specs.Ring.{nth, rest}
+use Rattle.entries.specs.Queue as Queue
+use Rattle.entries.specs.History as History
+use Rattle.entries.specs.declared.emergency_queue.EmergencyQueue.{EmergencyQueue}
+use Rattle.entries.specs.declared.emergency_queue.HandedOut.{HandedOut}
+use Rattle.entries.specs.declared.error_history.ErrorHistory.{ErrorHistory}
+use Rattle.entries.proofs.Lists.{handed-first, rest-waits, handed-capacity, history-loaded}
+use Rattle.node.specs.declared.state.Head.{Head}
+use Rattle.node.specs.declared.state.Deadline.the-variants.{At, Nothing}
+use Rattle.node.specs.declared.state.SocWatch.{SocWatch}
+use Rattle.node.specs.declared.state.Dictionary.{Dictionary}
+use Rattle.node.specs.declared.load.DictionaryUpdate.{DictionaryUpdate}
+use Rattle.node.specs.declared.watched.WatchedNode.{WatchedNode}
+use Rattle.node.specs.declared.calls.HeadAnswer.the-variants as head-answer
+use Rattle.node.specs.declared.calls.NmtEventAnswer.the-variants as nmt-answer
+use Rattle.node.specs.declared.calls.DllEventAnswer.the-variants as dll-answer
+use Rattle.node.specs.declared.calls.ErrorAnswer.the-variants as error-answer
+use Rattle.node.specs.Plain.{Plain, Step, Call, nmtEvent, dllEvent, error, cycleComplete, withdraw, handOut, load, arm, taken, handOutAnswer}
+use Rattle.node.specs.Watched.{inTime}
+use Rattle.node.specs.Steps.{must, tried, plainOf, withNmt, withSoc, answers, declines, nmtTaken, nmtStep, dllTaken, dllStep, errorTaken, errorStep, cycleTaken, withdrawn, handOutStep, updated, updatedHistory, socWatch, cycleOf, limitOf, armed, step}
+use Rattle.node.specs.Refines.{plain, Left, headLeft, nmtLeft, dllLeft, errorLeft, cycleLeft, handOutLeft, loadLeft, historyUpdate, loadedPlaces, loadedMemory, Refines, SamePlaces}
+
+-- what a call left is what its step, worked out, leaves
+pub refined :
+    (h : Head) (q m : List ℕ) (c : Call) (o : Left) (q′ m′ : List ℕ) (l : List WatchedNode) (t : Step) →
+    step (plain h q m) c ≡ t →
+    plain (o .head) q′ m′ ≡ t .head →
+    o .answer ≡ t .answer →
+    l ≡ t .lent →
+    Refines h q m c o q′ m′ l
+refined h q m c o q′ m′ l t s a b d =
+    record {
+      head = a ∙ sym (ap (λ (t : Step). t .head) s);
+      answer = b ∙ sym (ap (λ (t : Step). t .answer) s);
+      lent = d ∙ sym (ap (λ (t : Step). t .lent) s);
+    }
+
+-- the head with one of its parts replaced
+abbrev pub headOf : CnNmtStateMachine → DllCsStateMachine → CnErrorCounters → SocWatch → Dictionary → EmergencyQueue → ErrorHistory → Head
+headOf n d e s o q h = record { nmt = n; dll = d; errors = e; soc = s; od = o; queue = q; history = h }
+
+module _ (h : Head) where
+  abbrev pub with-nmt : CnNmtStateMachine → Head
+  with-nmt n = headOf n (h .dll) (h .errors) (h .soc) (h .od) (h .queue) (h .history)
+
+  abbrev pub with-dll : DllCsStateMachine → Head
+  with-dll d = headOf (h .nmt) d (h .errors) (h .soc) (h .od) (h .queue) (h .history)
+
+  abbrev pub with-errors : CnErrorCounters → Head
+  with-errors e = headOf (h .nmt) (h .dll) e (h .soc) (h .od) (h .queue) (h .history)
+
+  abbrev pub with-soc : SocWatch → Head
+  with-soc s = headOf (h .nmt) (h .dll) (h .errors) s (h .od) (h .queue) (h .history)
+
+  abbrev pub with-values : Dictionary → ErrorHistory → Head
+  with-values o k = headOf (h .nmt) (h .dll) (h .errors) (h .soc) o (h .queue) k
+
+  abbrev pub with-queue : EmergencyQueue → Head
+  with-queue q = headOf (h .nmt) (h .dll) (h .errors) (h .soc) (h .od) q (h .history)
+
+-- the contract of a call that is not lent the queue or the history
+abbrev pub Alone : Head → Call → Left → Type 0
+Alone h c o = ((q m : List ℕ) → Refines h q m c o q m []) × SamePlaces h (o .head)
+
+pub same-places : (h : Head) → SamePlaces h h
+same-places h = record { queue = refl; history = refl }
+
+pub nmt-taken :
+    (h : Head) (n : ℕ) (e : NmtEvent) (a : NmtAnswer) →
+    readEvent n ≡ event.Taken e →
+    Nmt.outcome a ≡ Nmt.processed (h .nmt) e →
+    Alone h (nmtEvent n) (nmtLeft h (nmt-answer.Taken (record { head = with-nmt h (a .machine); errors = a .errors; reset = a .reset })))
+nmt-taken h n e a r o = (
+  λ q m.
+      let p : Plain = plain h q m in
+      refined h q m (nmtEvent n) _ q m [] (nmtTaken p (Nmt.outcome a)) (ap (nmtStep p) r ∙ ap (nmtTaken p) (sym o)) refl refl refl,
+  record { queue = refl; history = refl },
+)
+
+pub nmt-refused : (h : Head) (n : ℕ) (x : Refusal) → readEvent n ≡ event.Refused x → Alone h (nmtEvent n) (nmtLeft h (nmt-answer.Refused x))
+nmt-refused h n x r = (
+  λ q m. refined h q m (nmtEvent n) _ q m [] (declines (plain h q m) [] x) (ap (nmtStep (plain h q m)) r) refl refl refl,
+  same-places h,
+)
+
+pub dll-taken :
+    (h : Head) (n : ℕ) (expected : Bool) (e : DllCsEvent) (a : DllAnswer) →
+    readCsEvent n ≡ cs-event.Taken e →
+    Dll.outcome a ≡ Dll.processed (h .dll .state) e (h .nmt .«current_state») expected →
+    Alone h (dllEvent n expected) (dllLeft h (dll-answer.Taken (record { head = with-dll h (a .machine); errors = a .errors })))
+dll-taken h n expected e a r o = (
+  λ q m.
+      let p : Plain = plain h q m in
+      refined h q m (dllEvent n expected) _ q m [] (dllTaken p (Dll.outcome a)) (ap (dllStep p expected) r ∙ ap (dllTaken p) (sym o)) refl refl refl,
+  record { queue = refl; history = refl },
+)
+
+pub dll-refused :
+    (h : Head) (n : ℕ) (expected : Bool) (x : Refusal) →
+    readCsEvent n ≡ cs-event.Refused x →
+    Alone h (dllEvent n expected) (dllLeft h (dll-answer.Refused x))
+dll-refused h n expected x r = (
+  λ q m. refined h q m (dllEvent n expected) _ q m [] (declines (plain h q m) [] x) (ap (dllStep (plain h q m) expected) r) refl refl refl,
+  same-places h,
+)
+
+pub error-taken :
+    (h : Head) (kind a b : ℕ) (e : DllError) (r : HandledError) →
+    readError kind a b ≡ error-read.Taken e →
+    r ≡ handled (h .errors) e →
+    Alone h (error kind a b)
+    (errorLeft h (error-answer.Taken (record { head = with-errors h (r .counters); action = r .action; signal = r .signal; logged = r .logged })))
+error-taken h kind a b e r t s = (
+  λ q m.
+      let p : Plain = plain h q m in
+      refined h q m (error kind a b) _ q m [] (errorTaken p r (errorMarks (h .errors) e))
+      (ap (errorStep p) t ∙ ap (λ (r : HandledError). errorTaken p r (errorMarks (h .errors) e)) (sym s)) refl refl refl,
+  record { queue = refl; history = refl },
+)
+
+pub error-refused :
+    (h : Head) (kind a b : ℕ) (x : Refusal) →
+    readError kind a b ≡ error-read.Refused x →
+    Alone h (error kind a b) (errorLeft h (error-answer.Refused x))
+error-refused h kind a b x t = (
+  λ q m. refined h q m (error kind a b) _ q m [] (declines (plain h q m) [] x) (ap (errorStep (plain h q m)) t) refl refl refl,
+  same-places h,
+)
+
+pub cycle-taken :
+    (h : Head) (r : CompletedCycle) →
+    r ≡ completed (h .errors) →
+    Alone h cycleComplete (cycleLeft (record { head = with-errors h (r .counters); cleared = r .cleared }))
+cycle-taken h r s = (
+  λ q m.
+      let p : Plain = plain h q m in
+      refined h q m cycleComplete _ q m [] (cycleTaken p r (cycleMarks (h .errors)))
+      (ap (λ (r : CompletedCycle). cycleTaken p r (cycleMarks (h .errors))) (sym s)) refl refl refl,
+  record { queue = refl; history = refl },
+)
+
+-- withdraw: number 8 at ReadyToOperate, taken elsewhere
+abbrev withdrawBy : Plain → NmtState → Step
+withdrawBy p s =
+    tried (must (not (sameState s NmtReadyToOperate)) ReadyToOperate ∷ []) (declines p []) (answers (withNmt p (withdrawn (p .nmt))) taken [])
+
+pub withdraw-refused :
+    (h : Head) → h .nmt .«current_state» ≡ NmtReadyToOperate → Alone h withdraw (headLeft h (head-answer.Refused ReadyToOperate))
+withdraw-refused h e = (
+  λ q m. refined h q m withdraw _ q m [] (declines (plain h q m) [] ReadyToOperate) (ap (withdrawBy (plain h q m)) e) refl refl refl,
+  same-places h,
+)
+
+pub withdraw-taken :
+    (h : Head) →
+    not (sameState (h .nmt .«current_state») NmtReadyToOperate) ≡ true →
+    Alone h withdraw (headLeft h (head-answer.Taken (with-nmt h (withdrawn (h .nmt)))))
+withdraw-taken h e = (
+  λ q m.
+      let p : Plain = plain h q m in
+      let t : Step = answers (withNmt p (withdrawn (p .nmt))) taken [] in
+      refined h q m withdraw _ q m [] t (ap (λ (b : Bool). pick b t (declines p [] ReadyToOperate)) e) refl refl refl,
+  record { queue = refl; history = refl },
+)
+
+-- arm: number 5, or the watch armed
+pub arm-refused : (h : Head) (t : ℕ) → inTime t ≡ false → Alone h (arm t) (headLeft h (head-answer.Refused TimeLimit))
+arm-refused h t e = (
+  λ q m.
+      let p : Plain = plain h q m in
+      refined h q m (arm t) _ q m [] (declines p [] TimeLimit)
+      (ap (λ (b : Bool). pick b (answers (withSoc p (armed (p .soc) (p .od) t)) taken []) (declines p [] TimeLimit)) e) refl refl refl,
+  same-places h,
+)
+
+pub arm-taken :
+    (h : Head) (t : ℕ) (s : SocWatch) →
+    inTime t ≡ true →
+    s ≡ armed (h .soc) (h .od) t →
+    Alone h (arm t) (headLeft h (head-answer.Taken (with-soc h s)))
+arm-taken h t s e a = (
+  λ q m.
+      let p : Plain = plain h q m in
+      refined h q m (arm t) _ q m [] (answers (withSoc p s) taken [])
+      (ap (λ (b : Bool). pick b (answers (withSoc p (armed (p .soc) (p .od) t)) taken []) (declines p [] TimeLimit)) e
+      ∙ ap (λ (s : SocWatch). answers (withSoc p s) taken []) (sym a))
+      refl refl refl,
+  record { queue = refl; history = refl },
+)
+
+-- hand out: the queue's law
+pub hand-out-taken :
+    (h : Head) (q : List ℕ) (r : HandedOut) →
+    r ≡ Queue.handedOut q (h .queue) →
+    ((m : List ℕ) → Refines h q m handOut (handOutLeft (record { head = with-queue h (r .queue); entry = r .entry })) q m [])
+    × (r .queue ≡ Queue.handedOut q (h .queue) .queue)
+    × (h .history ≡ h .history)
+hand-out-taken h q r e =
+    let capacity : Queue.capacityOf (r .queue) ≡ Queue.capacityOf (h .queue) =
+    ap (λ (r : HandedOut). Queue.capacityOf (r .queue)) e ∙ ap (λ (n : ℕ). min n 32) (handed-capacity q (h .queue)) in
+    let waits : Queue.waiting q (r .queue) ≡ rest (Queue.waiting q (h .queue)) =
+    ap (λ (r : HandedOut). Queue.waiting q (r .queue)) e ∙ rest-waits q (h .queue) in
+    let first : r .entry ≡ nth (Queue.waiting q (h .queue)) 0 =
+    ap (λ (r : HandedOut). r .entry) e ∙ handed-first q (h .queue) in (
+      λ m.
+          refined h q m handOut _ q m [] (handOutStep (plain h q m)) refl
+          (λ i. plainOf (h .nmt) (h .dll .state) (h .errors) (h .soc) (h .od) (capacity i) (waits i) (History.history m (h .history)))
+          (ap handOutAnswer first) refl,
+      ap (λ (r : HandedOut). r .queue) e,
+      refl,
+    )
+
+-- load: the values, and the history where it is named
+module _ (h : Head) (m s : List ℕ) (values : DictionaryUpdate) (o : Dictionary) (e : o ≡ updated (h .od) values) where
+  pub load-taken :
+      (m′ : List ℕ) (named : Bool) (k : ErrorHistory) →
+      k ≡ loadedPlaces named s (h .history) →
+      m′ ≡ loadedMemory named m s →
+      ((q : List ℕ) → Refines h q m (load values (historyUpdate named s)) (loadLeft (with-values h o k)) q m′ [])
+      × (h .queue ≡ h .queue)
+      × (k ≡ loadedPlaces named s (h .history))
+      × (m′ ≡ loadedMemory named m s)
+  load-taken m′ named k places bytes = (
+    λ q.
+        let lists : History.history m′ k ≡ updatedHistory (History.history m (h .history)) (historyUpdate named s) =
+        listed-by named m′ k places bytes in
+        refined h q m (load values (historyUpdate named s)) _ q m′ [] (step (plain h q m) (load values (historyUpdate named s))) refl
+        (λ i. plainOf (h .nmt) (h .dll .state) (h .errors) (h .soc) (e i) (Queue.capacityOf (h .queue)) (Queue.waiting q (h .queue)) (lists i))
+        refl refl,
+    refl,
+    places,
+    bytes,
+  )
+    where
+      listed-by :
+          (named : Bool) (m′ : List ℕ) (k : ErrorHistory) →
+          k ≡ loadedPlaces named s (h .history) →
+          m′ ≡ loadedMemory named m s →
+          History.history m′ k ≡ updatedHistory (History.history m (h .history)) (historyUpdate named s)
+      listed-by true m′ k a b = rw (a, b) (history-loaded m s)
+      listed-by false m′ k a b = rw (a, b)
+
+-- the watch armed, by whether there is a cycle
+module _ (s : SocWatch) (o : Dictionary) (t y : ℕ) (e : y ≡ cycleOf o) where
+  pub armed-on : 0 < y → (l : ℕ) → l ≡ limitOf o → socWatch t true (At (t + l)) (s .«error_status_changed») ≡ armed s o t
+  unfolding armed
+  armed-on h l f = rw (f, ← e, lt-ltb 0 y h)
+
+  pub armed-off : y ≤ 0 → socWatch t false Nothing (s .«error_status_changed») ≡ armed s o t
+  unfolding armed
+  armed-off h = rw (← e, le-ltb 0 y h)

@@ -1,0 +1,300 @@
+-- The watched nodes as an array and as a list: the test of number 3 node by node, the place of a node, and the times set.
+-- Assumes nothing.
+use Prim.Native.Nat.{ℕ, zero, suc, _+_, _≤_, _<_, min}
+use mathlib.Core.Path.{_≡_, refl, sym, ap, _∙_}
+use mathlib.Core.Bool.{Bool, true, false, not}
+use mathlib.Core.List.{List, [], _∷_, _++_, map}
+use native.Mathlib.Nat.{add-zero}
+use native.Mathlib.Omega.{arith}
+use native.Mathlib.Numerals.{add-one}
+use lib.Dec.{eqb, leb, ltb}
+use lib.ListN.{length, getD, set, take, drop, take-append-drop, length-append, drop-of-length-le}
+use lib.Seq.{length-take-le, take-suc, drop-cons, append-snoc, set-append-left, getD-take, set-at, getD-at, take-at}
+use borrow.Author.Tests.{ltb-true, ltb-false, lt-ltb, le-ltb, le-leb, lt-leb, eq-eqb, ne-eqb}
+use Rattle.types.specs.Pick.{pick, both, either}
+use Rattle.types.specs.Types.{node, isNode, readNode}
+use Rattle.types.specs.declared.refusals.Refusal.{Refusal}
+use Rattle.types.specs.declared.refusals.Refusal.the-variants.{NodeNumber}
+use Rattle.types.specs.declared.types.NodeId.{NodeId}
+use Rattle.types.specs.declared.types.NodeIdRead.{NodeIdRead}
+use Rattle.types.specs.declared.types.NodeIdRead.the-variants.{Taken, Refused}
+use Rattle.entries.specs.Ring.{listed}
+use Rattle.entries.proofs.Rings.{listed-long}
+use Rattle.node.specs.declared.watched.WatchedNode.{WatchedNode}
+use Rattle.node.specs.Watched.{inTime, allOf, ascending, fits, wellFormed, noNode, heardNow, isWatched, heardAt, placeOf, unheard, watchedOf, heardFirst, unheardFirst}
+
+-- what a test that is denied says
+pub not-true : (b : Bool) → not b ≡ true → b ≡ false
+not-true true e = sym e
+not-true false e = refl
+
+pub not-false : (b : Bool) → not b ≡ false → b ≡ true
+not-false true e = refl
+not-false false e = sym e
+
+-- the limits of a node, by the reading of its number and the tests of its times
+abbrev accepted : NodeIdRead → Bool
+accepted (Taken n) = true
+accepted (Refused r) = false
+
+is-node : (n : ℕ) → accepted (readNode n) ≡ isNode n
+unfolding readNode
+is-node n = by (isNode n)
+  where
+    by : (b : Bool) → accepted (pick b (Taken (node n)) (Refused NodeNumber)) ≡ b
+    by true = refl
+    by false = refl
+
+module _ (w : WatchedNode) (r : NodeIdRead) (e : r ≡ readNode (w .node)) where
+  fits-read : fits w ≡ both (accepted r) (both (inTime (w .timeout)) (inTime (w .«last_heard»)))
+  fits-read =
+      ap (λ (b : Bool). both b (both (inTime (w .timeout)) (inTime (w .«last_heard»)))) (sym (ap accepted e ∙ is-node (w .node)))
+
+  pub fits-refused : (x : Refusal) → r ≡ Refused x → false ≡ fits w
+  fits-refused x t = sym (fits-read ∙ ap (λ (r : NodeIdRead). both (accepted r) (both (inTime (w .timeout)) (inTime (w .«last_heard»)))) t)
+
+  module _ (x : NodeId) (t : r ≡ Taken x) (b : Bool) (f : b ≡ inTime (w .timeout)) where
+    fits-taken : fits w ≡ both b (inTime (w .«last_heard»))
+    fits-taken =
+        fits-read
+        ∙ ap (λ (r : NodeIdRead). both (accepted r) (both (inTime (w .timeout)) (inTime (w .«last_heard»)))) t
+        ∙ ap (λ (b : Bool). both b (inTime (w .«last_heard»))) (sym f)
+
+    pub fits-late : b ≡ false → false ≡ fits w
+    fits-late h = sym (fits-taken ∙ ap (λ (b : Bool). both b (inTime (w .«last_heard»))) h)
+
+    pub fits-last : b ≡ true → (z : Bool) → z ≡ inTime (w .«last_heard») → z ≡ fits w
+    fits-last h z g = g ∙ sym (fits-taken ∙ ap (λ (b : Bool). both b (inTime (w .«last_heard»))) h)
+
+-- the first k nodes of an array that has as many
+pub watched-take : (ns : List WatchedNode) (k : ℕ) → k ≤ length ns → watchedOf ns k ≡ take k ns
+unfolding listed
+watched-take ns zero h = refl
+watched-take [] (suc k) h = absurd (omega arith)
+watched-take (w ∷ ws) (suc k) h = ap (λ (l : List WatchedNode). w ∷ l) (watched-take ws k (omega arith))
+
+-- number 3, node by node: each above the one before, and within its limits
+abbrev pub rising : ℕ → List WatchedNode → Bool
+rising n [] = true
+rising n (w ∷ ws) = both (ltb n (w .node)) (both (fits w) (rising (w .node) ws))
+
+abbrev above : ℕ → List WatchedNode → Bool
+above n [] = true
+above n (w ∷ ws) = both (ltb n (w .node)) (above (w .node) ws)
+
+ascending-above : (w : WatchedNode) (ws : List WatchedNode) → ascending (w ∷ ws) ≡ above (w .node) ws
+ascending-above w [] = refl
+ascending-above w (v ∷ vs) = ap (both (ltb (w .node) (v .node))) (ascending-above v vs)
+
+swap : (a f u v : Bool) → both a (both f (both u v)) ≡ both (both a u) (both f v)
+swap true true true v = refl
+swap true true false v = refl
+swap true false true v = refl
+swap true false false v = refl
+swap false f u v = refl
+
+rising-above : (n : ℕ) (ws : List WatchedNode) → rising n ws ≡ both (above n ws) (allOf fits ws)
+rising-above n [] = refl
+rising-above n (w ∷ ws) =
+    ap (λ (b : Bool). both (ltb n (w .node)) (both (fits w) b)) (rising-above (w .node) ws)
+    ∙ swap (ltb n (w .node)) (fits w) (above (w .node) ws) (allOf fits ws)
+
+-- a node within its limits has a number above 0
+never : (a : Bool) → both a false ≡ false
+never true = refl
+never false = refl
+
+above-zero : (w : WatchedNode) (u v : Bool) → both (both (ltb 0 (w .node)) u) (both (fits w) v) ≡ both u (both (fits w) v)
+above-zero w u v = by (ltb 0 (w .node)) refl
+  where
+    none : (n : ℕ) → n ≤ 0 → isNode n ≡ false
+    none zero h = refl
+    none (suc n) h = absurd (omega arith)
+
+    by : (b : Bool) → ltb 0 (w .node) ≡ b → both (both b u) (both (fits w) v) ≡ both u (both (fits w) v)
+    by true e = refl
+    by false e = rw (none (w .node) (ltb-false 0 (w .node) e)) (sym (never u))
+
+rising-all : (ws : List WatchedNode) → rising 0 ws ≡ both (ascending ws) (allOf fits ws)
+rising-all [] = refl
+rising-all (w ∷ ws) =
+    rising-above 0 (w ∷ ws)
+    ∙ above-zero w (above (w .node) ws) (allOf fits ws)
+    ∙ ap (λ (b : Bool). both b (allOf fits (w ∷ ws))) (sym (ascending-above w ws))
+
+module _ (ns : List WatchedNode) (k : ℕ) where
+  pub too-many : 32 < k → false ≡ wellFormed (watchedOf ns k)
+  unfolding wellFormed
+  too-many h = rw (listed-long (λ (i : ℕ). getD ns i noNode) k, lt-leb k 32 h)
+
+  module _ (long : length ns ≡ 32) (few : k ≤ 32) where
+    within : k ≤ length ns
+    within = omega arith
+
+    pub tests-begin : wellFormed (watchedOf ns k) ≡ rising 0 (drop 0 (take k ns))
+    unfolding wellFormed
+    tests-begin =
+        rw (listed-long (λ (i : ℕ). getD ns i noNode) k, le-leb k 32 few, watched-take ns k within) (sym (rising-all (take k ns)))
+
+    module _ (i : ℕ) (d : WatchedNode) (inside : i < k) where
+      from-here : drop i (take k ns) ≡ getD ns i d ∷ drop (i + 1) (take k ns)
+      from-here =
+          let l : i < length (take k ns) = rw (length-take-le k ns within) inside in
+          rw (add-one, ← getD-take k ns i d inside) (drop-cons (take k ns) i d l)
+
+      pub test-turn :
+          (n : ℕ) →
+          rising n (drop i (take k ns)) ≡
+          both (ltb n (getD ns i d .node)) (both (fits (getD ns i d)) (rising (getD ns i d .node) (drop (i + 1) (take k ns))))
+      test-turn n = ap (rising n) from-here
+
+      pub place-turn :
+          (n : ℕ) → placeOf n (drop i (take k ns)) ≡ pick (eqb (getD ns i d .node) n) 0 (suc (placeOf n (drop (i + 1) (take k ns))))
+      place-turn n = ap (placeOf n) from-here
+
+      module _ (n : ℕ) (e : placeOf n (watchedOf ns k) ≡ i + placeOf n (drop i (take k ns))) where
+        pub place-here : getD ns i d .node ≡ n → i ≡ placeOf n (watchedOf ns k)
+        place-here h =
+            sym (e ∙ ap (λ (p : ℕ). i + p) (place-turn n ∙ ap (λ (b : Bool). pick b 0 (suc (placeOf n (drop (i + 1) (take k ns))))) (eq-eqb (getD ns i d .node) n h)) ∙ add-zero i)
+
+        pub place-further : (getD ns i d .node ≡ n → ⊥) → placeOf n (watchedOf ns k) ≡ i + 1 + placeOf n (drop (i + 1) (take k ns))
+        place-further h =
+            e ∙ ap (λ (p : ℕ). i + p) (place-turn n ∙ ap (λ (b : Bool). pick b 0 (suc (placeOf n (drop (i + 1) (take k ns))))) (ne-eqb (getD ns i d .node) n h))
+            ∙ omega arith
+
+      module _ (n : ℕ) (b : Bool) (e : b ≡ rising n (drop i (take k ns))) where
+        pub test-below : getD ns i d .node ≤ n → b ≡ false
+        test-below h = e ∙ test-turn n ∙ ap (λ (b : Bool). both b (both (fits (getD ns i d)) (rising (getD ns i d .node) (drop (i + 1) (take k ns))))) (le-ltb n (getD ns i d .node) h)
+
+        module _ (h : n < getD ns i d .node) where
+          above-last : b ≡ both (fits (getD ns i d)) (rising (getD ns i d .node) (drop (i + 1) (take k ns)))
+          above-last = e ∙ test-turn n ∙ ap (λ (b : Bool). both b (both (fits (getD ns i d)) (rising (getD ns i d .node) (drop (i + 1) (take k ns))))) (lt-ltb n (getD ns i d .node) h)
+
+          pub test-outside : fits (getD ns i d) ≡ false → b ≡ false
+          test-outside g = above-last ∙ ap (λ (b : Bool). both b (rising (getD ns i d .node) (drop (i + 1) (take k ns)))) g
+
+          pub test-next : fits (getD ns i d) ≡ true → b ≡ rising (getD ns i d .node) (drop (i + 1) (take k ns))
+          test-next g = above-last ∙ ap (λ (b : Bool). both b (rising (getD ns i d .node) (drop (i + 1) (take k ns)))) g
+
+    pub place-begins : (n : ℕ) → placeOf n (watchedOf ns k) ≡ 0 + placeOf n (drop 0 (take k ns))
+    place-begins n = let e : placeOf n (watchedOf ns k) ≡ placeOf n (take k ns) = ap (placeOf n) (watched-take ns k within) in omega arith
+
+    pub at-end : (i : ℕ) → k ≤ i → drop i (take k ns) ≡ []
+    at-end i h = drop-of-length-le (take k ns) {i = i} (rw (length-take-le k ns within) h)
+
+    pub place-end : (n i : ℕ) → placeOf n (watchedOf ns k) ≡ i + placeOf n (drop i (take k ns)) → i ≡ k → k ≡ placeOf n (watchedOf ns k)
+    place-end n i e h = sym (e ∙ ap (λ (l : List WatchedNode). i + placeOf n l) (at-end i (omega arith)) ∙ add-zero i ∙ h)
+
+    pub test-end : (n i : ℕ) (b : Bool) → b ≡ rising n (drop i (take k ns)) → k ≤ i → b ≡ true
+    test-end n i b e h = e ∙ ap (rising n) (at-end i h)
+
+-- a node is watched exactly where its place is before the end
+place-inside : (n : ℕ) (ws : List WatchedNode) → placeOf n ws < length ws → isWatched n ws ≡ true
+place-inside n [] h = absurd (omega arith)
+place-inside n (w ∷ ws) h = by (eqb (w .node) n) (place-inside n ws) h
+  where
+    by :
+        (b : Bool) → (placeOf n ws < length ws → isWatched n ws ≡ true) →
+        pick b 0 (suc (placeOf n ws)) < suc (length ws) → either b (isWatched n ws) ≡ true
+    by true more l = refl
+    by false more l = more (omega arith)
+
+place-outside : (n : ℕ) (ws : List WatchedNode) → length ws ≤ placeOf n ws → isWatched n ws ≡ false
+place-outside n [] h = refl
+place-outside n (w ∷ ws) h = by (eqb (w .node) n) (place-outside n ws) h
+  where
+    by :
+        (b : Bool) → (length ws ≤ placeOf n ws → isWatched n ws ≡ false) →
+        suc (length ws) ≤ pick b 0 (suc (placeOf n ws)) → either b (isWatched n ws) ≡ false
+    by true more l = absurd (omega arith)
+    by false more l = more (omega arith)
+
+-- setting the time of a watched node is one store at its place
+heard-set :
+    (n t : ℕ) (ws : List WatchedNode) (d : WatchedNode) →
+    placeOf n ws < length ws →
+    heardAt n t ws ≡ set ws (placeOf n ws) (heardNow t (getD ws (placeOf n ws) d))
+heard-set n t [] d h = absurd (omega arith)
+heard-set n t (w ∷ ws) d h = by (eqb (w .node) n) (heard-set n t ws d) h
+  where
+    by :
+        (b : Bool) →
+        (placeOf n ws < length ws → heardAt n t ws ≡ set ws (placeOf n ws) (heardNow t (getD ws (placeOf n ws) d))) →
+        pick b 0 (suc (placeOf n ws)) < suc (length ws) →
+        pick b (heardNow t w ∷ ws) (w ∷ heardAt n t ws) ≡
+        set (w ∷ ws) (pick b 0 (suc (placeOf n ws))) (heardNow t (getD (w ∷ ws) (pick b 0 (suc (placeOf n ws))) d))
+    by true more l = refl
+    by false more l = ap (λ (l : List WatchedNode). w ∷ l) (more (omega arith))
+
+heard-long : (n t : ℕ) (ws : List WatchedNode) → length (heardAt n t ws) ≡ length ws
+heard-long n t [] = refl
+heard-long n t (w ∷ ws) = by (eqb (w .node) n) (heard-long n t ws)
+  where
+    by :
+        (b : Bool) → length (heardAt n t ws) ≡ length ws →
+        length (pick b (heardNow t w ∷ ws) (w ∷ heardAt n t ws)) ≡ suc (length ws)
+    by true more = refl
+    by false more = ap suc more
+
+unheard-long : (ws : List WatchedNode) → length (unheard ws) ≡ length ws
+unheard-long [] = refl
+unheard-long (w ∷ ws) = ap suc (unheard-long ws)
+
+-- the first k nodes of an array of which only those were set
+front : (ns ws : List WatchedNode) (k : ℕ) → length ws ≡ k → watchedOf (ws ++ drop k ns) k ≡ ws
+front ns ws k h =
+    watched-take (ws ++ drop k ns) k (rw length-append (omega arith)) ∙ take-at ws (drop k ns) k h
+
+module _ (ns : List WatchedNode) (k : ℕ) (long : length ns ≡ 32) (few : k ≤ 32) where
+  taken-long : length (take k ns) ≡ k
+  taken-long = length-take-le k ns (omega arith)
+
+  whole : watchedOf ns k ≡ take k ns
+  whole = watched-take ns k (omega arith)
+
+  pub unheard-nodes : watchedOf (unheardFirst k ns) k ≡ unheard (watchedOf ns k)
+  unheard-nodes = front ns (unheard (take k ns)) k (unheard-long (take k ns) ∙ taken-long) ∙ ap unheard (sym whole)
+
+  module _ (n t : ℕ) where
+    pub heard-nodes : watchedOf (heardFirst n t k ns) k ≡ heardAt n t (watchedOf ns k)
+    heard-nodes = front ns (heardAt n t (take k ns)) k (heard-long n t (take k ns) ∙ taken-long) ∙ ap (heardAt n t) (sym whole)
+
+    module _ (p : ℕ) (e : p ≡ placeOf n (watchedOf ns k)) where
+      at-place : p ≡ placeOf n (take k ns)
+      at-place = e ∙ ap (placeOf n) whole
+
+      pub watched-there : p < k → isWatched n (watchedOf ns k) ≡ true
+      watched-there h = rw (whole) (place-inside n (take k ns) (rw (← at-place, taken-long) h))
+
+      pub watched-nowhere : k ≤ p → isWatched n (watchedOf ns k) ≡ false
+      watched-nowhere h = rw (whole) (place-outside n (take k ns) (rw (← at-place, taken-long) h))
+
+      pub heard-stored : (d : WatchedNode) → p < k → set ns p (heardNow t (getD ns p d)) ≡ heardFirst n t k ns
+      heard-stored d h =
+          let l : placeOf n (take k ns) < length (take k ns) = rw (← at-place, taken-long) h in
+          let s : heardAt n t (take k ns) ≡ set (take k ns) p (heardNow t (getD ns p d)) =
+          rw (at-place, ← getD-take k ns (placeOf n (take k ns)) d (rw (← at-place) h)) (heard-set n t (take k ns) d l) in
+          sym (ap (λ (l : List WatchedNode). l ++ drop k ns) s
+          ∙ sym (set-append-left (take k ns) (drop k ns) p (heardNow t (getD ns p d)) (rw taken-long h))
+          ∙ ap (λ (l : List WatchedNode). set l p (heardNow t (getD ns p d))) (take-append-drop k ns))
+
+-- one turn of the loop that sets all times to 0
+unheard-more : (xs ys : List WatchedNode) → unheard (xs ++ ys) ≡ unheard xs ++ unheard ys
+unheard-more [] ys = refl
+unheard-more (x ∷ xs) ys = ap (λ (l : List WatchedNode). heardNow 0 x ∷ l) (unheard-more xs ys)
+
+pub unheard-turn :
+    (ns l : List WatchedNode) (i : ℕ) (d : WatchedNode) →
+    i < length ns →
+    l ≡ unheardFirst i ns →
+    set l i (heardNow 0 (getD l i d)) ≡ unheardFirst (i + 1) ns
+unheard-turn ns l i d h e =
+    let w : WatchedNode = getD ns i d in
+    let long : length (unheard (take i ns)) ≡ i = unheard-long (take i ns) ∙ length-take-le i ns (omega arith) in
+    let here : l ≡ unheard (take i ns) ++ (w ∷ drop (suc i) ns) =
+    e ∙ ap (λ (r : List WatchedNode). unheard (take i ns) ++ r) (drop-cons ns i d h) in
+    let next : unheardFirst (i + 1) ns ≡ unheard (take i ns) ++ (heardNow 0 w ∷ drop (suc i) ns) =
+    rw (add-one, take-suc ns i d h, unheard-more (take i ns) (w ∷ []))
+    (append-snoc (unheard (take i ns)) (heardNow 0 w) (drop (suc i) ns)) in
+    rw (here, getD-at (unheard (take i ns)) w (drop (suc i) ns) d i long, next)
+    (set-at (unheard (take i ns)) w (drop (suc i) ns) (heardNow 0 w) i long)

@@ -1,0 +1,4 @@
+pub mod Watched
+pub mod Plain
+pub mod Steps
+pub mod Refines

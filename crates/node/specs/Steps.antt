@@ -1,0 +1,264 @@
+-- What the plain head does at each call, by document 01: its words stand above the definitions.
+-- Assumes nothing.
+use Prim.Native.Nat.{ℕ, _+_, _/_}
+use mathlib.Core.Bool.{Bool, true, false, not}
+use mathlib.Core.List.{List, [], _∷_}
+use lib.Dec.{leb, ltb}
+use lib.ListN.{take}
+use Rattle.types.specs.Pick.{pick}
+use Rattle.types.specs.Types.{node, isNode}
+use Rattle.types.specs.Flags.{flags}
+use Rattle.types.specs.States.{sameState}
+use Rattle.types.specs.Events.{readEvent}
+use Rattle.types.specs.CsEvents.{readCsEvent}
+use Rattle.types.specs.Errors.{readError, reported}
+use Rattle.types.specs.declared.refusals.Refusal.{Refusal}
+use Rattle.types.specs.declared.refusals.Refusal.the-variants.{NodeNumber, QueueCapacity, WatchedNodes, TimeLimit, NotWatched, ReadyToOperate}
+use Rattle.types.specs.declared.nmt.states.NmtState.the-variants.{NmtReadyToOperate}
+use Rattle.types.specs.declared.nmt.events.NmtEventRead.{NmtEventRead}
+use Rattle.types.specs.declared.nmt.events.NmtEventRead.the-variants as event
+use Rattle.types.specs.declared.frame.cs_state_machine.DllCsEventRead.{DllCsEventRead}
+use Rattle.types.specs.declared.frame.cs_state_machine.DllCsEventRead.the-variants as cs-event
+use Rattle.types.specs.declared.frame.error.types.DllErrorRead.{DllErrorRead}
+use Rattle.types.specs.declared.frame.error.types.DllErrorRead.the-variants as error-read
+use Rattle.nmt.specs.Nmt as Nmt
+use Rattle.nmt.specs.declared.cn_state_machine.CnNmtStateMachine.{CnNmtStateMachine}
+use Rattle.dll.specs.Dll as Dll
+use Rattle.dll.specs.declared.cs_state_machine.DllCsState.{DllCsState}
+use Rattle.dll.specs.declared.cs_state_machine.DllCsState.the-variants.{NonCyclic}
+use Rattle.counters.specs.Counters.{newCounters, handled, completed}
+use Rattle.counters.specs.Marks.{Mark, errorMarks, cycleMarks}
+use Rattle.counters.specs.declared.counters.CnErrorCounters.{CnErrorCounters}
+use Rattle.counters.specs.declared.counters.HandledError.{HandledError}
+use Rattle.counters.specs.declared.counters.CompletedCycle.{CompletedCycle}
+use Rattle.entries.specs.Ring.{nth, rest}
+use Rattle.entries.specs.declared.status_response.ErrorEntry.{ErrorEntry}
+use Rattle.node.specs.declared.state.Deadline.{Deadline}
+use Rattle.node.specs.declared.state.Deadline.the-variants.{At, Nothing}
+use Rattle.node.specs.declared.state.ObjectValue.{ObjectValue}
+use Rattle.node.specs.declared.state.ObjectValue.the-variants.{Unsigned32, Missing}
+use Rattle.node.specs.declared.state.SocWatch.{SocWatch}
+use Rattle.node.specs.declared.state.Dictionary.{Dictionary}
+use Rattle.node.specs.declared.load.ByteUpdate.{ByteUpdate}
+use Rattle.node.specs.declared.load.ByteUpdate.the-variants as byte
+use Rattle.node.specs.declared.load.CounterUpdate.{CounterUpdate}
+use Rattle.node.specs.declared.load.CounterUpdate.the-variants as counter
+use Rattle.node.specs.declared.load.ObjectUpdate.{ObjectUpdate}
+use Rattle.node.specs.declared.load.ObjectUpdate.the-variants as object
+use Rattle.node.specs.declared.load.DictionaryUpdate.{DictionaryUpdate}
+use Rattle.node.specs.declared.watched.WatchedNode.{WatchedNode}
+use Rattle.node.specs.Watched.{inTime, wellFormed, isWatched, heardAt, unheard}
+use Rattle.node.specs.Plain.{Plain, HistoryUpdate, set, keep, Call, nmtEvent, dllEvent, error, cycleComplete, withdraw, heard, handOut, load, arm, Start, Answer, refused, taken, nmtAnswer, dllAnswer, errorAnswer, cycleAnswer, handOutAnswer, Step, Begun, begins, declined, FirstStep}
+
+-- A test that a call makes, and the number that declines it otherwise.
+pub record Test : Type 0 where
+  pub holds : Bool
+  pub otherwise : Refusal
+
+abbrev pub must : Bool → Refusal → Test
+must b r = record { holds = b; otherwise = r }
+
+-- "The first that applies is given, and none is given otherwise."
+abbrev pub tried : {A : Type 0} → List Test → (Refusal → A) → A → A
+tried [] refuse accept = accept
+tried (t ∷ ts) refuse accept = pick (t .holds) (tried ts refuse accept) (refuse (t .otherwise))
+
+-- a head of its parts, and a head with one of them replaced
+abbrev pub plainOf : CnNmtStateMachine → DllCsState → CnErrorCounters → SocWatch → Dictionary → ℕ → List ErrorEntry → List ErrorEntry → Plain
+plainOf n d e s o c q h =
+    record { nmt = n; dll = d; errors = e; soc = s; od = o; capacity = c; queue = q; history = h }
+
+abbrev pub withNmt : Plain → CnNmtStateMachine → Plain
+withNmt p n = plainOf n (p .dll) (p .errors) (p .soc) (p .od) (p .capacity) (p .queue) (p .history)
+
+abbrev pub withDll : Plain → DllCsState → Plain
+withDll p d = plainOf (p .nmt) d (p .errors) (p .soc) (p .od) (p .capacity) (p .queue) (p .history)
+
+abbrev pub withErrors : Plain → CnErrorCounters → Plain
+withErrors p e = plainOf (p .nmt) (p .dll) e (p .soc) (p .od) (p .capacity) (p .queue) (p .history)
+
+abbrev pub withSoc : Plain → SocWatch → Plain
+withSoc p s = plainOf (p .nmt) (p .dll) (p .errors) s (p .od) (p .capacity) (p .queue) (p .history)
+
+abbrev pub withQueue : Plain → List ErrorEntry → Plain
+withQueue p q = plainOf (p .nmt) (p .dll) (p .errors) (p .soc) (p .od) (p .capacity) q (p .history)
+
+abbrev pub withValues : Plain → Dictionary → List ErrorEntry → Plain
+withValues p o h = plainOf (p .nmt) (p .dll) (p .errors) (p .soc) o (p .capacity) (p .queue) h
+
+-- a call that leaves what was lent, and of which nothing is counted
+abbrev pub answers : Plain → Answer → List WatchedNode → Step
+answers p a l = record { head = p; answer = a; lent = l; marks = []; crossings = [] }
+
+-- "A declined call returns its number only"; the head and what was lent stay as they are
+abbrev pub declines : Plain → List WatchedNode → Refusal → Step
+declines p l r = answers p (refused r) l
+
+-- Start. "A fresh head is at GsInitialising, not enabled, ready, DLL NonCyclic, check off, no deadline, last SoC 0, all
+-- nodes last heard 0, levels and counts 0, error_status_changed off, queue empty." "Start gives these values, with an
+-- empty history."
+abbrev pub socWatch : ℕ → Bool → Deadline → Bool → SocWatch
+socWatch t on d changed =
+    record {
+      «last_soc_reception_time_us» = t;
+      «soc_timeout_check_active» = on;
+      «next_tick_us» = d;
+      «error_status_changed» = changed;
+    }
+
+unfoldable pub fresh : Start → Plain
+fresh s =
+    plainOf (Nmt.fresh (node (s .node)) (flags (s .flags)) (s .timeout)) NonCyclic newCounters
+    (socWatch 0 false Nothing false) (s .od) (s .capacity) [] []
+
+-- numbers 1, 2 and 3
+abbrev pub startTests : Start → List Test
+startTests s =
+    must (isNode (s .node)) NodeNumber ∷
+    must (leb (s .capacity) 32) QueueCapacity ∷
+    must (wellFormed (s .watched)) WatchedNodes ∷
+    []
+
+unfoldable pub started : Start → FirstStep
+started s =
+    tried (startTests s)
+    (λ r. record { begun = declined r; lent = s .watched })
+    (record { begun = begins (fresh s); lent = unheard (s .watched) })
+
+-- An NMT event: number 4, or what the machine makes of it. "Errors of NMT and DLL events are reported and not counted."
+-- A reset touches the NMT machine alone.
+abbrev pub nmtTaken : Plain → Nmt.Outcome → Step
+nmtTaken p o = answers (withNmt p (o .machine)) (nmtAnswer (o .errors) (o .reset)) []
+
+abbrev pub nmtStep : Plain → NmtEventRead → Step
+nmtStep p (event.Taken e) = nmtTaken p (Nmt.processed (p .nmt) e)
+nmtStep p (event.Refused r) = declines p [] r
+
+-- "A DLL event takes the head's own NMT state and is told whether a PReq is expected."
+abbrev pub dllTaken : Plain → Dll.Outcome → Step
+dllTaken p o = answers (withDll p (o .state)) (dllAnswer (o .errors)) []
+
+abbrev pub dllStep : Plain → Bool → DllCsEventRead → Step
+dllStep p expected (cs-event.Taken e) = dllTaken p (Dll.processed (p .dll) e (p .nmt .«current_state») expected)
+dllStep p expected (cs-event.Refused r) = declines p [] r
+
+-- "An error given to the counters touches only them." Numbers 1 and 4 are in its reading.
+abbrev pub errorTaken : Plain → HandledError → List Mark → Step
+errorTaken p r ms =
+    record {
+      head = withErrors p (r .counters);
+      answer = errorAnswer (r .action) (r .signal) (reported (r .logged));
+      lent = [];
+      marks = ms;
+      crossings = [];
+    }
+
+abbrev pub errorStep : Plain → DllErrorRead → Step
+errorStep p (error-read.Taken e) = errorTaken p (handled (p .errors) e) (errorMarks (p .errors) e)
+errorStep p (error-read.Refused r) = declines p [] r
+
+-- Cycle complete. "It answers yes when the last level reaches 0."
+abbrev pub cycleTaken : Plain → CompletedCycle → List Mark → Step
+cycleTaken p r ms =
+    record {
+      head = withErrors p (r .counters);
+      answer = cycleAnswer (r .cleared);
+      lent = [];
+      marks = ms;
+      crossings = [];
+    }
+
+-- Withdraw: ready off; number 8.
+abbrev pub withdrawn : CnNmtStateMachine → CnNmtStateMachine
+withdrawn m = Nmt.with m (m .«current_state») (m .«ready_to_operate_enabled») false
+
+abbrev pub withdrawTests : Plain → List Test
+withdrawTests p = must (not (sameState (p .nmt .«current_state») NmtReadyToOperate)) ReadyToOperate ∷ []
+
+-- Heard: numbers 3, 5 and 7.
+abbrev pub heardTests : ℕ → ℕ → List WatchedNode → List Test
+heardTests n t ws =
+    must (wellFormed ws) WatchedNodes ∷ must (inTime t) TimeLimit ∷ must (isWatched n ws) NotWatched ∷ []
+
+-- "Hand out the oldest entry": the first of the queue, or "none".
+abbrev pub handOutStep : Plain → Step
+handOutStep p = answers (withQueue p (rest (p .queue))) (handOutAnswer (nth (p .queue) 0)) []
+
+-- "A load names the values that it sets (cycle and tolerance also to missing) and leaves the others"
+abbrev pub updatedByte : ℕ → ByteUpdate → ℕ
+updatedByte old (byte.Set n) = n
+updatedByte old byte.Keep = old
+
+abbrev pub updatedCounter : ℕ → CounterUpdate → ℕ
+updatedCounter old (counter.Set n) = n
+updatedCounter old counter.Keep = old
+
+abbrev pub updatedObject : ObjectValue → ObjectUpdate → ObjectValue
+updatedObject old (object.Set v) = v
+updatedObject old object.Keep = old
+
+unfoldable pub updated : Dictionary → DictionaryUpdate → Dictionary
+updated o u =
+    record {
+      «error_register» = updatedByte (o .«error_register») (u .«error_register»);
+      «cycle_time» = updatedObject (o .«cycle_time») (u .«cycle_time»);
+      tolerance = updatedObject (o .tolerance) (u .tolerance);
+      «counter_1» = updatedCounter (o .«counter_1») (u .«counter_1»);
+      «counter_2» = updatedCounter (o .«counter_2») (u .«counter_2»);
+      «counter_3» = updatedCounter (o .«counter_3») (u .«counter_3»);
+      «counter_5» = updatedCounter (o .«counter_5») (u .«counter_5»);
+    }
+
+-- "of a longer history the newest 254 are taken"
+abbrev pub updatedHistory : List ErrorEntry → HistoryUpdate → List ErrorEntry
+updatedHistory old (set l) = take 254 l
+updatedHistory old keep = old
+
+-- "0x1006 cycle and 0x1C14 tolerance in ns, either of which may be missing (then 0 and 100,000)"
+abbrev pub valueOr : ℕ → ObjectValue → ℕ
+valueOr none (Unsigned32 n) = n
+valueOr none Missing = none
+
+abbrev pub cycleOf : Dictionary → ℕ
+cycleOf o = valueOr 0 (o .«cycle_time»)
+
+abbrev pub toleranceOf : Dictionary → ℕ
+toleranceOf o = valueOr 100000 (o .tolerance)
+
+-- "limit = cycle + tolerance/1000 rounded down"
+abbrev pub limitOf : Dictionary → ℕ
+limitOf o = cycleOf o + toleranceOf o / 1000
+
+-- "Arm takes an SoC time and sets the last SoC time; with cycle above 0 the check goes on and the deadline is that
+-- time + limit, with cycle 0 the check is off and no deadline stands."
+unfoldable pub armed : SocWatch → Dictionary → ℕ → SocWatch
+armed s o t =
+    pick (ltb 0 (cycleOf o))
+    (socWatch t true (At (t + limitOf o)) (s .«error_status_changed»))
+    (socWatch t false Nothing (s .«error_status_changed»))
+
+-- what the plain head does at a call
+abbrev pub step : Plain → Call → Step
+step p (nmtEvent n) = nmtStep p (readEvent n)
+step p (dllEvent n expected) = dllStep p expected (readCsEvent n)
+step p (error kind a b) = errorStep p (readError kind a b)
+step p cycleComplete = cycleTaken p (completed (p .errors)) (cycleMarks (p .errors))
+step p withdraw = tried (withdrawTests p) (declines p []) (answers (withNmt p (withdrawn (p .nmt))) taken [])
+step p (heard n t ws) = tried (heardTests n t ws) (declines p ws) (answers p taken (heardAt n t ws))
+step p handOut = handOutStep p
+step p (load values h) = answers (withValues p (updated (p .od) values) (updatedHistory (p .history) h)) taken []
+step p (arm t) = tried (must (inTime t) TimeLimit ∷ []) (declines p []) (answers (withSoc p (armed (p .soc) (p .od) t)) taken [])
+
+-- a list of calls, each on the head that the last one left: the head after it
+unfoldable pub run : Plain → List Call → Plain
+run p [] = p
+run p (c ∷ cs) = run (step p c .head) cs
+
+-- and what each answered, with what it left of what it was lent
+pub record Said : Type 0 where
+  pub answer : Answer
+  pub lent : List WatchedNode
+
+unfoldable pub said : Plain → List Call → List Said
+said p [] = []
+said p (c ∷ cs) = record { answer = step p c .answer; lent = step p c .lent } ∷ said (step p c .head) cs
