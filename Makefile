@@ -1,6 +1,7 @@
-# make run      prints a node's start-up
+# make run      drives a node by a short call script and prints what each call answers
 # make test     every check; the last line is 'N passed, 0 failed'
-# make compare  builds the original Rust and compares it with the stored outputs (needs cargo and the Rust source)
+# make compare  builds the original Rust and compares it with the stored outputs, and our node with it at a million generated calls
+#               (needs cargo and the Rust source)
 # make compare-oracle  replays and generates call scripts on the original Rust (the same needs)
 
 SHELL := bash
@@ -9,20 +10,23 @@ SHELL := bash
 
 run:
 	@mkdir -p target
-	@echo "Proving the program and what it uses (a minute or two the first time)."
-	@rt check startup 2>&1 | tee target/run.log | grep '^rt: .* proved' || { cat target/run.log; exit 1; }
-	@target/bin/startup
+	@echo "Proving the node and the program that drives it (some minutes the first time)."
+	@rt check replay 2>&1 | tee target/run.log | grep '^rt: .* proved' || { cat target/run.log; exit 1; }
+	@scripts/run.sh scripts/run.txt
 
 test:
 	@echo "Checking the layout of every .rt and .antt file."
 	@rt fmt --check
 	@echo "Checking public contracts and the documents' references."
 	@sh tests/documents.sh
+	@echo "Checking the script that replay is run on."
+	@compare/without_ticks.sh --check
 	@echo "Proving every crate, trying the must-fail edits, running the programs (some minutes)."
 	@rt ci
 
 compare:
 	@compare/run.sh
+	@compare/replay.sh
 
 compare-oracle:
 	@compare/oracle.sh

@@ -11,14 +11,14 @@ oracle="$root/target/compare/cargo/release/oracle"
 work="$root/target/compare/generated"
 mkdir -p "$work"
 
-# The first line of a stored generated script names its seed and length.
+# The first line of a stored generated script says with which words it was made.
 for script in "$here"/scripts/generated-*.txt; do
     name=$(basename "$script")
-    read -r seed length < <(sed -n '1s/^# Generated: oracle generate \([0-9]*\) \([0-9]*\)\..*/\1 \2/p' "$script")
-    if "$oracle" generate "$seed" "$length" 2>/dev/null | cmp -s - <(tail -n +2 "$script"); then
-        echo "$name: the generator gives it again from seed $seed."
+    read -ra words < <(sed -n '1s/^# Generated: oracle \(generate [^.]*\)\..*/\1/p' "$script")
+    if "$oracle" "${words[@]}" 2>/dev/null | cmp -s - <(tail -n +2 "$script"); then
+        echo "$name: the generator gives it again by '${words[*]}'."
     else
-        echo "$name: the generator gives another script from seed $seed." >&2
+        echo "$name: the generator gives another script by '${words[*]}'." >&2
         exit 1
     fi
 done

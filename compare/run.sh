@@ -25,7 +25,7 @@ hold() {
 
 mode=${1:-}
 "$here/build.sh"
-for driver in startup readings transitions counting entry_bytes; do
+for driver in readings transitions counting entry_bytes; do
     printed="$root/target/compare/$driver.out"
     "$programs/$driver" >"$printed"
     hold "$driver" "$printed" "crates/$driver/stdout"
@@ -36,4 +36,9 @@ for script in "$here"/scripts/*.txt; do
     "$programs/oracle" replay <"$script" >"$printed"
     hold "$name" "$printed" "compare/scripts/$name.out"
 done
+# The scripts as `rt ci` gives them to `replay`.
+"$here/without_ticks.sh" "${mode:---check}"
+printed="$root/target/compare/replay.out"
+"$programs/oracle" replay <"$root/crates/replay/stdin" >"$printed"
+hold replay "$printed" crates/replay/stdout
 exit $failed

@@ -3,6 +3,14 @@
 use crate::view::{COUNTER_NAMES, View};
 use std::io::{self, Write};
 
+/// Whether a script has ticks.
+#[derive(Debug, Clone, Copy, Default, PartialEq, Eq)]
+pub enum Ticks {
+    #[default]
+    With,
+    Without,
+}
+
 /// One line of a script and what the head made of it.
 pub struct Step<'a> {
     pub line: &'a str,
@@ -150,6 +158,7 @@ const MINIMA: Minima = Minima {
 /// The counts of one script.
 #[derive(Debug, Clone, Default)]
 pub struct Coverage {
+    script: Ticks,
     calls: [u64; 13],
     /// By the number of the refusal, from 1; place 0 counts accepted calls.
     refusals: [[u64; 9]; 13],
@@ -219,6 +228,13 @@ pub fn limit(view: &View) -> u64 {
 }
 
 impl Coverage {
+    pub fn new(script: Ticks) -> Self {
+        Self {
+            script,
+            ..Self::default()
+        }
+    }
+
     pub fn total_calls(&self) -> u64 {
         self.calls.iter().sum()
     }
@@ -421,6 +437,8 @@ struct Count {
     name: String,
     count: u64,
     minimum: u64,
+    /// Whether a tick is needed to reach it.
+    by_tick: bool,
 }
 
 fn counted(name: impl Into<String>, count: u64, minimum: u64) -> Count {
@@ -428,12 +446,31 @@ fn counted(name: impl Into<String>, count: u64, minimum: u64) -> Count {
         name: name.into(),
         count,
         minimum,
+        by_tick: false,
     }
+}
+
+/// Counts that a tick is needed to reach.
+fn by_tick(mut counts: Vec<Count>) -> Vec<Count> {
+    counts.iter_mut().for_each(|count| count.by_tick = true);
+    counts
 }
 
 /// The report and the shortfalls are made of the same groups, so that neither leaves out what the other has.
 impl Coverage {
+    /// The groups, without what needs a tick if the script has none.
     fn groups(&self) -> Vec<(&'static str, Vec<Count>)> {
+        let mut groups = self.all_groups();
+        if self.script == Ticks::Without {
+            for (_, counts) in &mut groups {
+                counts.retain(|count| !count.by_tick);
+            }
+            groups.retain(|(_, counts)| !counts.is_empty());
+        }
+        groups
+    }
+
+    fn all_groups(&self) -> Vec<(&'static str, Vec<Count>)> {
         vec![
             ("Calls", self.call_counts()),
             ("Lines that are no call", self.line_counts()),
@@ -441,22 +478,25 @@ impl Coverage {
             ("Refusals", self.refusal_counts()),
             ("Errors given to the counters, by kind", self.error_counts()),
             ("Crossings", self.crossing_counts()),
-            ("Ticks", named(&TICKS, &self.ticks, MINIMA.tick)),
+            ("Ticks", by_tick(named(&TICKS, &self.ticks, MINIMA.tick))),
             (
                 "Bounds in ticks",
-                named(&BOUNDS, &self.bounds, MINIMA.bound),
+                by_tick(named(&BOUNDS, &self.bounds, MINIMA.bound)),
             ),
-            ("Watched nodes in ticks", self.heartbeat_counts()),
+            ("Watched nodes in ticks", by_tick(self.heartbeat_counts())),
             ("Entries", self.entry_counts()),
             (
                 "Counters wrapped from the top",
-                named(&COUNTERS, &self.wraps, MINIMA.wrap),
+                by_tick(named(&COUNTERS, &self.wraps, MINIMA.wrap)),
             ),
         ]
     }
 
     fn call_counts(&self) -> Vec<Count> {
         let mut counts = named(&CALLS, &self.calls, MINIMA.call);
+        for count in &mut counts {
+            count.by_tick = count.name == "tick";
+        }
         counts.push(counted(
             "cycle that cleared the last level",
             self.cleared,
@@ -488,11 +528,17 @@ impl Coverage {
     }
 
     fn refusal_counts(&self) -> Vec<Count> {
-        let of_number = |n| counted(format!("number {n}"), self.refused(n), MINIMA.refusal);
+        let of_number = |n| Count {
+            by_tick: n == 6,
+            ..counted(format!("number {n}"), self.refused(n), MINIMA.refusal)
+        };
         let of_call = |(call, n): &(&str, u8)| {
             let place = CALLS.iter().position(|c| c == call).unwrap_or(0);
             let count = self.refusals[place][usize::from(*n)];
-            counted(format!("{call} refused {n}"), count, MINIMA.refusal)
+            Count {
+                by_tick: *call == "tick",
+                ..counted(format!("{call} refused {n}"), count, MINIMA.refusal)
+            }
         };
         (1..=8)
             .map(of_number)
@@ -510,7 +556,10 @@ impl Coverage {
     fn crossing_counts(&self) -> Vec<Count> {
         let in_tick = |kind: usize| {
             let name = format!("{} in a tick", COUNTER_NAMES[kind]);
-            counted(name, self.crossings_in_ticks[kind], MINIMA.crossing)
+            Count {
+                by_tick: true,
+                ..counted(name, self.crossings_in_ticks[kind], MINIMA.crossing)
+            }
         };
         let mut counts = named(&COUNTER_NAMES, &self.crossings, MINIMA.crossing);
         counts.extend(TICK_KINDS.into_iter().map(in_tick));
@@ -537,7 +586,7 @@ impl Coverage {
 
     fn entry_counts(&self) -> Vec<Count> {
         let no_places = self.dropped_without_places;
-        vec![
+        let mut counts = by_tick(vec![
             counted("kept", self.kept, MINIMA.entry),
             counted("dropped", self.dropped, MINIMA.entry),
             counted("dropped, queue of 0", no_places, MINIMA.entry),
@@ -547,13 +596,14 @@ impl Coverage {
                 MINIMA.entry,
             ),
             counted("handed out", self.handed_out, MINIMA.entry),
-            counted("none to hand out", self.handed_none, MINIMA.entry),
             counted(
                 "kept with 254 in the history",
                 self.history_past,
                 MINIMA.history_past,
             ),
-        ]
+        ]);
+        counts.push(counted("none to hand out", self.handed_none, MINIMA.entry));
+        counts
     }
 
     /// Each state and event, with the flags that a head can have there.
@@ -623,6 +673,7 @@ impl Coverage {
                     name,
                     count,
                     minimum,
+                    ..
                 } = count;
                 short.push(format!(
                     "{title}, {name}: {count}, at least {minimum} wanted"

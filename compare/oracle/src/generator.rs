@@ -3,7 +3,8 @@
 //! deadline, a level of 14, a full queue.
 
 use crate::coverage::{
-    BASIC_ETHERNET, CYCLIC, Coverage, NOT_ACTIVE, PRE_OPERATIONAL_2, READY_TO_OPERATE, Step, limit,
+    BASIC_ETHERNET, CYCLIC, Coverage, NOT_ACTIVE, PRE_OPERATIONAL_2, READY_TO_OPERATE, Step, Ticks,
+    limit,
 };
 use crate::view::{Driven, View};
 use std::io::{self, Write};
@@ -90,13 +91,15 @@ pub fn generate(
     head: &mut dyn Driven,
     seed: u64,
     calls: u64,
+    ticks: Ticks,
     out: &mut dyn Write,
 ) -> io::Result<Coverage> {
     let mut script = Script {
         head,
         out,
         random: Random(seed),
-        coverage: Coverage::default(),
+        coverage: Coverage::new(ticks),
+        ticks,
         now: 0,
     };
     script.before_the_first_start()?;
@@ -112,6 +115,7 @@ struct Script<'a> {
     out: &'a mut dyn Write,
     random: Random,
     coverage: Coverage,
+    ticks: Ticks,
     /// The time of the script: most calls are made at it or soon after.
     now: u64,
 }
@@ -120,6 +124,9 @@ struct Script<'a> {
 impl Script<'_> {
     /// Writes a line and gives it to the head.
     fn give(&mut self, line: &str) -> io::Result<()> {
+        if self.ticks == Ticks::Without && line.split(' ').next() == Some("tick") {
+            return Ok(());
+        }
         writeln!(self.out, "{line}")?;
         let before = self.head.view();
         let lent = if line.starts_with("tick") {
@@ -199,7 +206,27 @@ impl Script<'_> {
         if time < TOP / 2 {
             self.now = self.now.max(time);
         }
-        self.call1("tick", time)
+        match self.ticks {
+            Ticks::With => self.call1("tick", time),
+            Ticks::Without => self.instead_of_a_tick(time),
+        }
+    }
+
+    /// Another call at the time of a tick that is left out.
+    fn instead_of_a_tick(&mut self, time: u64) -> io::Result<()> {
+        let run = self.head.watched();
+        match self.random.below(5) {
+            0 => self.call1("arm", time),
+            1 | 2 if !run.is_empty() => {
+                let (node, _, _) = self.random.pick(&run);
+                self.call2("heard", u64::from(node), time)
+            }
+            3 => {
+                let kind = self.random.pick(&THRESHOLD_KINDS);
+                self.error(kind)
+            }
+            _ => self.call("cycle"),
+        }
     }
 
     /// The script's time, a little later than it was.

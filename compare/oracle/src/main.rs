@@ -5,6 +5,7 @@
 //!     oracle restore < SCRIPT      the script again, with loads of what its resets restored
 //!     oracle panics < SCRIPT       how many ticks number 6 refused; the original panics at each
 //!     oracle generate SEED CALLS   a generated script; its coverage on standard error
+//!     oracle generate SEED CALLS without-ticks   the same of the other calls
 
 mod coverage;
 mod dictionary;
@@ -22,6 +23,7 @@ mod oracle;
 mod script;
 mod view;
 
+use coverage::Ticks;
 use dictionary::Defaults;
 use oracle::Oracle;
 use std::io::{self, BufWriter, Read, Write};
@@ -30,8 +32,7 @@ use std::process::ExitCode;
 /// The number of calls that the minima of coverage.rs are made for.
 const LONG: u64 = 200_000;
 
-const USAGE: &str =
-    "usage: oracle [replay | restore | panics] < SCRIPT, or oracle generate SEED CALLS";
+const USAGE: &str = "usage: oracle [replay | restore | panics] < SCRIPT, or oracle generate SEED CALLS [without-ticks]";
 
 fn main() -> ExitCode {
     let arguments: Vec<String> = std::env::args().skip(1).collect();
@@ -41,7 +42,10 @@ fn main() -> ExitCode {
         [] | ["replay"] => script().and_then(|script| modes::replay(&script, &mut out)),
         ["restore"] => script().and_then(|script| modes::restore(&script, &mut out)),
         ["panics"] => script().and_then(|script| modes::panics(&script, &mut out)),
-        ["generate", seed, calls] => generate(seed, calls, &mut out),
+        ["generate", seed, calls] => generate(seed, calls, Ticks::With, &mut out),
+        ["generate", seed, calls, "without-ticks"] => {
+            generate(seed, calls, Ticks::Without, &mut out)
+        }
         _ => Err(io::Error::other(USAGE)),
     };
     match done.and_then(|()| out.flush()) {
@@ -59,12 +63,12 @@ fn script() -> io::Result<Vec<u8>> {
     Ok(script)
 }
 
-fn generate(seed: &str, calls: &str, out: &mut dyn Write) -> io::Result<()> {
+fn generate(seed: &str, calls: &str, ticks: Ticks, out: &mut dyn Write) -> io::Result<()> {
     let (Ok(seed), Ok(calls)) = (seed.parse(), calls.parse()) else {
         return Err(io::Error::other(USAGE));
     };
     let mut head = Oracle::new(Defaults::Without);
-    let coverage = generator::generate(&mut head, seed, calls, out)?;
+    let coverage = generator::generate(&mut head, seed, calls, ticks, out)?;
     let mut errors = io::stderr().lock();
     coverage.report(&mut errors)?;
     // The minima are those of a long script; a short one can't meet them all.

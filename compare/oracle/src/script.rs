@@ -55,12 +55,16 @@ pub enum Line {
     Call(Call),
 }
 
+const LONGEST_LINE: usize = 16_384;
 const LONGEST_HISTORY: usize = 300;
 
 /// What a line says; none: it is unreadable.
 pub fn read(line: &[u8]) -> Option<Line> {
     if line.is_empty() || line.starts_with(b"#") {
         return Some(Line::Passed);
+    }
+    if line.len() > LONGEST_LINE {
+        return None;
     }
     let mut words = Words { rest: Some(line) };
     let read = match words.next()? {

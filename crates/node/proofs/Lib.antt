@@ -2,3 +2,4 @@ pub mod Laws
 pub mod Nodes
 pub mod Lent
 pub mod Fixed
+pub mod Links

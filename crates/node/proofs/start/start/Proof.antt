@@ -1,6 +1,7 @@
 -- `node::start::start` meets its contract: numbers 1, 2 and 3 in this order, then the fresh head.
 -- Assumes nothing.
 use mathlib.Core.Path.{sym, _∙_}
+use native.Mathlib.Omega.{arith}
 use borrow.Author.Needs.{needs}
 use Rattle.node.proofs.Nodes.{not-true, not-false}
 use Rattle.node.proofs.Lent.{few, start-no-node, start-no-room, start-unformed, start-taken}
@@ -33,7 +34,8 @@ start-spec =
     (λ c κs.
     let f = c .before .before in
     let w = f .before .before .before .before .before .before .before .args .watched in
-    few (w .nodes) (w .count) (f .well-formed .result) (f .well-formed .ensures .0) (not-false (f .well-formed .result) (c .before .if2 .left)))
+    let k = few (w .nodes) (w .count) (f .well-formed .result) (f .well-formed .ensures .0) (not-false (f .well-formed .result) (c .before .if2 .left)) in
+    omega (arith, k))
     (λ c. search needs)
     (λ c κs. search needs)
     (λ c.

@@ -1,0 +1,63 @@
+-- A list of calls, each of which refines the plain head's: the claim follows.
+-- Assumes nothing.
+use Prim.Native.Nat.{ℕ}
+use mathlib.Core.Path.{_≡_, refl, ap, ap₂, _∙_}
+use mathlib.Core.List.{List, [], _∷_}
+use native.Mathlib.Omega.{arith}
+use Rattle.node.specs.declared.state.Head.{Head}
+use Rattle.node.specs.declared.watched.WatchedNode.{WatchedNode}
+use Rattle.node.specs.Watched.{unheard}
+use Rattle.node.specs.Plain.{Plain, Call, Answer, Start, begins, declined, FirstStep}
+use Rattle.node.specs.Steps.{fresh, startTests, started, run, Said, said}
+use Rattle.node.specs.Refines.{plain, Left, Refines}
+use Rattle.trace.specs.Claim.{Claim}
+use Rattle.trace.proofs.Shares.{tried-by}
+use Rattle.trace.proofs.Keeps.{claimed}
+
+abbrev pub saying : Answer → List WatchedNode → Said
+saying a l = record { answer = a; lent = l }
+
+-- the head, its queue's bytes and its history's bytes before the calls; the calls; what they said; the three after them
+pub data Follows : Head → List ℕ → List ℕ → List Call → List Said → Head → List ℕ → List ℕ → Type 0 where
+  finished : {h : Head} {q m : List ℕ} → Follows h q m [] [] h q m
+  next :
+      {h h′ : Head} {q m q₁ m₁ q′ m′ : List ℕ} {c : Call} {o : Left} {l : List WatchedNode} {cs : List Call} {says : List Said} →
+      Refines h q m c o q₁ m₁ l →
+      Follows (o .head) q₁ m₁ cs says h′ q′ m′ →
+      Follows h q m (c ∷ cs) (saying (o .answer) l ∷ says) h′ q′ m′
+
+pub follows-run :
+    {h h′ : Head} {q m q′ m′ : List ℕ} {cs : List Call} {says : List Said} →
+    Follows h q m cs says h′ q′ m′ →
+    plain h′ q′ m′ ≡ run (plain h q m) cs
+unfolding run
+follows-run finished = refl
+follows-run (next {cs = cs} r f) = follows-run f ∙ ap (λ (p : Plain). run p cs) (r .head)
+
+pub follows-said :
+    {h h′ : Head} {q m q′ m′ : List ℕ} {cs : List Call} {says : List Said} →
+    Follows h q m cs says h′ q′ m′ →
+    says ≡ said (plain h q m) cs
+unfolding said
+follows-said finished = refl
+follows-said (next {cs = cs} r f) =
+    ap₂ (λ (s : Said) (l : List Said). s ∷ l) (ap₂ saying (r .answer) (r .lent))
+    (follows-said f ∙ ap (λ (p : Plain). said p cs) (r .head))
+
+-- a plain start that begins, begins with a fresh plain head
+pub begins-fresh : (s : Start) (p : Plain) → begins p ≡ started s .begun → p ≡ fresh s
+unfolding started
+begins-fresh s p =
+    tried-by (λ (f : FirstStep). begins p ≡ f .begun → p ≡ fresh s) (startTests s)
+    (λ r. record { begun = declined r; lent = s .watched }) (record { begun = begins (fresh s); lent = unheard (s .watched) })
+    (λ r e. absurd (let z : _≡_ {A = ℕ} 0 1 = cc in let f : ⊥ = omega arith in f)) (λ e. cc)
+
+-- from a head that stands for the fresh plain head of a start
+pub followed :
+    {h₀ h : Head} {q₀ m₀ q m : List ℕ} {cs : List Call} {says : List Said} (s : Start) →
+    plain h₀ q₀ m₀ ≡ fresh s →
+    Follows h₀ q₀ m₀ cs says h q m →
+    Claim s cs says h q m
+followed {h₀} {h} {q₀} {m₀} {q} {m} {cs} {says} s e f =
+    claimed s cs says h q m (follows-run f ∙ ap (λ (p : Plain). run p cs) e)
+    (follows-said f ∙ ap (λ (p : Plain). said p cs) e)

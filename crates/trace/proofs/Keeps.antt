@@ -1,0 +1,116 @@
+-- What every call keeps, so that a list of calls keeps it, and the claim that follows from it.
+-- Assumes nothing.
+use Prim.Native.Nat.{ℕ, _+_, _≤_}
+use mathlib.Core.Path.{_≡_, refl, sym, subst}
+use mathlib.Core.Bool.{Bool, true, false}
+use mathlib.Core.List.{List, [], _∷_, _++_}
+use native.Mathlib.Omega.{arith}
+use lib.Dec.{lit<, lit≤}
+use lib.ListN.{length, length-append}
+use Rattle.types.specs.Pick.{either}
+use Rattle.counters.specs.Counters.{counter, newCounter, top}
+use Rattle.counters.specs.Marks.{isCrossed, level, N}
+use Rattle.counters.specs.declared.counters.CounterKind.{CounterKind}
+use Rattle.counters.proofs.ByKind.{counter-new}
+use Rattle.counters.proofs.Balance.{Balanced, balanced-none, balanced-then, FromZero, from-zero, count-append}
+use Rattle.node.specs.declared.state.Head.{Head}
+use Rattle.node.specs.Plain.{Plain, Call, Start, Step}
+use Rattle.node.specs.Steps.{fresh, step, run, Said, said}
+use Rattle.node.specs.Refines.{plain}
+use Rattle.trace.specs.Tally.{Tally, noted, nothing, tally, droppedBy, loadsCounter3}
+use Rattle.trace.specs.Claim.{Merge, empty, Each, counted, Claim}
+use Rattle.trace.proofs.Modes.{mode, mode-ready}
+use Rattle.trace.proofs.Queues.{merge-queued}
+use Rattle.trace.proofs.Counts.{Rises, rises-none, rises-then}
+use Rattle.trace.proofs.Shares.{Shares, shares, rule}
+
+-- of the head p and what was counted since a start at which counter 3 was lost₀
+pub record Kept (lost₀ : ℕ) (p : Plain) (z : Tally) : Type 0 where
+  pub told : mode (p .nmt) (z .told) ≡ true
+  pub balance : (k : CounterKind) → Balanced 15 k (newCounter 15) (z .marks) (counter k (p .errors))
+  pub count : (k : CounterKind) → Rises 0 (N k (z .marks)) (counter k (p .errors) .«cumulative_cnt»)
+  pub entries : Merge (z .crossings) (z .handed ++ p .queue) (z .dropped)
+  pub lost :
+      z .loaded ≡ false →
+      lost₀ + length (z .dropped) ≤ top →
+      p .od .«counter_3» ≡ lost₀ + length (z .dropped)
+
+either-first : (a b : Bool) → either a b ≡ false → a ≡ false
+either-first true b h = h
+either-first false b h = refl
+
+either-second : (a b : Bool) → either a b ≡ false → b ≡ false
+either-second true true h = h
+either-second true false h = refl
+either-second false b h = h
+
+-- a call that does its share keeps it all
+pub kept-by :
+    (lost₀ : ℕ) (p : Plain) (z : Tally) (c : Call) (t : Step) →
+    Shares p c t →
+    Kept lost₀ p z →
+    Kept lost₀ (t .head) (noted p c t z)
+kept-by lost₀ p z c t s i =
+    record {
+      told = s .told (z .told) (i .told);
+      balance = λ k. balanced-then (i .balance k) (s .counts .balance k (i .balance k .kept));
+      count = λ k. rw (count-append (isCrossed k) (z .marks) (t .marks)) (rises-then (i .count k) (s .counts .count k));
+      entries = merge-queued (z .crossings) (z .handed) (z .dropped) (s .queue) (i .entries);
+      lost =
+          λ l b.
+          let n = length-append (z .dropped) (droppedBy p (t .crossings)) in
+          let h = i .lost (either-first (z .loaded) (loadsCounter3 c) l) (omega arith) in
+          let g = s .lost (either-second (z .loaded) (loadsCounter3 c) l) (omega arith) in
+          omega arith;
+    }
+
+-- and so does a list of calls
+pub keeps-all :
+    (lost₀ : ℕ) (p : Plain) (z : Tally) (cs : List Call) → Kept lost₀ p z → Kept lost₀ (run p cs) (tally p cs z)
+unfolding run tally
+keeps-all lost₀ p z [] i = i
+keeps-all lost₀ p z (c ∷ cs) i =
+    keeps-all lost₀ (step p c .head) (noted p c (step p c) z) cs (kept-by lost₀ p z c (step p c) (shares p c) i)
+
+-- a fresh head
+pub starts : (s : Start) → Kept (s .od .«counter_3») (fresh s) nothing
+unfolding fresh
+starts s =
+    record {
+      told = refl;
+      balance = λ k. rw (counter-new k) (balanced-none 15 k (newCounter 15) refl);
+      count = λ k. rw (counter-new k) (rises-none 0);
+      entries = empty;
+      lost = λ l b. omega arith;
+    }
+
+pub each : (p : Plain) (cs : List Call) → Each p cs
+unfolding Each
+each p [] = tt
+each p (c ∷ cs) = (rule p c, each (step p c .head) cs)
+
+-- the claim, of a head that is as the plain head's list leaves it, and answers that are the plain head's
+pub claimed :
+    (s : Start) (cs : List Call) (says : List Said) (h : Head) (q m : List ℕ) →
+    plain h q m ≡ run (fresh s) cs →
+    says ≡ said (fresh s) cs →
+    Claim s cs says h q m
+claimed s cs says h q m alike answered =
+    let k : Kept (s .od .«counter_3») (plain h q m) (counted s cs) =
+    subst (λ (p : Plain). Kept (s .od .«counter_3») p (counted s cs)) (sym alike)
+    (keeps-all (s .od .«counter_3») (fresh s) nothing cs (starts s))
+    in
+    record {
+      alike = alike;
+      answered = answered;
+      asked = λ r. mode-ready (h .nmt) (counted s cs .told) (k .told) r .0;
+      word = λ r. mode-ready (h .nmt) (counted s cs .told) (k .told) r .1;
+      balance =
+          λ j.
+          let z : FromZero 15 j (counted s cs .marks) (level j (h .errors)) = from-zero (lit< tt) (lit≤ tt) refl (k .balance j) in
+          record { low = z .low; high = z .high };
+      crossed = λ j b. let r = k .count j .risen b in omega arith;
+      entries = k .entries;
+      each = each (fresh s) cs;
+      lost = k .lost;
+    }

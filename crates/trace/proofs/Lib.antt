@@ -1,0 +1,10 @@
+pub mod Modes
+pub mod Queues
+pub mod Counts
+pub mod Shares
+pub mod Keeps
+pub mod Follows
+pub mod Turning
+pub mod Replays
+pub mod Driven
+pub mod Worked

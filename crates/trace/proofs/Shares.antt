@@ -1,0 +1,253 @@
+-- What a call owes to the claim, its share, and the share of each call.
+-- Assumes nothing.
+use Prim.Native.Nat.{ℕ, _+_, _%_, _≤_}
+use mathlib.Core.Path.{_≡_, refl, ap₂, _∙_}
+use mathlib.Core.Bool.{Bool, true, false, not}
+use mathlib.Core.List.{List, [], _∷_, _++_}
+use native.Mathlib.Omega.{arith}
+use borrow.Author.Tests.{leb-true, leb-false}
+use lib.ListN.{length}
+use Rattle.types.specs.Pick.{pick}
+use Rattle.types.specs.States.{sameState}
+use Rattle.types.specs.Events.{readEvent}
+use Rattle.types.specs.CsEvents.{readCsEvent}
+use Rattle.types.specs.Errors.{readError}
+use Rattle.types.specs.declared.refusals.Refusal.{Refusal}
+use Rattle.types.specs.declared.refusals.Refusal.the-variants.{ReadyToOperate, TimeLimit}
+use Rattle.types.specs.declared.nmt.states.NmtState.the-variants.{NmtReadyToOperate}
+use Rattle.types.specs.declared.nmt.events.NmtEventRead.{NmtEventRead}
+use Rattle.types.specs.declared.nmt.events.NmtEventRead.the-variants as event
+use Rattle.types.specs.declared.frame.cs_state_machine.DllCsEventRead.{DllCsEventRead}
+use Rattle.types.specs.declared.frame.cs_state_machine.DllCsEventRead.the-variants as cs-event
+use Rattle.types.specs.declared.frame.error.types.DllErrorRead.{DllErrorRead}
+use Rattle.types.specs.declared.frame.error.types.DllErrorRead.the-variants as error-read
+use Rattle.counters.specs.Counters.{top}
+use Rattle.entries.specs.Ring.{nth, rest}
+use Rattle.entries.specs.declared.status_response.ErrorEntry.{ErrorEntry}
+use Rattle.entries.specs.declared.status_response.FoundEntry.the-variants.{None}
+use Rattle.node.specs.declared.load.CounterUpdate.{CounterUpdate}
+use Rattle.node.specs.declared.load.CounterUpdate.the-variants.{Set, Keep}
+use Rattle.node.specs.declared.load.DictionaryUpdate.{DictionaryUpdate}
+use Rattle.node.specs.declared.watched.WatchedNode.{WatchedNode}
+use Rattle.node.specs.Watched.{inTime, heardAt}
+use Rattle.node.specs.Plain.{Plain, HistoryUpdate, Call, nmtEvent, dllEvent, error, cycleComplete, withdraw, heard, handOut, load, arm, taken, handOutAnswer, Step}
+use Rattle.node.specs.Steps.{Test, must, tried, answers, declines, withNmt, withSoc, nmtStep, dllStep, errorStep, withdrawn, heardTests, updatedCounter, updated, armed, step}
+use Rattle.trace.specs.Tally.{Told, toldAt, handedBy, droppedBy, isFull, isSet, loadsCounter3}
+use Rattle.trace.specs.Claim.{Queued, still, kept, dropped, handed, Rule}
+use Rattle.trace.proofs.Modes.{mode, mode-event, mode-withdraw}
+use Rattle.trace.proofs.Counts.{Counting, counting-none, counting-handled, counting-completed}
+
+-- the mode's share, the queue's, the counters' and counter 3's
+abbrev pub ModeShare : Plain → Call → Step → Type 0
+ModeShare p c t = (w : Told) → mode (p .nmt) w ≡ true → mode (t .head .nmt) (toldAt p c t w) ≡ true
+
+abbrev pub QueueShare : Plain → Step → Type 0
+QueueShare p t =
+    Queued (p .capacity) (p .queue) (t .crossings) (handedBy (t .answer)) (droppedBy p (t .crossings)) (t .head .queue)
+
+abbrev pub CountShare : Plain → Step → Type 0
+CountShare p t = Counting (p .errors) (t .marks) (t .head .errors)
+
+abbrev pub LostShare : Plain → Call → Step → Type 0
+LostShare p c t =
+    loadsCounter3 c ≡ false →
+    p .od .«counter_3» + length (droppedBy p (t .crossings)) ≤ top →
+    t .head .od .«counter_3» ≡ p .od .«counter_3» + length (droppedBy p (t .crossings))
+
+pub record Shares (p : Plain) (c : Call) (t : Step) : Type 0 where
+  pub told : ModeShare p c t
+  pub queue : QueueShare p t
+  pub counts : CountShare p t
+  pub lost : LostShare p c t
+
+-- A call without a crossing that hands out nothing and leaves the queue and, but for a load, counter 3.
+pub record Quiet (p : Plain) (c : Call) (t : Step) : Type 0 where
+  pub queue : t .head .queue ≡ p .queue
+  pub crossings : t .crossings ≡ []
+  pub handed : handedBy (t .answer) ≡ []
+  pub lost : loadsCounter3 c ≡ false → t .head .od .«counter_3» ≡ p .od .«counter_3»
+
+none-dropped : (b : Bool) → _≡_ {A = List ErrorEntry} (pick b [] []) []
+none-dropped true = refl
+none-dropped false = refl
+
+lost-none : (p : Plain) (c : Call) (t : Step) → t .crossings ≡ [] → (loadsCounter3 c ≡ false → t .head .od .«counter_3» ≡ p .od .«counter_3») → LostShare p c t
+lost-none p c t e h l b = rw (e, none-dropped (isFull p)) (let g = h l in omega arith)
+
+-- what such a call owes besides: its mode, and its counters
+pub quiet : (p : Plain) (c : Call) (t : Step) → Quiet p c t → ModeShare p c t → CountShare p t → Shares p c t
+quiet p c t h m n =
+    record {
+      told = m;
+      queue = rw (h .crossings, h .handed, h .queue, none-dropped (isFull p)) still;
+      counts = n;
+      lost = lost-none p c t (h .crossings) (h .lost);
+    }
+
+-- A call with one crossing: its entry waits behind the others, or is dropped with the queue full and counter 3 rises, which
+-- goes from its top to 0.
+pub crossed-queue :
+    (p : Plain) (e : ErrorEntry) →
+    Queued (p .capacity) (p .queue) (e ∷ []) [] (droppedBy p (e ∷ [])) (pick (isFull p) (p .queue) (p .queue ++ (e ∷ [])))
+crossed-queue p e = by (isFull p) refl
+  where
+    by :
+        (b : Bool) →
+        isFull p ≡ b →
+        Queued (p .capacity) (p .queue) (e ∷ []) [] (pick b (e ∷ []) []) (pick b (p .queue) (p .queue ++ (e ∷ [])))
+    by true h = dropped (leb-true (p .capacity) (length (p .queue)) h)
+    by false h = kept (leb-false (p .capacity) (length (p .queue)) h)
+
+pub crossed-lost :
+    (p : Plain) (c : Call) (t : Step) (e : ErrorEntry) →
+    t .crossings ≡ e ∷ [] →
+    t .head .od .«counter_3» ≡ pick (isFull p) ((p .od .«counter_3» + 1) % 4294967296) (p .od .«counter_3») →
+    LostShare p c t
+crossed-lost p c t e x h l = rw (x, h) (by (isFull p))
+  where
+    by :
+        (b : Bool) →
+        p .od .«counter_3» + length (pick b (e ∷ []) []) ≤ top →
+        pick b ((p .od .«counter_3» + 1) % 4294967296) (p .od .«counter_3») ≡ p .od .«counter_3» + length (pick b (e ∷ []) [])
+    by true f = omega arith
+    by false f = omega arith
+
+-- A call that changes neither the NMT machine nor the queue, the counters or counter 3, and tells nothing.
+pub untouched :
+    (p : Plain) (c : Call) (t : Step) →
+    Quiet p c t →
+    t .head .nmt ≡ p .nmt →
+    ((w : Told) → toldAt p c t w ≡ w) →
+    t .head .errors ≡ p .errors →
+    t .marks ≡ [] →
+    Shares p c t
+untouched p c t h m w e n =
+    quiet p c t h (λ v g. ap₂ mode m (w v) ∙ g) (rw (e, n) (counting-none (p .errors)))
+
+-- a declined call
+declined : (p : Plain) (c : Call) (l : List WatchedNode) (r : Refusal) → ((w : Told) → toldAt p c (declines p l r) w ≡ w) → Shares p c (declines p l r)
+declined p c l r w =
+    untouched p c (declines p l r) (record { queue = refl; crossings = refl; handed = refl; lost = λ h. refl }) refl w refl refl
+
+-- what a call declines, and what it takes
+picked : {A : Type 0} (P : A → Type 0) (b : Bool) {x y : A} → P x → P y → P (pick b x y)
+picked P true h g = h
+picked P false h g = g
+
+pub tried-by :
+    {A : Type 0} (P : A → Type 0) (ts : List Test) (refuse : Refusal → A) (accept : A) →
+    ((r : Refusal) → P (refuse r)) → P accept → P (tried ts refuse accept)
+tried-by P [] refuse accept d a = a
+tried-by P (t ∷ ts) refuse accept d a = picked P (t .holds) (tried-by P ts refuse accept d a) (d (t .otherwise))
+
+nmt-shares : (p : Plain) (n : ℕ) (r : NmtEventRead) → readEvent n ≡ r → Shares p (nmtEvent n) (nmtStep p r)
+nmt-shares p n (event.Taken e) h =
+    quiet p (nmtEvent n) (nmtStep p (event.Taken e))
+    (record { queue = refl; crossings = refl; handed = refl; lost = λ l. refl })
+    (λ w g. rw h (mode-event (p .nmt) e w g)) (counting-none (p .errors))
+nmt-shares p n (event.Refused r) h = declined p (nmtEvent n) [] r (λ w. rw h)
+
+dll-shares : (p : Plain) (n : ℕ) (x : Bool) (r : DllCsEventRead) → Shares p (dllEvent n x) (dllStep p x r)
+dll-shares p n x (cs-event.Taken e) =
+    untouched p (dllEvent n x) (dllStep p x (cs-event.Taken e))
+    (record { queue = refl; crossings = refl; handed = refl; lost = λ l. refl }) refl (λ w. refl) refl refl
+dll-shares p n x (cs-event.Refused r) = declined p (dllEvent n x) [] r (λ w. refl)
+
+error-shares : (p : Plain) (k a b : ℕ) (r : DllErrorRead) → Shares p (error k a b) (errorStep p r)
+error-shares p k a b (error-read.Taken e) =
+    quiet p (error k a b) (errorStep p (error-read.Taken e))
+    (record { queue = refl; crossings = refl; handed = refl; lost = λ l. refl }) (λ w g. g)
+    (counting-handled (p .errors) e)
+error-shares p k a b (error-read.Refused r) = declined p (error k a b) [] r (λ w. refl)
+
+cycle-shares : (p : Plain) → Shares p cycleComplete (step p cycleComplete)
+cycle-shares p =
+    quiet p cycleComplete (step p cycleComplete) (record { queue = refl; crossings = refl; handed = refl; lost = λ l. refl })
+    (λ w g. g) (counting-completed (p .errors))
+
+withdraw-shares : (p : Plain) → Shares p withdraw (step p withdraw)
+withdraw-shares p = by (not (sameState (p .nmt .«current_state») NmtReadyToOperate)) refl
+  where
+    by :
+        (b : Bool) →
+        not (sameState (p .nmt .«current_state») NmtReadyToOperate) ≡ b →
+        Shares p withdraw (pick b (answers (withNmt p (withdrawn (p .nmt))) taken []) (declines p [] ReadyToOperate))
+    by true h =
+        quiet p withdraw (answers (withNmt p (withdrawn (p .nmt))) taken [])
+        (record { queue = refl; crossings = refl; handed = refl; lost = λ l. refl })
+        (λ w g. mode-withdraw (p .nmt) w h g) (counting-none (p .errors))
+    by false h = declined p withdraw [] ReadyToOperate (λ w. refl)
+
+heard-shares : (p : Plain) (n t : ℕ) (ws : List WatchedNode) → Shares p (heard n t ws) (step p (heard n t ws))
+heard-shares p n t ws =
+    tried-by (Shares p (heard n t ws)) (heardTests n t ws) (declines p ws) (answers p taken (heardAt n t ws))
+    (λ r. declined p (heard n t ws) ws r (λ w. refl))
+    (untouched p (heard n t ws) (answers p taken (heardAt n t ws))
+    (record { queue = refl; crossings = refl; handed = refl; lost = λ l. refl }) refl (λ w. refl) refl refl)
+
+-- the oldest leaves, or none
+hand-out-queue :
+    (n : ℕ) (q : List ErrorEntry) (b : Bool) → Queued n q [] (handedBy (handOutAnswer (nth q 0))) (pick b [] []) (rest q)
+unfolding nth
+hand-out-queue n [] b = rw (none-dropped b) still
+hand-out-queue n (e ∷ q) b = rw (none-dropped b) handed
+
+hand-out-shares : (p : Plain) → Shares p handOut (step p handOut)
+hand-out-shares p =
+    record {
+      told = λ w g. g;
+      queue = hand-out-queue (p .capacity) (p .queue) (isFull p);
+      counts = counting-none (p .errors);
+      lost = lost-none p handOut (step p handOut) refl (λ l. refl);
+    }
+
+-- a counter that is not loaded stays
+counter-kept : (x : ℕ) (u : CounterUpdate) → isSet u ≡ false → updatedCounter x u ≡ x
+counter-kept x (Set n) h = let z : _≡_ {A = ℕ} 0 1 = cc in absurd (let f : ⊥ = omega arith in f)
+counter-kept x Keep h = refl
+
+load-shares : (p : Plain) (v : DictionaryUpdate) (h : HistoryUpdate) → Shares p (load v h) (step p (load v h))
+unfolding updated
+load-shares p v h =
+    untouched p (load v h) (step p (load v h))
+    (record {
+      queue = refl;
+      crossings = refl;
+      handed = refl;
+      lost = counter-kept (p .od .«counter_3») (v .«counter_3»);
+    })
+    refl (λ w. refl) refl refl
+
+arm-shares : (p : Plain) (t : ℕ) → Shares p (arm t) (step p (arm t))
+arm-shares p t =
+    tried-by (Shares p (arm t)) (must (inTime t) TimeLimit ∷ []) (declines p [])
+    (answers (withSoc p (armed (p .soc) (p .od) t)) taken [])
+    (λ r. declined p (arm t) [] r (λ w. refl))
+    (untouched p (arm t) (answers (withSoc p (armed (p .soc) (p .od) t)) taken [])
+    (record { queue = refl; crossings = refl; handed = refl; lost = λ l. refl }) refl (λ w. refl) refl refl)
+
+-- each call
+pub shares : (p : Plain) (c : Call) → Shares p c (step p c)
+shares p (nmtEvent n) = nmt-shares p n (readEvent n) refl
+shares p (dllEvent n x) = dll-shares p n x (readCsEvent n)
+shares p (error k a b) = error-shares p k a b (readError k a b)
+shares p cycleComplete = cycle-shares p
+shares p withdraw = withdraw-shares p
+shares p (heard n t ws) = heard-shares p n t ws
+shares p handOut = hand-out-shares p
+shares p (load v h) = load-shares p v h
+shares p (arm t) = arm-shares p t
+
+-- "none" is handed out exactly of an empty queue
+none-out :
+    (q : List ErrorEntry) →
+    (handOutAnswer (nth q 0) ≡ handOutAnswer None → q ≡ []) × (q ≡ [] → handOutAnswer (nth q 0) ≡ handOutAnswer None)
+unfolding nth
+none-out [] = (λ h. refl, λ h. refl)
+none-out (e ∷ q) = (
+  λ h. let z : _≡_ {A = ℕ} 0 1 = cc in absurd (let f : ⊥ = omega arith in f),
+  λ h. let z : _≡_ {A = ℕ} 0 1 = cc in absurd (let f : ⊥ = omega arith in f),
+)
+
+pub rule : (p : Plain) (c : Call) → Rule p c
+rule p c = record { queue = shares p c .queue; none = λ h. rw h (none-out (p .queue)) }

@@ -1,0 +1,90 @@
+-- Demand 3: what holds after any list of calls from a fresh head. The demand's sentences stand above the fields.
+-- Assumes nothing.
+use Prim.Native.Nat.{ℕ, _+_, _*_, _<_, _≤_}
+use mathlib.Core.Path.{_≡_}
+use mathlib.Core.Bool.{true, false}
+use mathlib.Core.List.{List, [], _∷_, _++_}
+use lib.ListN.{length}
+use Rattle.types.specs.declared.nmt.states.NmtState.the-variants.{NmtReadyToOperate}
+use Rattle.counters.specs.Counters.{counter, top}
+use Rattle.counters.specs.Marks.{Mark, level, E, N, D}
+use Rattle.counters.specs.declared.counters.CounterKind.{CounterKind}
+use Rattle.entries.specs.declared.status_response.ErrorEntry.{ErrorEntry}
+use Rattle.entries.specs.declared.status_response.FoundEntry.the-variants.{None}
+use Rattle.node.specs.declared.state.Head.{Head}
+use Rattle.node.specs.Plain.{Plain, Call, handOut, Start, handOutAnswer}
+use Rattle.node.specs.Steps.{fresh, step, run, Said, said}
+use Rattle.node.specs.Refines.{plain}
+use Rattle.trace.specs.Tally.{Tally, handedBy, droppedBy, nothing, tally}
+
+-- the first list is the other two, each in its order: every item of it stands in one of them, once, and nothing else does
+pub data Merge : List ErrorEntry → List ErrorEntry → List ErrorEntry → Type 0 where
+  empty : Merge [] [] []
+  left : {e : ErrorEntry} {x y z : List ErrorEntry} → Merge x y z → Merge (e ∷ x) (e ∷ y) z
+  right : {e : ErrorEntry} {x y z : List ErrorEntry} → Merge x y z → Merge (e ∷ x) y (e ∷ z)
+
+-- A queue in one call, where n entries may wait: those that waited; the entry of a crossing, the one handed out, the one
+-- dropped; and those that wait after it.
+pub data Queued (n : ℕ) : List ErrorEntry → List ErrorEntry → List ErrorEntry → List ErrorEntry → List ErrorEntry → Type 0 where
+  still : {q : List ErrorEntry} → Queued n q [] [] [] q
+  -- fewer wait than may
+  kept : {q : List ErrorEntry} {e : ErrorEntry} → length q < n → Queued n q (e ∷ []) [] [] (q ++ (e ∷ []))
+  -- the queue is full
+  dropped : {q : List ErrorEntry} {e : ErrorEntry} → n ≤ length q → Queued n q (e ∷ []) [] (e ∷ []) q
+  -- the oldest leaves
+  handed : {q : List ErrorEntry} {e : ErrorEntry} → Queued n (e ∷ q) [] (e ∷ []) [] q
+
+-- of a call c on the head p
+pub record Rule (p : Plain) (c : Call) : Type 0 where
+  -- "one is dropped exactly when the queue is full"
+  pub queue :
+      Queued (p .capacity) (p .queue) (step p c .crossings) (handedBy (step p c .answer)) (droppedBy p (step p c .crossings))
+      (step p c .head .queue)
+  -- "and "none" handed out exactly when it is empty"
+  pub none :
+      c ≡ handOut →
+      (step p c .answer ≡ handOutAnswer None → p .queue ≡ []) × (p .queue ≡ [] → step p c .answer ≡ handOutAnswer None)
+
+-- of each call of a list
+unfoldable pub Each : Plain → List Call → Type 0
+Each p [] = Unit {0}
+Each p (c ∷ cs) = Rule p c × Each (step p c .head) cs
+
+-- a kind's errors, crossings and drained cycles, and its level L
+pub record Balance (k : CounterKind) (ms : List Mark) (L : ℕ) : Type 0 where
+  pub low : 15 * N k ms + L + D k ms ≤ 8 * E k ms
+  pub high : 8 * E k ms ≤ 22 * N k ms + L + D k ms
+
+-- what is counted of the calls cs after a start s
+abbrev pub counted : Start → List Call → Tally
+counted s cs = tally (fresh s) cs nothing
+
+-- THE CLAIM, of a start s, the calls cs after it, what they said, and the head h with its queue's bytes q and its history's
+-- bytes m after them
+pub record Claim (s : Start) (cs : List Call) (says : List Said) (h : Head) (q m : List ℕ) : Type 0 where
+  -- "After it, all answers, fields and lent memory are those of document 01's plain head, compared as said there."
+  pub alike : plain h q m ≡ run (fresh s) cs
+  pub answered : says ≡ said (fresh s) cs
+  -- "At ReadyToOperate, an enable or StartNode came during the PreOperational2 visit just before,"
+  pub asked : h .nmt .«current_state» ≡ NmtReadyToOperate → counted s cs .told .asked ≡ true
+  -- "and the application's last counted word is ready."
+  pub word : h .nmt .«current_state» ≡ NmtReadyToOperate → counted s cs .told .word ≡ true
+  -- "For each kind with a threshold, with E errors counted, N crossings of the threshold, D cycles drained and level L:
+  -- 15N + L + D ≤ 8E ≤ 22N + L + D."
+  pub balance : (k : CounterKind) → Balance k (counted s cs .marks) (level k (h .errors))
+  -- N is the cumulative count, which stops at the 32-bit top
+  pub crossed :
+      (k : CounterKind) →
+      counter k (h .errors) .«cumulative_cnt» < top →
+      counter k (h .errors) .«cumulative_cnt» ≡ N k (counted s cs .marks)
+  -- "Crossings at a tick's SoC check = entries handed out + waiting + dropped, each crossing and nothing else once, the kept
+  -- ones in order;"
+  pub entries : Merge (counted s cs .crossings) (counted s cs .handed ++ plain h q m .queue) (counted s cs .dropped)
+  -- "one is dropped exactly when the queue is full, and "none" handed out exactly when it is empty."
+  pub each : Each (fresh s) cs
+  -- "The number dropped is counter 3's rise since the start, while that counter has not reached its top and was not loaded
+  -- after the start." Past the top it goes on from 0.
+  pub lost :
+      counted s cs .loaded ≡ false →
+      s .od .«counter_3» + length (counted s cs .dropped) ≤ top →
+      h .od .«counter_3» ≡ s .od .«counter_3» + length (counted s cs .dropped)
