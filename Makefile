@@ -1,7 +1,7 @@
 # make run      drives a node by a short call script and prints what each call answers
 # make test     every check; the last line is 'N passed, 0 failed'
-# make compare  builds the original Rust and compares it with the stored outputs, and our node with it at a million generated calls
-#               (needs cargo and the Rust source)
+# make compare  builds the original Rust and compares it with the stored outputs, and our node with it at ten million generated
+#               calls, some minutes (needs cargo and the Rust source; 'make compare SEEDS="1 2" CALLS=200000' makes fewer)
 # make compare-oracle  replays and generates call scripts on the original Rust (the same needs)
 
 SHELL := bash
@@ -20,7 +20,7 @@ test:
 	@echo "Checking public contracts and the documents' references."
 	@sh tests/documents.sh
 	@echo "Checking the script that replay is run on."
-	@compare/without_ticks.sh --check
+	@compare/joined.sh --check
 	@echo "Proving every crate, trying the must-fail edits, running the programs (some minutes)."
 	@rt ci
 

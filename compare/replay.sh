@@ -1,15 +1,16 @@
 #!/usr/bin/env bash
-# Compares our program `replay` with the oracle, byte for byte: on the stored call scripts without their ticks, and on generated
-# ones. SEEDS names the seeds, CALLS the length of each generated script.
+# Compares our program `replay` with the oracle, byte for byte: on the stored call scripts, and on ten million generated calls.
+# SEEDS names the seeds, CALLS the length of each generated script (from 200,000 on, what it reaches is held to the minima of
+# coverage.rs), JOBS how many are made at a time. A script and its outputs are removed where the two agree.
 set -eu
 here=$(cd "$(dirname "${BASH_SOURCE[0]}")" && pwd)
 root=$(dirname "$here")
-seeds=${SEEDS:-1 2 3 4 5}
-calls=${CALLS:-220000}
+seeds=${SEEDS:-$(seq -s ' ' 20)}
+calls=${CALLS:-500000}
+jobs=${JOBS:-$(nproc)}
 oracle="$root/target/compare/cargo/release/oracle"
 replay="$root/target/bin/replay"
 work="$root/target/compare/replay"
-compared=0
 
 # The number of the first line in which the files $1 and $2 differ.
 first_difference() {
@@ -30,18 +31,19 @@ script_line() {
     echo "$low"
 }
 
-# Says where the outputs for the script $1 differ.
+# Says where the outputs for the script $1 differ, at once, since another seed may say something too.
 report() {
-    local line at
+    local line at text
     line=$(first_difference "$1.oracle" "$1.replay")
     at=$(script_line "$1.txt" "$line")
-    {
+    text=$(
         echo "$(basename "$1"): the outputs differ in line $line."
         echo "  the Rust prints:  $(sed -n "${line}p" "$1.oracle" | cut -c 1-300)"
         echo "  replay prints:    $(sed -n "${line}p" "$1.replay" | cut -c 1-300)"
         echo "  line $at of the script: $(sed -n "${at}p" "$1.txt" | cut -c 1-300)"
         echo "  The script and the outputs are target/compare/replay/$(basename "$1").txt, .oracle and .replay."
-    } >&2
+    )
+    echo "$text" >&2
     exit 1
 }
 
@@ -52,7 +54,42 @@ compare() {
     cmp -s "$1.oracle" "$1.replay" || report "$1"
 }
 
+# Compares the two on the stored script $1.
+compare_stored() {
+    local name
+    name=$(basename "$1" .txt)
+    cp "$1" "$work/$name.txt"
+    compare "$work/$name"
+    echo "$name: the $(wc -l <"$work/$name.oracle") lines of replay are the Rust's."
+    rm "$work/$name".*
+}
+
+# Compares the two on the script that the seed $1 gives.
+compare_generated() {
+    local file="$work/$1" made lines
+    "$oracle" generate "$1" "$calls" >"$file.txt" 2>"$file.coverage" || {
+        echo "Seed $1: the script could not be generated as it should be:" >&2
+        tail -n 20 "$file.coverage" >&2
+        exit 1
+    }
+    compare "$file"
+    made=$(sed -n 's/^Calls in all: //p' "$file.coverage")
+    lines=$(wc -l <"$file.oracle")
+    echo "Lines of output: $lines" >>"$file.coverage"
+    echo "Seed $1: $made calls, $(wc -l <"$file.txt") lines of script; the $lines lines of replay are the Rust's."
+    rm "$file.txt" "$file.oracle" "$file.replay"
+}
+
+# The sum of the numbers behind $1 in the coverage reports of the seeds.
+sum() {
+    local seed
+    for seed in $seeds; do
+        sed -n "s/^ *$1: //p" "$work/$seed.coverage"
+    done | awk '{ n += $1 } END { print n + 0 }'
+}
+
 echo "Proving and building replay (some minutes the first time)."
+rm -rf "$work"
 mkdir -p "$work"
 (cd "$root" && rt check replay) >"$work/check.log" 2>&1 || {
     cat "$work/check.log"
@@ -60,19 +97,22 @@ mkdir -p "$work"
 }
 
 for script in "$here"/scripts/*.txt; do
-    name=$(basename "$script" .txt)
-    "$here/without_ticks.sh" "$script" >"$work/$name.txt"
-    compare "$work/$name"
-    echo "$name without ticks: the $(wc -l <"$work/$name.oracle") lines of replay are the Rust's."
+    compare_stored "$script"
 done
+
+# As many seeds at a time as there are jobs: before a further one is begun, the oldest has to end.
+running=()
 for seed in $seeds; do
-    "$oracle" generate "$seed" "$calls" without-ticks >"$work/$seed.txt" 2>"$work/$seed.coverage" || {
-        tail -n 20 "$work/$seed.coverage" >&2
-        exit 1
-    }
-    compare "$work/$seed"
-    made=$(sed -n 's/^Calls in all: //p' "$work/$seed.coverage")
-    compared=$((compared + made))
-    echo "Seed $seed: $made calls, $(wc -l <"$work/$seed.txt") lines of script; the $(wc -l <"$work/$seed.oracle") lines of replay are the Rust's."
+    if [ "${#running[@]}" -ge "$jobs" ]; then
+        wait "${running[0]}" || failed=1
+        running=("${running[@]:1}")
+    fi
+    [ -z "${failed:-}" ] || break
+    compare_generated "$seed" &
+    running+=($!)
 done
-echo "Compared $compared generated calls: replay and the Rust print the same lines."
+for job in "${running[@]}"; do
+    wait "$job" || failed=1
+done
+[ -z "${failed:-}" ] || exit 1
+echo "Compared $(sum 'Calls in all') generated calls, $(sum tick) of them ticks, and $(sum show) shows of the head: replay and the Rust print the same $(sum 'Lines of output') lines."

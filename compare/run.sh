@@ -37,7 +37,7 @@ for script in "$here"/scripts/*.txt; do
     hold "$name" "$printed" "compare/scripts/$name.out"
 done
 # The scripts as `rt ci` gives them to `replay`.
-"$here/without_ticks.sh" "${mode:---check}"
+"$here/joined.sh" "${mode:---check}"
 printed="$root/target/compare/replay.out"
 "$programs/oracle" replay <"$root/crates/replay/stdin" >"$printed"
 hold replay "$printed" crates/replay/stdout

@@ -21,9 +21,15 @@ use Rattle.node.specs.declared.calls.DllEventAnswer.{DllEventAnswer}
 use Rattle.node.specs.declared.calls.DllEventAnswer.the-variants as dll-answer
 use Rattle.node.specs.declared.calls.ErrorAnswer.{ErrorAnswer}
 use Rattle.node.specs.declared.calls.ErrorAnswer.the-variants as error-answer
-use Rattle.node.specs.Plain.{Call, Answer, refused, taken, nmtAnswer, dllAnswer, errorAnswer, cycleAnswer, handOutAnswer}
-use Rattle.node.specs.Refines.{plain, Left, headLeft, nmtLeft, dllLeft, errorLeft}
+use Rattle.node.specs.Plain.{Call, Answer, refused, taken, nmtAnswer, dllAnswer, errorAnswer, cycleAnswer, handOutAnswer, tickAnswer}
+use Rattle.node.specs.declared.tick.TickAnswer.{TickAnswer}
+use Rattle.node.specs.declared.tick.TickAnswer.the-variants as tick-answer
+use Rattle.node.specs.declared.tick.TickWatched.{TickWatched}
+use Rattle.node.specs.declared.watched.WatchedNodes.{WatchedNodes}
+use Rattle.node.specs.Ticks.{tickLeft}
+use Rattle.node.specs.Refines.{plain, Rings, rings, Left, headLeft, nmtLeft, dllLeft, errorLeft}
 use Rattle.node.proofs.Laws.{Alone}
+use Rattle.node.proofs.TickRefines.{TickLeft}
 
 -- a head is what it stands for, and where its queue and history stand
 pub head-fixed :
@@ -39,6 +45,27 @@ head-fixed g h q m e a b =
       queue = a i;
       history = b i;
     }
+
+-- with memory that it is lent: head, answer and bytes are fixed by what they stand for, the places and bytes of the rings, and the answer
+pub left-fixed :
+    (o u : Left) (q m q′ m′ : List ℕ) →
+    plain (o .head) q m ≡ plain (u .head) q′ m′ →
+    rings (o .head) q m ≡ rings (u .head) q′ m′ →
+    o .answer ≡ u .answer →
+    (o ≡ u) × (q ≡ q′) × (m ≡ m′)
+left-fixed o u q m q′ m′ e r a =
+    let k : o .head ≡ u .head =
+    λ i.
+    record {
+      nmt = e i .nmt;
+      dll = record { state = e i .dll };
+      errors = e i .errors;
+      soc = e i .soc;
+      od = e i .od;
+      queue = r i .queue;
+      history = r i .history;
+    } in
+    (λ i. record { head = k i; answer = a i }, ap (λ (r : Rings). r .queueBytes) r, ap (λ (r : Rings). r .historyBytes) r)
 
 -- so a call that is lent no memory leaves one head and one answer
 pub alone-fixes : (h : Head) (c : Call) (o u : Left) → Alone h c o → Alone h c u → o ≡ u
@@ -66,6 +93,7 @@ parts (dllAnswer es) = record { declines = false; refusal = NodeNumber; errors =
 parts (errorAnswer a s es) = record { declines = false; refusal = NodeNumber; errors = es; reset = record { states = []; ranges = [] }; action = a; signal = s }
 parts (cycleAnswer b) = record { declines = false; refusal = NodeNumber; errors = []; reset = record { states = []; ranges = [] }; action = None; signal = b }
 parts (handOutAnswer f) = record { declines = false; refusal = NodeNumber; errors = []; reset = record { states = []; ranges = [] }; action = None; signal = false }
+parts (tickAnswer es) = record { declines = false; refusal = NodeNumber; errors = es; reset = record { states = []; ranges = [] }; action = None; signal = false }
 
 -- a part of what two calls left alike
 part : {A : Type 0} (f : Parts → A) (o u : Left) → o ≡ u → f (parts (o .answer)) ≡ f (parts (u .answer))
@@ -116,3 +144,25 @@ module _ (h : Head) where
   error-answer-fixed (error-answer.Refused r) (error-answer.Taken u) e = apart _ _ e refl refl
   error-answer-fixed (error-answer.Refused r) (error-answer.Refused s) e =
       ap error-answer.Refused (part (λ (p : Parts). p .refusal) _ _ e)
+
+  pub tick-answer-fixed : (a b : TickAnswer) → tickLeft h a ≡ tickLeft h b → a ≡ b
+  tick-answer-fixed (tick-answer.Taken t) (tick-answer.Taken u) e =
+      let k = ap (λ (o : Left). o .head) e in
+      let r = reported-fixes (t .logged) (u .logged) (part (λ (p : Parts). p .errors) _ _ e) in
+      λ i. tick-answer.Taken (record { head = k i; logged = r i })
+  tick-answer-fixed (tick-answer.Taken t) (tick-answer.Refused s) e = apart _ _ (sym e) refl refl
+  tick-answer-fixed (tick-answer.Refused r) (tick-answer.Taken u) e = apart _ _ e refl refl
+  tick-answer-fixed (tick-answer.Refused r) (tick-answer.Refused s) e =
+      ap tick-answer.Refused (part (λ (p : Parts). p .refusal) _ _ e)
+
+-- so a tick leaves one answer, one head and one memory
+pub tick-fixes :
+    (h : Head) (q m : List ℕ) (w : WatchedNodes) (t : ℕ) (r s : TickWatched) (q₁ m₁ q₂ m₂ : List ℕ) →
+    TickLeft h q m w t r q₁ m₁ →
+    TickLeft h q m w t s q₂ m₂ →
+    (r .answer ≡ s .answer) × (q₁ ≡ q₂) × (m₁ ≡ m₂)
+tick-fixes h q m w t r s q₁ m₁ q₂ m₂ x y =
+    let f =
+    left-fixed (tickLeft h (r .answer)) (tickLeft h (s .answer)) q₁ m₁ q₂ m₂ (x .0 .head ∙ sym (y .0 .head)) (x .1 ∙ sym (y .1))
+    (x .0 .answer ∙ sym (y .0 .answer)) in
+    (tick-answer-fixed h (r .answer) (s .answer) (f .0), f .1, f .2)

@@ -50,7 +50,8 @@ use Rattle.node.specs.declared.calls.DllEventAnswer.the-variants as dll-
 use Rattle.node.specs.declared.calls.ErrorAnswer.the-variants as error-answer
 use Rattle.node.specs.Plain.{Plain, Step, Call, nmtEvent, dllEvent, error, cycleComplete, withdraw, handOut, load, arm, taken, handOutAnswer}
 use Rattle.node.specs.Watched.{inTime}
-use Rattle.node.specs.Steps.{must, tried, plainOf, withNmt, withSoc, answers, declines, nmtTaken, nmtStep, dllTaken, dllStep, errorTaken, errorStep, cycleTaken, withdrawn, handOutStep, updated, updatedHistory, socWatch, cycleOf, limitOf, armed, step}
+use Rattle.node.specs.Steps.{must, tried, plainOf, withNmt, withSoc, answers, declines, nmtTaken, nmtStep, dllTaken, dllStep, errorTaken, errorStep, cycleTaken, withdrawn, handOutStep, updated, updatedHistory, socWatch, cycleOf, limitOf, armed}
+use Rattle.node.specs.Run.{step}
 use Rattle.node.specs.Refines.{plain, Left, headLeft, nmtLeft, dllLeft, errorLeft, cycleLeft, handOutLeft, loadLeft, historyUpdate, loadedPlaces, loadedMemory, Refines, SamePlaces}
 
 -- what a call left is what its step, worked out, leaves

@@ -33,10 +33,11 @@ use Rattle.node.specs.declared.calls.HeardAnswer.{HeardAnswer}
 use Rattle.node.specs.declared.calls.HeardAnswer.the-variants as heard-answer
 use Rattle.node.specs.Watched.{inTime, wellFormed, noNode, heardNow, isWatched, heardAt, placeOf, unheard, watchedOf, watchedList, heardFirst, unheardFirst, withNodes}
 use Rattle.node.specs.Plain.{Plain, Step, heard, Start, taken, begins, declined, FirstStep}
-use Rattle.node.specs.Steps.{plainOf, answers, declines, socWatch, fresh, started, step}
+use Rattle.node.specs.Steps.{plainOf, answers, declines, socWatch, fresh, started}
+use Rattle.node.specs.Run.{step}
 use Rattle.node.specs.Refines.{plain, heardLeft, startOf, freshHead, FreshPlaces, startedNodes, heardNodes, Refines, Begins}
 use Rattle.node.proofs.Laws.{refined}
-use Rattle.node.proofs.Nodes.{watched-there, watched-nowhere, heard-stored, heard-nodes, unheard-nodes}
+use Rattle.node.proofs.Nodes.{watched-there, watched-nowhere, heard-stored, heard-nodes, each-nodes}
 
 -- nodes that pass number 3 are at most 32
 pub few : (ns : List WatchedNode) (k : ℕ) (b : Bool) → b ≡ wellFormed (watchedOf ns k) → b ≡ true → k ≤ 32
@@ -170,7 +171,7 @@ module _ (n : ℕ) (f : FeatureFlags) (t c : ℕ) (o : Dictionary) (w : declared
         let all : min c 32 ≡ c = omega arith in
         let below : w .count ≤ 32 = few (w .nodes) (w .count) true (sym a) refl in
         let listed : watchedOf ns (w .count) ≡ unheard (watchedList w) =
-        ap (λ (l : List WatchedNode). watchedOf l (w .count)) d ∙ unheard-nodes (w .nodes) (w .count) long below in
+        ap (λ (l : List WatchedNode). watchedOf l (w .count)) d ∙ each-nodes (w .nodes) (w .count) long below (heardNow 0) in
         let stands : (q m : List ℕ) → plain k q m ≡ freshWith x = λ q m. rw (b, all, waiting-new q c, history-new m) in (
           record {
             begun = λ q m. ap begins (stands q m) ∙ sym (ap (λ (b : FirstStep). b .begun) steps);

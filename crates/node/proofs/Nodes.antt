@@ -1,7 +1,7 @@
 -- The watched nodes as an array and as a list: the test of number 3 node by node, the place of a node, and the times set.
 -- Assumes nothing.
 use Prim.Native.Nat.{ℕ, zero, suc, _+_, _≤_, _<_, min}
-use mathlib.Core.Path.{_≡_, refl, sym, ap, _∙_}
+use mathlib.Core.Path.{_≡_, refl, sym, ap, ap₂, _∙_}
 use mathlib.Core.Bool.{Bool, true, false, not}
 use mathlib.Core.List.{List, [], _∷_, _++_, map}
 use native.Mathlib.Nat.{add-zero}
@@ -21,7 +21,7 @@ use Rattle.types.specs.declared.types.NodeIdRead.the-variants.{Taken, Refused}
 use Rattle.entries.specs.Ring.{listed}
 use Rattle.entries.proofs.Rings.{listed-long}
 use Rattle.node.specs.declared.watched.WatchedNode.{WatchedNode}
-use Rattle.node.specs.Watched.{inTime, allOf, ascending, fits, wellFormed, noNode, heardNow, isWatched, heardAt, placeOf, unheard, watchedOf, heardFirst, unheardFirst}
+use Rattle.node.specs.Watched.{inTime, allOf, ascending, fits, wellFormed, noNode, heardNow, isWatched, heardAt, placeOf, watchedOf, heardFirst}
 
 -- what a test that is denied says
 pub not-true : (b : Bool) → not b ≡ true → b ≡ false
@@ -137,7 +137,7 @@ module _ (ns : List WatchedNode) (k : ℕ) where
         rw (listed-long (λ (i : ℕ). getD ns i noNode) k, le-leb k 32 few, watched-take ns k within) (sym (rising-all (take k ns)))
 
     module _ (i : ℕ) (d : WatchedNode) (inside : i < k) where
-      from-here : drop i (take k ns) ≡ getD ns i d ∷ drop (i + 1) (take k ns)
+      pub from-here : drop i (take k ns) ≡ getD ns i d ∷ drop (i + 1) (take k ns)
       from-here =
           let l : i < length (take k ns) = rw (length-take-le k ns within) inside in
           rw (add-one, ← getD-take k ns i d inside) (drop-cons (take k ns) i d l)
@@ -236,24 +236,50 @@ heard-long n t (w ∷ ws) = by (eqb (w .node) n) (heard-long n t ws)
     by true more = refl
     by false more = ap suc more
 
-unheard-long : (ws : List WatchedNode) → length (unheard ws) ≡ length ws
-unheard-long [] = refl
-unheard-long (w ∷ ws) = ap suc (unheard-long ws)
+-- one law for every loop that sets each of the first nodes
+module _ (f : WatchedNode → WatchedNode) where
+  each-long : (ws : List WatchedNode) → length (map f ws) ≡ length ws
+  each-long [] = refl
+  each-long (w ∷ ws) = ap suc (each-long ws)
+
+  each-more : (xs ys : List WatchedNode) → map f (xs ++ ys) ≡ map f xs ++ map f ys
+  each-more [] ys = refl
+  each-more (x ∷ xs) ys = ap (λ (l : List WatchedNode). f x ∷ l) (each-more xs ys)
+
+  -- a turn of the loop: the node at its place is set
+  pub each-turn :
+      (ns l : List WatchedNode) (i : ℕ) (d : WatchedNode) →
+      i < length ns →
+      l ≡ map f (take i ns) ++ drop i ns →
+      (v : WatchedNode) →
+      v ≡ f (getD l i d) →
+      set l i v ≡ map f (take (i + 1) ns) ++ drop (i + 1) ns
+  each-turn ns l i d h e v g =
+      let w : WatchedNode = getD ns i d in
+      let xs : List WatchedNode = map f (take i ns) in
+      let long : length xs ≡ i = each-long (take i ns) ∙ length-take-le i ns (omega arith) in
+      let here : l ≡ xs ++ (w ∷ drop (suc i) ns) = e ∙ ap (λ (r : List WatchedNode). xs ++ r) (drop-cons ns i d h) in
+      let next : map f (take (i + 1) ns) ++ drop (i + 1) ns ≡ xs ++ (f w ∷ drop (suc i) ns) =
+      rw (add-one, take-suc ns i d h, each-more (take i ns) (w ∷ [])) (append-snoc xs (f w) (drop (suc i) ns)) in
+      let new : v ≡ f w = g ∙ ap f (ap (λ (l : List WatchedNode). getD l i d) here ∙ getD-at xs w (drop (suc i) ns) d i long) in
+      ap₂ (λ (l : List WatchedNode) (v : WatchedNode). set l i v) here new
+      ∙ set-at xs w (drop (suc i) ns) (f w) i long
+      ∙ sym next
 
 -- the first k nodes of an array of which only those were set
-front : (ns ws : List WatchedNode) (k : ℕ) → length ws ≡ k → watchedOf (ws ++ drop k ns) k ≡ ws
+pub front : (ns ws : List WatchedNode) (k : ℕ) → length ws ≡ k → watchedOf (ws ++ drop k ns) k ≡ ws
 front ns ws k h =
     watched-take (ws ++ drop k ns) k (rw length-append (omega arith)) ∙ take-at ws (drop k ns) k h
 
 module _ (ns : List WatchedNode) (k : ℕ) (long : length ns ≡ 32) (few : k ≤ 32) where
-  taken-long : length (take k ns) ≡ k
+  pub taken-long : length (take k ns) ≡ k
   taken-long = length-take-le k ns (omega arith)
 
-  whole : watchedOf ns k ≡ take k ns
+  pub whole : watchedOf ns k ≡ take k ns
   whole = watched-take ns k (omega arith)
 
-  pub unheard-nodes : watchedOf (unheardFirst k ns) k ≡ unheard (watchedOf ns k)
-  unheard-nodes = front ns (unheard (take k ns)) k (unheard-long (take k ns) ∙ taken-long) ∙ ap unheard (sym whole)
+  pub each-nodes : (f : WatchedNode → WatchedNode) → watchedOf (map f (take k ns) ++ drop k ns) k ≡ map f (watchedOf ns k)
+  each-nodes f = front ns (map f (take k ns)) k (each-long f (take k ns) ∙ taken-long) ∙ ap (map f) (sym whole)
 
   module _ (n t : ℕ) where
     pub heard-nodes : watchedOf (heardFirst n t k ns) k ≡ heardAt n t (watchedOf ns k)
@@ -277,24 +303,3 @@ module _ (ns : List WatchedNode) (k : ℕ) (long : length ns ≡ 32) (few : k �
           sym (ap (λ (l : List WatchedNode). l ++ drop k ns) s
           ∙ sym (set-append-left (take k ns) (drop k ns) p (heardNow t (getD ns p d)) (rw taken-long h))
           ∙ ap (λ (l : List WatchedNode). set l p (heardNow t (getD ns p d))) (take-append-drop k ns))
-
--- one turn of the loop that sets all times to 0
-unheard-more : (xs ys : List WatchedNode) → unheard (xs ++ ys) ≡ unheard xs ++ unheard ys
-unheard-more [] ys = refl
-unheard-more (x ∷ xs) ys = ap (λ (l : List WatchedNode). heardNow 0 x ∷ l) (unheard-more xs ys)
-
-pub unheard-turn :
-    (ns l : List WatchedNode) (i : ℕ) (d : WatchedNode) →
-    i < length ns →
-    l ≡ unheardFirst i ns →
-    set l i (heardNow 0 (getD l i d)) ≡ unheardFirst (i + 1) ns
-unheard-turn ns l i d h e =
-    let w : WatchedNode = getD ns i d in
-    let long : length (unheard (take i ns)) ≡ i = unheard-long (take i ns) ∙ length-take-le i ns (omega arith) in
-    let here : l ≡ unheard (take i ns) ++ (w ∷ drop (suc i) ns) =
-    e ∙ ap (λ (r : List WatchedNode). unheard (take i ns) ++ r) (drop-cons ns i d h) in
-    let next : unheardFirst (i + 1) ns ≡ unheard (take i ns) ++ (heardNow 0 w ∷ drop (suc i) ns) =
-    rw (add-one, take-suc ns i d h, unheard-more (take i ns) (w ∷ []))
-    (append-snoc (unheard (take i ns)) (heardNow 0 w) (drop (suc i) ns)) in
-    rw (here, getD-at (unheard (take i ns)) w (drop (suc i) ns) d i long, next)
-    (set-at (unheard (take i ns)) w (drop (suc i) ns) (heardNow 0 w) i long)

@@ -52,6 +52,8 @@ pub data Call : Type 0 where
   load : DictionaryUpdate → HistoryUpdate → Call
   -- an SoC time
   arm : ℕ → Call
+  -- now
+  tick : ℕ → List WatchedNode → Call
 
 -- what start is given
 pub record Start : Type 0 where
@@ -75,6 +77,8 @@ pub data Answer : Type 0 where
   cycleAnswer : Bool → Answer
   -- the entry handed out, or none
   handOutAnswer : FoundEntry → Answer
+  -- what a tick logged
+  tickAnswer : List DllError → Answer
 
 -- what comes of a call: the head after it, the answer, the watched nodes that were lent, and what is counted of it: the
 -- marks of the counters, and the entries of the crossings at a tick's SoC check

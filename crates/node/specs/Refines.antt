@@ -3,7 +3,7 @@
 use Prim.Native.Nat.{ℕ}
 use mathlib.Core.Path.{_≡_}
 use mathlib.Core.Bool.{Bool, true, false}
-use mathlib.Core.List.{List, []}
+use mathlib.Core.List.{List, [], _∷_}
 use Rattle.types.specs.Pick.{pick}
 use Rattle.types.specs.Errors.{reported}
 use Rattle.types.specs.declared.types.NodeId.{NodeId}
@@ -12,8 +12,10 @@ use Rattle.nmt.specs.Nmt as Nmt
 use Rattle.dll.specs.Dll.{freshMachine}
 use Rattle.counters.specs.Counters.{newCounters}
 use Rattle.types.specs.declared.nmt.flags.FeatureFlags.{FeatureFlags}
-use Rattle.entries.specs.Queue.{queue, capacityOf, waiting}
-use Rattle.entries.specs.History.{errorHistory, history, entriesIn, loaded, loadedBytes}
+use Rattle.entries.specs.Queue.{queue, capacityOf, waiting, pushed, pushedBytes}
+use Rattle.entries.specs.History.{errorHistory, history, joined, joinedBytes, entriesIn, loaded, loadedBytes}
+use Rattle.entries.specs.declared.status_response.ErrorEntry.{ErrorEntry}
+use Rattle.entries.specs.declared.emergency_queue.EmergencyQueue.{EmergencyQueue}
 use Rattle.entries.specs.declared.error_history.ErrorHistory.{ErrorHistory}
 use Rattle.node.specs.declared.state.Deadline.the-variants.{Nothing}
 use Rattle.node.specs.declared.state.Dictionary.{Dictionary}
@@ -34,7 +36,8 @@ use Rattle.node.specs.declared.calls.HeardAnswer.{HeardAnswer}
 use Rattle.node.specs.declared.calls.HeardAnswer.the-variants as heard-answer
 use Rattle.node.specs.Watched.{withNodes, heardFirst, unheardFirst}
 use Rattle.node.specs.Plain.{Plain, HistoryUpdate, set, keep, Call, Answer, refused, taken, nmtAnswer, dllAnswer, errorAnswer, cycleAnswer, handOutAnswer, Start, Begun, begins, declined}
-use Rattle.node.specs.Steps.{socWatch, step, started}
+use Rattle.node.specs.Steps.{socWatch, started}
+use Rattle.node.specs.Run.{step}
 
 -- the plain head that a head, its queue's bytes q and its history's bytes m stand for
 abbrev pub plain : Head → List ℕ → List ℕ → Plain
@@ -49,6 +52,41 @@ plain h q m =
       queue = waiting q (h .queue);
       history = history m (h .history);
     }
+
+-- the queue and the history stand where they stood: of what Refines sees through the memory, nothing moved
+pub record SamePlaces (h h′ : Head) : Type 0 where
+  pub queue : h′ .queue ≡ h .queue
+  pub history : h′ .history ≡ h .history
+
+-- what Refines sees only through the memory: the places of queue and history, and the bytes
+pub record Rings : Type 0 where
+  pub queue : EmergencyQueue
+  pub queueBytes : List ℕ
+  pub history : ErrorHistory
+  pub historyBytes : List ℕ
+
+abbrev pub rings : Head → List ℕ → List ℕ → Rings
+rings h q m = record { queue = h .queue; queueBytes = q; history = h .history; historyBytes = m }
+
+-- an entry joins both, where the queue has room for it
+unfoldable pub joins : Rings → ErrorEntry → Rings
+joins r e =
+    pick (pushed (r .queue) .kept)
+    (record {
+      queue = pushed (r .queue) .queue;
+      queueBytes = pushedBytes (r .queueBytes) (r .queue) e;
+      history = joined (r .history);
+      historyBytes = joinedBytes (r .historyBytes) (r .history) e;
+    })
+    r
+
+abbrev pub joinsAll : Rings → List ErrorEntry → Rings
+joinsAll r [] = r
+joinsAll r (e ∷ es) = joinsAll (joins r e) es
+
+-- a head becomes what f makes of the plain head, whatever stands in its memory, and its queue and history stay in their places
+abbrev pub Becomes : Head → (Plain → Plain) → Head → Type 0
+Becomes h f g = ((q m : List ℕ) → plain g q m ≡ f (plain h q m)) × SamePlaces h g
 
 -- what a call leaves: the head, and document 01's answer
 pub record Left : Type 0 where
@@ -106,11 +144,6 @@ pub record Refines (h : Head) (q m : List ℕ) (c : Call) (o : Left) (q′ m′ 
   pub head : plain (o .head) q′ m′ ≡ step (plain h q m) c .head
   pub answer : o .answer ≡ step (plain h q m) c .answer
   pub lent : l ≡ step (plain h q m) c .lent
-
--- the queue and the history stand where they stood: of what Refines sees through the memory, nothing moved
-pub record SamePlaces (h h′ : Head) : Type 0 where
-  pub queue : h′ .queue ≡ h .queue
-  pub history : h′ .history ≡ h .history
 
 -- what start is given, from its arguments
 abbrev pub startOf : ℕ → FeatureFlags → ℕ → ℕ → Dictionary → List WatchedNode → Start

@@ -236,29 +236,3 @@ armed s o t =
     pick (ltb 0 (cycleOf o))
     (socWatch t true (At (t + limitOf o)) (s .«error_status_changed»))
     (socWatch t false Nothing (s .«error_status_changed»))
-
--- what the plain head does at a call
-abbrev pub step : Plain → Call → Step
-step p (nmtEvent n) = nmtStep p (readEvent n)
-step p (dllEvent n expected) = dllStep p expected (readCsEvent n)
-step p (error kind a b) = errorStep p (readError kind a b)
-step p cycleComplete = cycleTaken p (completed (p .errors)) (cycleMarks (p .errors))
-step p withdraw = tried (withdrawTests p) (declines p []) (answers (withNmt p (withdrawn (p .nmt))) taken [])
-step p (heard n t ws) = tried (heardTests n t ws) (declines p ws) (answers p taken (heardAt n t ws))
-step p handOut = handOutStep p
-step p (load values h) = answers (withValues p (updated (p .od) values) (updatedHistory (p .history) h)) taken []
-step p (arm t) = tried (must (inTime t) TimeLimit ∷ []) (declines p []) (answers (withSoc p (armed (p .soc) (p .od) t)) taken [])
-
--- a list of calls, each on the head that the last one left: the head after it
-unfoldable pub run : Plain → List Call → Plain
-run p [] = p
-run p (c ∷ cs) = run (step p c .head) cs
-
--- and what each answered, with what it left of what it was lent
-pub record Said : Type 0 where
-  pub answer : Answer
-  pub lent : List WatchedNode
-
-unfoldable pub said : Plain → List Call → List Said
-said p [] = []
-said p (c ∷ cs) = record { answer = step p c .answer; lent = step p c .lent } ∷ said (step p c .head) cs

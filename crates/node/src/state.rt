@@ -1,8 +1,8 @@
 // What a head keeps of CnContext.
 ghost use mathlib.Core.Path.{_≡_};
-ghost use Prim.Native.Nat.{_≤_};
+ghost use Prim.Native.Nat.{_-_, _≤_, _/_, min};
 ghost use Rattle.node.specs.Watched.{inTime};
-ghost use Rattle.node.specs.Steps.{valueOr, cycleOf, limitOf, armed};
+ghost use Rattle.node.specs.Steps.{valueOr, cycleOf, toleranceOf, limitOf, armed};
 use counters::counters::CnErrorCounters;
 use dll::cs_state_machine::DllCsStateMachine;
 use entries::emergency_queue::EmergencyQueue;
@@ -64,6 +64,13 @@ pub(crate) fn in_time(time: u64) -> bool
     time <= LATEST_TIME
 }
 
+// How long ago a moment is, at least 0.
+pub(crate) fn time_since(time: u64, moment: u64) -> u64
+    ensures { λ r. ⌜ r ≡ time - moment ⌝ }
+{
+    if moment <= time { time - moment } else { 0 }
+}
+
 fn value_or(none: u32, value: ObjectValue) -> u64
     ensures { λ r. ⌜ (r ≡ valueOr none value) × (r ≤ 4294967295) ⌝ }
 {
@@ -75,23 +82,41 @@ fn value_or(none: u32, value: ObjectValue) -> u64
 
 impl Dictionary {
     // In microseconds.
-    fn cycle(self) -> u64
+    pub(crate) fn cycle(self) -> u64
         ensures { λ r. ⌜ (r ≡ cycleOf self) × (r ≤ 4294967295) ⌝ }
     {
         let value = self.cycle_time;
         value_or(0, value)
     }
 
-    // How long after the last SoC the next one is late, in microseconds.
-    fn limit(self) -> u64
-        ensures { λ r. ⌜ (r ≡ limitOf self) × (r ≤ 4299262262) ⌝ }
+    // In microseconds.
+    pub(crate) fn tolerance_us(self) -> u64
+        ensures { λ r. ⌜ (r ≡ toleranceOf self / 1000) × (r ≤ 4294967) ⌝ }
     {
         let value = self.tolerance;
-        self.cycle() + value_or(100000, value) / 1000
+        value_or(100000, value) / 1000
+    }
+
+    // How long after the last SoC the next one is late, in microseconds.
+    pub(crate) fn limit(self) -> u64
+        ensures { λ r. ⌜ (r ≡ limitOf self) × (r ≤ 4299262262) ⌝ }
+    {
+        self.cycle() + self.tolerance_us()
     }
 }
 
 impl SocWatch {
+    // No call leaves a time above the latest; one is read as that.
+    pub(crate) fn last_soc(self) -> u64
+        ensures { λ r. ⌜ r ≡ min (self .«last_soc_reception_time_us») 4611686018427387903 ⌝ }
+    {
+        if self.last_soc_reception_time_us < LATEST_TIME {
+            self.last_soc_reception_time_us
+        } else {
+            LATEST_TIME
+        }
+    }
+
     // The watch with an SoC at a time: it goes on where there is a cycle.
     pub(crate) fn armed(self, od: Dictionary, time: u64) -> Self
         requires { ⌜ time ≤ 4611686018427387903 ⌝ }

@@ -101,6 +101,13 @@ pub fn say_errors(out: &mut Buffer, at: u16, errors: DllErrors) -> u16 {
     }
 }
 
+// What a tick logged.
+pub fn say_ticked(out: &mut Buffer, at: u16, logged: DllErrors) -> u16 {
+    let at = say(out, at, b"(taken (logged");
+    let at = say_errors(out, at, logged);
+    say(out, at, b"))\n")
+}
+
 fn say_state(out: &mut Buffer, at: u16, state: NmtState) -> u16 {
     let at = say(out, at, b" ");
     say(out, at, &forms::hex2(state.as_u8() as u64))

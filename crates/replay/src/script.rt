@@ -45,6 +45,7 @@ pub enum Request {
     State(u64),
     Command(u64),
     Heard(u8, u64),
+    Tick(u64),
     Call(Call),
 }
 
@@ -165,6 +166,13 @@ fn arm(line: &[u8], at: usize) -> Line {
     whole_call(line, at, Call::Arm(time))
 }
 
+fn tick(line: &[u8], at: usize) -> Line {
+    let Number::Taken(time, at) = next_number(line, at) else {
+        return Line::Unreadable;
+    };
+    whole(line, at, Line::Request(Request::Tick(time)))
+}
+
 fn state(line: &[u8], at: usize) -> Line {
     let Number::Taken(n, at) = next_number(line, at) else {
         return Line::Unreadable;
@@ -203,6 +211,9 @@ fn read_word(line: &[u8]) -> Line {
 fn read_number(line: &[u8]) -> Line {
     if let Behind::At(at) = word_at(line, 0, b"nmt") {
         return nmt(line, at);
+    }
+    if let Behind::At(at) = word_at(line, 0, b"tick") {
+        return tick(line, at);
     }
     if let Behind::At(at) = word_at(line, 0, b"arm") {
         return arm(line, at);

@@ -3,6 +3,7 @@ use crate::answers::say_command_read;
 use crate::answers::say_refused;
 use crate::answers::say_state_read;
 use crate::answers::say_taken;
+use crate::answers::say_ticked;
 use crate::answers::say_unreadable;
 use crate::calls::make;
 use crate::history::EntryBuffer;
@@ -16,6 +17,8 @@ use crate::show::show;
 use node::calls::HeadAnswer;
 use node::calls::HeardAnswer;
 use node::state::Head;
+use node::tick::TickAnswer;
+use node::tick::TickTaken;
 use node::watched::WatchedNode;
 use types::nmt::flags::FeatureFlags;
 use types::refusals::Refusal;
@@ -108,6 +111,38 @@ impl Session {
         }
     }
 
+    fn ticked(self, taken: TickTaken, run: Run, out: &mut Buffer) -> Self {
+        let logged = taken.logged;
+        let at = say_ticked(out, self.at, logged);
+        let head = taken.head;
+        let driven = Driven::Head(head);
+        Session {
+            driven,
+            run,
+            at,
+            ..self
+        }
+    }
+
+    fn tick(
+        self,
+        head: Head,
+        time: u64,
+        queue: &mut [u8; 640],
+        history: &mut [u8; 5080],
+        out: &mut Buffer,
+    ) -> Self {
+        let run = self.run;
+        let lent = run.lent();
+        let ticked = node::tick::process_tick(head, queue, history, lent, time);
+        let watched = ticked.watched;
+        let answer = ticked.answer;
+        match answer {
+            TickAnswer::Taken(taken) => self.ticked(taken, run.after(watched), out),
+            TickAnswer::Refused(refusal) => self.refused(refusal, out),
+        }
+    }
+
     fn watch(mut self, record: WatchedNode, out: &mut Buffer) -> Self {
         let run = self.run;
         let joined = run.joined_by(record);
@@ -163,6 +198,7 @@ impl Session {
             Request::State(n) => self.printed(say_state_read(out, self.at, n)),
             Request::Command(n) => self.printed(say_command_read(out, self.at, n)),
             Request::Heard(node, time) => self.heard(node, time, out),
+            Request::Tick(time) => self.tick(head, time, queue, history, out),
             Request::Call(call) => self.call(head, call, queue, history, bytes, out),
         }
     }

@@ -17,9 +17,13 @@ use Rattle.node.specs.declared.calls.HeardAnswer.{HeardAnswer}
 use Rattle.node.specs.declared.calls.HeardAnswer.the-variants as heard-answer
 use Rattle.node.specs.declared.calls.HeardWatched.{HeardWatched}
 use Rattle.node.specs.declared.start.Started.{Started}
+use Rattle.node.specs.declared.tick.TickWatched.{TickWatched}
+use Rattle.node.specs.Ticks.{tickLeft}
+use Rattle.node.proofs.tick.process_tick.Reads as process-tick-reads
 use Rattle.node.specs.Watched.{watchedList}
 use Rattle.node.specs.Plain.{Call, Start, declined}
-use Rattle.node.specs.Steps.{started, Said}
+use Rattle.node.specs.Steps.{started}
+use Rattle.node.specs.Run.{Said}
 use Rattle.node.specs.Refines.{plain, Left, nmtLeft, dllLeft, errorLeft, cycleLeft, headLeft, heardLeft, handOutLeft, loadLeft, historyUpdate, startOf, begunBy, startedNodes}
 use Rattle.node.proofs.calls.nmt_event.Reads as nmt-event-reads
 use Rattle.node.proofs.calls.dll_event.Reads as dll-event-reads
@@ -91,6 +95,12 @@ pub data Driven : Head → List ℕ → List ℕ → List Call → List Said →
       arm-reads.Learnt κs a o x →
       Driven (headLeft (a .0) o .head) q m cs ss h′ q′ m′ →
       Driven (a .0) q m (Call.arm (a .1 .0) ∷ cs) (says (headLeft (a .0) o) ∷ ss) h′ q′ m′
+  tick :
+      {h′ : Head} {q′ m′ : List ℕ} {cs : List Call} {ss : List Said} (κs : _) (a : _) (o : TickWatched) (x : _) →
+      process-tick-reads.Learnt κs a o x →
+      Driven (tickLeft (a .0) (o .answer) .head) (now (x .1 .0)) (now (x .1 .1 .0)) cs ss h′ q′ m′ →
+      Driven (a .0) (now (a .1 .0)) (now (a .1 .1 .0)) (Call.tick (a .1 .1 .1 .1 .0) (watchedList (a .1 .1 .1 .0)) ∷ cs)
+      (saying (tickLeft (a .0) (o .answer) .answer) (watchedList (o .watched)) ∷ ss) h′ q′ m′
 
 heard-head : (h : Head) (a : HeardAnswer) → heardLeft h a .head ≡ h
 heard-head h heard-answer.Taken = refl
@@ -113,6 +123,7 @@ follows (heard {h = h} {h′ = h′} {q = q} {m = m} {q′ = q′} {m′ = m′}
 follows (handOut {m = m} κs a o x e d) = next (Links.hand-out-refines κs a o x e m) (follows d)
 follows (load {q = q} κs a o x e d) = next (Links.load-refines κs a o x e q) (follows d)
 follows (arm {q = q} {m = m} κs a o x e d) = next (Links.arm-refines κs a o x e q m) (follows d)
+follows (tick κs a o x e d) = next (Links.process-tick-refines κs a o x e) (follows d)
 
 module _ (κs : _) (a : _) (o : Started) (x : _) (e : start-reads.Learnt κs a o x) where
   -- what start was given

@@ -8,7 +8,8 @@ use Rattle.node.specs.declared.state.Head.{Head}
 use Rattle.node.specs.declared.watched.WatchedNode.{WatchedNode}
 use Rattle.node.specs.Watched.{unheard}
 use Rattle.node.specs.Plain.{Plain, Call, Answer, Start, begins, declined, FirstStep}
-use Rattle.node.specs.Steps.{fresh, startTests, started, run, Said, said}
+use Rattle.node.specs.Steps.{fresh, startTests, started}
+use Rattle.node.specs.Run.{run, Said, said}
 use Rattle.node.specs.Refines.{plain, Left, Refines}
 use Rattle.trace.specs.Claim.{Claim}
 use Rattle.trace.proofs.Shares.{tried-by}

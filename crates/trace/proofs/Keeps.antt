@@ -15,11 +15,12 @@ use Rattle.counters.proofs.ByKind.{counter-new}
 use Rattle.counters.proofs.Balance.{Balanced, balanced-none, balanced-then, FromZero, from-zero, count-append}
 use Rattle.node.specs.declared.state.Head.{Head}
 use Rattle.node.specs.Plain.{Plain, Call, Start, Step}
-use Rattle.node.specs.Steps.{fresh, step, run, Said, said}
+use Rattle.node.specs.Steps.{fresh}
+use Rattle.node.specs.Run.{step, run, Said, said}
 use Rattle.node.specs.Refines.{plain}
 use Rattle.trace.specs.Tally.{Tally, noted, nothing, tally, droppedBy, loadsCounter3}
 use Rattle.trace.specs.Claim.{Merge, empty, Each, counted, Claim}
-use Rattle.trace.proofs.Modes.{mode, mode-ready}
+use Rattle.trace.proofs.Modes.{mode, mode-word, mode-ready}
 use Rattle.trace.proofs.Queues.{merge-queued}
 use Rattle.trace.proofs.Counts.{Rises, rises-none, rises-then}
 use Rattle.trace.proofs.Shares.{Shares, shares, rule}
@@ -105,6 +106,7 @@ claimed s cs says h q m alike answered =
       answered = answered;
       asked = λ r. mode-ready (h .nmt) (counted s cs .told) (k .told) r .0;
       word = λ r. mode-ready (h .nmt) (counted s cs .told) (k .told) r .1;
+      heeded = mode-word (h .nmt) (counted s cs .told) (k .told);
       balance =
           λ j.
           let z : FromZero 15 j (counted s cs .marks) (level j (h .errors)) = from-zero (lit< tt) (lit≤ tt) refl (k .balance j) in

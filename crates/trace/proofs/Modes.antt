@@ -43,11 +43,11 @@ always E f = both (f (E .first)) (all f (E .items))
 abbrev all-flags : (Bool → Bool) → Bool
 all-flags f = both (f true) (f false)
 
-both-first : (a b : Bool) → both a b ≡ true → a ≡ true
+pub both-first : (a b : Bool) → both a b ≡ true → a ≡ true
 both-first true b h = refl
 both-first false b h = h
 
-both-second : (a b : Bool) → both a b ≡ true → b ≡ true
+pub both-second : (a b : Bool) → both a b ≡ true → b ≡ true
 both-second true b h = h
 both-second false true h = refl
 both-second false false h = h
@@ -126,6 +126,15 @@ pub mode-withdraw :
 mode-withdraw m w r h =
     follows (both (mode m w) (not (sameState (m .«current_state») NmtReadyToOperate))) (mode (withdrawn m) (told (w .asked) false))
     (every-at withdraw-keeps m w (withdraw-test m)) (rw (h, r))
+
+-- the machine keeps the application's word
+pub mode-word : (m : CnNmtStateMachine) (w : Told) → mode m w ≡ true → m .«app_ready» ≡ w .word
+mode-word m w h = agree (m .«app_ready») (w .word) (both-first (same (m .«app_ready») (w .word)) _ h)
+  where
+    agree : (a b : Bool) → same a b ≡ true → a ≡ b
+    agree true b e = sym e
+    agree false true e = e
+    agree false false e = refl
 
 -- at ReadyToOperate the node was asked, and the word is ready
 abbrev ready-tells : CnNmtStateMachine → Told → Bool

@@ -30,12 +30,15 @@ use Rattle.node.specs.declared.load.CounterUpdate.the-variants.{Set, Keep}
 use Rattle.node.specs.declared.load.DictionaryUpdate.{DictionaryUpdate}
 use Rattle.node.specs.declared.watched.WatchedNode.{WatchedNode}
 use Rattle.node.specs.Watched.{inTime, heardAt}
-use Rattle.node.specs.Plain.{Plain, HistoryUpdate, Call, nmtEvent, dllEvent, error, cycleComplete, withdraw, heard, handOut, load, arm, taken, handOutAnswer, Step}
-use Rattle.node.specs.Steps.{Test, must, tried, answers, declines, withNmt, withSoc, nmtStep, dllStep, errorStep, withdrawn, heardTests, updatedCounter, updated, armed, step}
+use Rattle.node.specs.Plain.{Plain, HistoryUpdate, Call, nmtEvent, dllEvent, error, cycleComplete, withdraw, heard, handOut, load, arm, tick, taken, handOutAnswer, Step}
+use Rattle.node.specs.Steps.{Test, must, tried, answers, declines, withNmt, withSoc, nmtStep, dllStep, errorStep, withdrawn, heardTests, updatedCounter, updated, armed}
+use Rattle.node.specs.Tick.{Ticked, tickTests, tickTaken, tickAnswered, lookedAt}
+use Rattle.node.specs.Run.{step}
 use Rattle.trace.specs.Tally.{Told, toldAt, handedBy, droppedBy, isFull, isSet, loadsCounter3}
 use Rattle.trace.specs.Claim.{Queued, still, kept, dropped, handed, Rule}
 use Rattle.trace.proofs.Modes.{mode, mode-event, mode-withdraw}
 use Rattle.trace.proofs.Counts.{Counting, counting-none, counting-handled, counting-completed}
+use Rattle.trace.proofs.Ticking.{seen, Enters, none, one, PartOf, picked, still-tells, tick-part}
 
 -- the mode's share, the queue's, the counters' and counter 3's
 abbrev pub ModeShare : Plain → Call → Step → Type 0
@@ -130,10 +133,6 @@ declined p c l r w =
     untouched p c (declines p l r) (record { queue = refl; crossings = refl; handed = refl; lost = λ h. refl }) refl w refl refl
 
 -- what a call declines, and what it takes
-picked : {A : Type 0} (P : A → Type 0) (b : Bool) {x y : A} → P x → P y → P (pick b x y)
-picked P true h g = h
-picked P false h g = g
-
 pub tried-by :
     {A : Type 0} (P : A → Type 0) (ts : List Test) (refuse : Refusal → A) (accept : A) →
     ((r : Refusal) → P (refuse r)) → P accept → P (tried ts refuse accept)
@@ -226,6 +225,39 @@ arm-shares p t =
     (untouched p (arm t) (answers (withSoc p (armed (p .soc) (p .od) t)) taken [])
     (record { queue = refl; crossings = refl; handed = refl; lost = λ l. refl }) refl (λ w. refl) refl refl)
 
+-- what a tick's crossing does, if it has one: its entry waits or is dropped, and counter 3
+enters-queue :
+    (p : Plain) {cs q : List ErrorEntry} {n : ℕ} →
+    Enters (seen p) cs q n →
+    Queued (p .capacity) (p .queue) cs [] (droppedBy p cs) q
+enters-queue p none = rw (none-dropped (isFull p)) still
+enters-queue p (one {x = x}) = crossed-queue p x
+
+enters-lost :
+    (p : Plain) (c : Call) (t : Step) {cs q : List ErrorEntry} {n : ℕ} →
+    Enters (seen p) cs q n →
+    t .crossings ≡ cs →
+    t .head .od .«counter_3» ≡ n →
+    LostShare p c t
+enters-lost p c t none e h = lost-none p c t e (λ l. h)
+enters-lost p c t (one {x = x}) e h = crossed-lost p c t x e h
+
+tick-taken-shares :
+    (p : Plain) (t : ℕ) (ws l : List WatchedNode) (k : Ticked) → PartOf p k → Shares p (tick t ws) (tickAnswered k l)
+tick-taken-shares p t ws l k h =
+    record {
+      told = h .tells;
+      queue = enters-queue p (h .enters);
+      counts = h .counts;
+      lost = enters-lost p (tick t ws) (tickAnswered k l) (h .enters) refl refl;
+    }
+
+tick-shares : (p : Plain) (t : ℕ) (ws : List WatchedNode) → Shares p (tick t ws) (step p (tick t ws))
+tick-shares p t ws =
+    tried-by (Shares p (tick t ws)) (tickTests p t ws) (declines p ws) (tickAnswered (tickTaken p t ws) (lookedAt p t ws))
+    (λ r. declined p (tick t ws) ws r (still-tells (p .nmt)))
+    (tick-taken-shares p t ws (lookedAt p t ws) (tickTaken p t ws) (tick-part p t ws))
+
 -- each call
 pub shares : (p : Plain) (c : Call) → Shares p c (step p c)
 shares p (nmtEvent n) = nmt-shares p n (readEvent n) refl
@@ -237,6 +269,7 @@ shares p (heard n t ws) = heard-shares p n t ws
 shares p handOut = hand-out-shares p
 shares p (load v h) = load-shares p v h
 shares p (arm t) = arm-shares p t
+shares p (tick t ws) = tick-shares p t ws
 
 -- "none" is handed out exactly of an empty queue
 none-out :

@@ -10,9 +10,8 @@ use Rattle.types.specs.Pick.{pick}
 use Rattle.node.specs.declared.state.Head.{Head}
 use Rattle.node.specs.declared.load.DictionaryUpdate.{DictionaryUpdate}
 use Rattle.node.specs.declared.watched.WatchedNode.{WatchedNode}
-use Rattle.node.specs.Watched.{heardAt}
-use Rattle.node.specs.Plain.{Plain, Call, nmtEvent, dllEvent, error, cycleComplete, withdraw, heard, handOut, load, arm, taken}
-use Rattle.node.specs.Steps.{Test, tried, heardTests, declines, answers, step}
+use Rattle.node.specs.Plain.{Plain, Call, nmtEvent, dllEvent, error, cycleComplete, withdraw, heard, handOut, load, arm, tick}
+use Rattle.node.specs.Run.{step}
 use Rattle.node.specs.Refines.{plain, Left, Refines, historyUpdate}
 use Rattle.trace.specs.declared.Row.{Row}
 use Rattle.trace.specs.declared.Turn.{Turn}
@@ -72,22 +71,26 @@ module _ (r : Row) (ws : List WatchedNode) (bytes : List ℕ) where
   unfolding callOf valuesOf
   call-7 h v e = rw (h, e)
 
+  pub call-9 : r .tag ≡ 9 → callOf r ws bytes ≡ tick (r .a) ws
+  unfolding callOf
+  call-9 h = rw h
+
   pub call-else :
       (r .tag ≡ 0 → ⊥) → (r .tag ≡ 1 → ⊥) → (r .tag ≡ 2 → ⊥) → (r .tag ≡ 3 → ⊥) → (r .tag ≡ 4 → ⊥) → (r .tag ≡ 5 → ⊥) →
-      (r .tag ≡ 6 → ⊥) → (r .tag ≡ 7 → ⊥) → callOf r ws bytes ≡ arm (r .a)
+      (r .tag ≡ 6 → ⊥) → (r .tag ≡ 7 → ⊥) → (r .tag ≡ 9 → ⊥) → callOf r ws bytes ≡ arm (r .a)
   unfolding callOf
-  call-else a b c d e f g h =
-      rw (ne-eqb (r .tag) 0 a, ne-eqb (r .tag) 1 b, ne-eqb (r .tag) 2 c, ne-eqb (r .tag) 3 d, ne-eqb (r .tag) 4 e, ne-eqb (r .tag) 5 f, ne-eqb (r .tag) 6 g, ne-eqb (r .tag) 7 h)
+  call-else a b c d e f g h i =
+      rw (ne-eqb (r .tag) 0 a, ne-eqb (r .tag) 1 b, ne-eqb (r .tag) 2 c, ne-eqb (r .tag) 3 d, ne-eqb (r .tag) 4 e, ne-eqb (r .tag) 5 f, ne-eqb (r .tag) 6 g, ne-eqb (r .tag) 7 h, ne-eqb (r .tag) 9 i)
 
-  -- a call but for heard leaves the watched nodes
-  pub others-leave : (r .tag ≡ 5 → ⊥) → ws ≡ nodesAfter ws (callOf r ws bytes)
+  -- the others leave the watched nodes
+  pub others-leave : (p : Plain) → (r .tag ≡ 5 → ⊥) → (r .tag ≡ 9 → ⊥) → ws ≡ nodesAfter p ws (callOf r ws bytes)
   unfolding callOf
-  others-leave h = rw (ne-eqb (r .tag) 5 h) (by (eqb (r .tag) 0) (eqb (r .tag) 1) (eqb (r .tag) 2) (eqb (r .tag) 3) (eqb (r .tag) 4) (eqb (r .tag) 6) (eqb (r .tag) 7))
+  others-leave p h i = rw (ne-eqb (r .tag) 5 h, ne-eqb (r .tag) 9 i) (by (eqb (r .tag) 0) (eqb (r .tag) 1) (eqb (r .tag) 2) (eqb (r .tag) 3) (eqb (r .tag) 4) (eqb (r .tag) 6) (eqb (r .tag) 7))
     where
       by :
           (a b c d e g h : Bool) →
           ws ≡
-          nodesAfter ws
+          nodesAfter p ws
           (pick a (nmtEvent (r .a))
           (pick b (dllEvent (r .a) (eqb (r .b) 1))
           (pick c (error (r .a) (r .b % 256) (r .c % 256))
@@ -103,25 +106,17 @@ module _ (r : Row) (ws : List WatchedNode) (bytes : List ℕ) where
       by false false false false false false true = refl
       by false false false false false false false = refl
 
--- heard leaves the watched nodes as the plain head leaves them
-tried-lent :
-    (p : Plain) (ts : List Test) (ws ws′ : List WatchedNode) →
-    tried ts (declines p ws) (answers p taken ws′) .lent ≡ tried ts (λ r. ws) ws′
-tried-lent p [] ws ws′ = refl
-tried-lent p (t ∷ ts) ws ws′ = chosen (t .holds) (tried-lent p ts ws ws′)
-  where
-    chosen :
-        (b : Bool) →
-        tried ts (declines p ws) (answers p taken ws′) .lent ≡ tried ts (λ r. ws) ws′ →
-        pick b (tried ts (declines p ws) (answers p taken ws′)) (declines p ws (t .otherwise)) .lent ≡
-        pick b (tried ts (λ r. ws) ws′) ws
-    chosen true h = h
-    chosen false h = refl
-
+-- a call that is lent the watched nodes leaves them as the plain head does
 pub heard-leaves :
     (p : Plain) (n t : ℕ) (ws l : List WatchedNode) (c : Call) →
     c ≡ heard n t ws →
     l ≡ step p (heard n t ws) .lent →
-    l ≡ nodesAfter ws c
-heard-leaves p n t ws l c e h =
-    h ∙ tried-lent p (heardTests n t ws) ws (heardAt n t ws) ∙ ap (nodesAfter ws) (sym e)
+    l ≡ nodesAfter p ws c
+heard-leaves p n t ws l c e h = h ∙ ap (nodesAfter p ws) (sym e)
+
+pub tick-leaves :
+    (p : Plain) (t : ℕ) (ws l : List WatchedNode) (c : Call) →
+    c ≡ tick t ws →
+    l ≡ step p (tick t ws) .lent →
+    l ≡ nodesAfter p ws c
+tick-leaves p t ws l c e h = h ∙ ap (nodesAfter p ws) (sym e)

@@ -1,17 +1,34 @@
--- Lists of calls, computed: heads do get to ReadyToOperate, and what is counted of the list says how.
+-- Lists of calls, computed: heads do get to ReadyToOperate, and what is counted of the list says how; and ticks do cross.
 -- Assumes nothing.
+use Prim.Native.Nat.{ℕ}
 use mathlib.Core.Path.{_≡_, refl}
 use mathlib.Core.Bool.{true, false}
 use mathlib.Core.List.{List, [], _∷_}
 use Rattle.types.specs.Events.{readEvent}
+use Rattle.types.specs.CsEvents.{readCsEvent}
 use Rattle.types.specs.declared.nmt.states.NmtState.{NmtState}
-use Rattle.types.specs.declared.nmt.states.NmtState.the-variants.{NmtPreOperational2, NmtReadyToOperate}
+use Rattle.types.specs.declared.nmt.states.NmtState.the-variants.{NmtPreOperational1, NmtPreOperational2, NmtReadyToOperate}
+use Rattle.types.specs.declared.frame.error.types.DllError.the-variants as error
 use Rattle.nmt.specs.Resets.{isReset, statesEntered}
 use Rattle.nmt.specs.Nmt.{enter, rowOf, applied, resetBy, processed}
-use Rattle.node.specs.Plain.{Call, nmtEvent, withdraw, Start}
-use Rattle.node.specs.Steps.{fresh, run}
-use Rattle.trace.specs.Tally.{Told, told, tally}
+use Rattle.dll.specs.Dll as Dll
+use Rattle.counters.specs.Counters.{replaced, afterError, handled}
+use Rattle.counters.specs.Counters as Counters
+use Rattle.counters.specs.Marks.{E, N, errorMarks}
+use Rattle.counters.specs.declared.counters.CounterKind.the-variants.{LossOfSoc, HeartbeatTimeout}
+use Rattle.entries.specs.Entry.{crossing}
+use Rattle.entries.specs.Ring.{nth}
+use Rattle.entries.specs.declared.status_response.ErrorEntry.{ErrorEntry}
+use Rattle.node.specs.declared.state.ObjectValue.the-variants.{Unsigned32}
+use Rattle.node.specs.declared.watched.WatchedNode.{WatchedNode}
+use Rattle.node.specs.Watched.{wellFormed, watchedNode}
+use Rattle.node.specs.Plain.{Plain, Call, nmtEvent, dllEvent, withdraw, handOut, arm, tick, Start}
+use Rattle.node.specs.Steps.{fresh, armed, started}
+use Rattle.node.specs.Tick.{beat, beatAll, queued, deal, dealAll, socCheck, tickTaken}
+use Rattle.node.specs.Run.{run}
+use Rattle.trace.specs.Tally.{Told, told, Tally, tally}
 use Rattle.trace.specs.Claim.{counted}
+use Rattle.trace.specs.Script.{callOf, rows, calls, decode}
 
 -- SwReset, and two SoCs: in PreOperational2
 abbrev booted : List Call → List Call
@@ -47,3 +64,96 @@ module _ (s : Start) where
   unheeded : counted s (nmtEvent 5 ∷ nmtEvent 13 ∷ withdraw ∷ nmtEvent 15 ∷ []) .told ≡ told false false
   unfolding run tally fresh readEvent processed resetBy applied enter rowOf isReset statesEntered
   unheeded = refl
+
+-- a start with a queue of n places, counter 3 at c, cycle 1000 and tolerance 100,000 ns
+abbrev begun : ℕ → ℕ → Start
+begun n c =
+    record {
+      node = 1;
+      flags = 0;
+      timeout = 0;
+      capacity = n;
+      od =
+          record {
+            «error_register» = 0;
+            «cycle_time» = Unsigned32 1000;
+            tolerance = Unsigned32 100000;
+            «counter_1» = 0;
+            «counter_2» = 0;
+            «counter_3» = c;
+            «counter_5» = 0;
+          };
+      watched = [];
+    }
+
+-- Operational, WaitSoc, last SoC 10,000; tick 11,101: loss, level 8; tick 12,100: crossing
+abbrev twoLosses : List Call → List Call
+twoLosses cs =
+    booted
+    (nmtEvent 3 ∷ nmtEvent 0 ∷ dllEvent 0 false ∷ dllEvent 3 false ∷ arm 10000 ∷ tick 11101 [] ∷ tick 12100 [] ∷ cs)
+
+after : ℕ → ℕ → List Call → Plain
+after n c cs = run (fresh (begun n c)) (twoLosses cs)
+
+countedOf : ℕ → ℕ → List Call → Tally
+countedOf n c cs = counted (begun n c) (twoLosses cs)
+
+abbrev lossAt : ErrorEntry
+lossAt = crossing error.LossOfSoc 12100
+
+-- in a queue of 1 its entry waits
+waits :
+    (after 1 0 [] .queue ≡ lossAt ∷ [])
+    × (after 1 0 [] .nmt .«current_state» ≡ NmtPreOperational1)
+    × (countedOf 1 0 [] .crossings ≡ lossAt ∷ [])
+    × (countedOf 1 0 [] .dropped ≡ [])
+    × (E LossOfSoc (countedOf 1 0 [] .marks) ≡ 2)
+    × (N LossOfSoc (countedOf 1 0 [] .marks) ≡ 1)
+unfolding after countedOf run tally fresh readEvent readCsEvent processed resetBy applied enter rowOf isReset statesEntered Dll.processed armed wellFormed tickTaken beatAll socCheck dealAll deal queued handled Counters.counted afterError replaced errorMarks
+waits = (refl, refl, refl, refl, refl, refl)
+
+-- and is handed out
+handed-out : (after 1 0 (handOut ∷ []) .queue ≡ []) × (countedOf 1 0 (handOut ∷ []) .handed ≡ lossAt ∷ [])
+unfolding after countedOf run tally fresh readEvent readCsEvent processed resetBy applied enter rowOf isReset statesEntered Dll.processed armed wellFormed tickTaken beatAll socCheck dealAll deal queued handled Counters.counted afterError replaced errorMarks nth
+handed-out = (refl, refl)
+
+-- with a queue of 0 it is dropped: counter 3 is 1, and from its top it goes to 0
+dropped-full :
+    (after 0 0 [] .queue ≡ [])
+    × (countedOf 0 0 [] .dropped ≡ lossAt ∷ [])
+    × (after 0 0 [] .od .«counter_3» ≡ 1)
+    × (after 0 4294967295 [] .od .«counter_3» ≡ 0)
+unfolding after countedOf run tally fresh readEvent readCsEvent processed resetBy applied enter rowOf isReset statesEntered Dll.processed armed wellFormed tickTaken beatAll socCheck dealAll deal queued handled Counters.counted afterError replaced errorMarks
+dropped-full = (refl, refl, refl, refl)
+
+-- a node with timeout 50, heard at 100, is late at two ticks: a crossing of its kind, without an entry
+abbrev lateTwice : List Call
+lateTwice =
+    let ws = watchedNode 5 50 100 ∷ [] in booted (nmtEvent 3 ∷ nmtEvent 0 ∷ tick 151 ws ∷ tick 251 ws ∷ [])
+
+beats :
+    (run (fresh (begun 1 0)) lateTwice .nmt .«current_state» ≡ NmtPreOperational1)
+    × (counted (begun 1 0) lateTwice .crossings ≡ [])
+    × (E HeartbeatTimeout (counted (begun 1 0) lateTwice .marks) ≡ 2)
+    × (N HeartbeatTimeout (counted (begun 1 0) lateTwice .marks) ≡ 1)
+unfolding run tally fresh readEvent processed resetBy applied enter rowOf isReset statesEntered wellFormed tickTaken beatAll beat handled Counters.counted afterError replaced errorMarks
+beats = (refl, refl, refl, refl)
+
+-- a script: each tick is lent the watched nodes that the one before it left
+abbrev row : ℕ → ℕ → List ℕ → List ℕ
+row tag a s = tag ∷ a ∷ 0 ∷ 0 ∷ 0 ∷ 0 ∷ 0 ∷ 0 ∷ 0 ∷ s
+
+abbrev watching : WatchedNode → Start
+watching w =
+    record { node = 1; flags = 0; timeout = 0; capacity = 1; od = begun 1 0 .od; watched = w ∷ [] }
+
+lent-on :
+    decode (watching (watchedNode 5 50 7)) (row 0 5 (row 0 13 (row 0 13 (row 9 100 (row 9 120 (row 9 151 (row 9 152 []))))))) [] ≡
+    booted
+    (tick 100 (watchedNode 5 50 0 ∷ []) ∷
+    tick 120 (watchedNode 5 50 100 ∷ []) ∷
+    tick 151 (watchedNode 5 50 100 ∷ []) ∷
+    tick 152 (watchedNode 5 50 151 ∷ []) ∷
+    [])
+unfolding callOf rows calls started fresh readEvent processed resetBy applied enter rowOf isReset statesEntered wellFormed tickTaken beatAll beat handled Counters.counted afterError replaced errorMarks
+lent-on = refl

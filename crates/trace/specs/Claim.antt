@@ -13,7 +13,8 @@ use Rattle.entries.specs.declared.status_response.ErrorEntry.{ErrorEntry}
 use Rattle.entries.specs.declared.status_response.FoundEntry.the-variants.{None}
 use Rattle.node.specs.declared.state.Head.{Head}
 use Rattle.node.specs.Plain.{Plain, Call, handOut, Start, handOutAnswer}
-use Rattle.node.specs.Steps.{fresh, step, run, Said, said}
+use Rattle.node.specs.Steps.{fresh}
+use Rattle.node.specs.Run.{step, run, Said, said}
 use Rattle.node.specs.Refines.{plain}
 use Rattle.trace.specs.Tally.{Tally, handedBy, droppedBy, nothing, tally}
 
@@ -69,6 +70,8 @@ pub record Claim (s : Start) (cs : List Call) (says : List Said) (h : Head) (q m
   pub asked : h .nmt .«current_state» ≡ NmtReadyToOperate → counted s cs .told .asked ≡ true
   -- "and the application's last counted word is ready."
   pub word : h .nmt .«current_state» ≡ NmtReadyToOperate → counted s cs .told .word ≡ true
+  -- that word is the one that the head keeps, in every state
+  pub heeded : h .nmt .«app_ready» ≡ counted s cs .told .word
   -- "For each kind with a threshold, with E errors counted, N crossings of the threshold, D cycles drained and level L:
   -- 15N + L + D ≤ 8E ≤ 22N + L + D."
   pub balance : (k : CounterKind) → Balance k (counted s cs .marks) (level k (h .errors))

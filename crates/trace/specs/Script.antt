@@ -19,9 +19,9 @@ use Rattle.node.specs.declared.load.DictionaryUpdate.{DictionaryUpdate}
 use Rattle.node.specs.declared.calls.HeadAnswer.{HeadAnswer}
 use Rattle.node.specs.declared.calls.HeadAnswer.the-variants as head-answer
 use Rattle.node.specs.declared.watched.WatchedNode.{WatchedNode}
-use Rattle.node.specs.Watched.{heardAt}
-use Rattle.node.specs.Plain.{Call, nmtEvent, dllEvent, error, cycleComplete, withdraw, heard, handOut, load, arm, Answer, refused, taken, nmtAnswer, dllAnswer, errorAnswer, cycleAnswer, handOutAnswer, Start, declined}
-use Rattle.node.specs.Steps.{tried, heardTests, fresh, started, step, Said, said}
+use Rattle.node.specs.Plain.{Plain, Call, nmtEvent, dllEvent, error, cycleComplete, withdraw, heard, handOut, load, arm, tick, Answer, refused, taken, nmtAnswer, dllAnswer, errorAnswer, cycleAnswer, handOutAnswer, tickAnswer, Start, declined}
+use Rattle.node.specs.Steps.{fresh, started}
+use Rattle.node.specs.Run.{step, Said, said}
 use Rattle.node.specs.Refines.{plain, Left, historyUpdate}
 use Rattle.trace.specs.declared.Row.{Row}
 use Rattle.trace.specs.declared.Turn.{Turn}
@@ -51,7 +51,7 @@ valuesOf r =
       «counter_5» = counterUpdate (r .g);
     }
 
--- The call of a row, with the watched nodes ws that are lent where a node is heard, and the bytes of the history that a load
+-- The call of a row, with the watched nodes ws that are lent to heard and to a tick, and the bytes of the history that a load
 -- names. Every row is a call.
 unfoldable pub callOf : Row → List WatchedNode → List ℕ → Call
 callOf r ws bytes =
@@ -62,19 +62,21 @@ callOf r ws bytes =
     (pick (eqb (r .tag) 4) withdraw
     (pick (eqb (r .tag) 5) (heard (r .a % 256) (r .b) ws)
     (pick (eqb (r .tag) 6) handOut
-    (pick (eqb (r .tag) 7) (load (valuesOf r) (historyUpdate (eqb (r .h) 1) bytes)) (arm (r .a)))))))))
+    (pick (eqb (r .tag) 7) (load (valuesOf r) (historyUpdate (eqb (r .h) 1) bytes))
+    (pick (eqb (r .tag) 9) (tick (r .a) ws) (arm (r .a))))))))))
 
--- the watched nodes after a call: as heard left them
-abbrev pub nodesAfter : List WatchedNode → Call → List WatchedNode
-nodesAfter ws (nmtEvent n) = ws
-nodesAfter ws (dllEvent n x) = ws
-nodesAfter ws (error k a b) = ws
-nodesAfter ws cycleComplete = ws
-nodesAfter ws withdraw = ws
-nodesAfter ws (heard n t l) = tried (heardTests n t l) (λ r. l) (heardAt n t l)
-nodesAfter ws handOut = ws
-nodesAfter ws (load v h) = ws
-nodesAfter ws (arm t) = ws
+-- the watched nodes after a call on the head p, ws before it: where they are lent, as the plain head leaves them
+abbrev pub nodesAfter : Plain → List WatchedNode → Call → List WatchedNode
+nodesAfter p ws (nmtEvent n) = ws
+nodesAfter p ws (dllEvent n x) = ws
+nodesAfter p ws (error k a b) = ws
+nodesAfter p ws cycleComplete = ws
+nodesAfter p ws withdraw = ws
+nodesAfter p ws (heard n t l) = step p (heard n t l) .lent
+nodesAfter p ws handOut = ws
+nodesAfter p ws (load v h) = ws
+nodesAfter p ws (arm t) = ws
+nodesAfter p ws (tick t l) = step p (tick t l) .lent
 
 -- the i-th row of a script, and n rows from the i-th on
 abbrev pub rowAt : List ℕ → ℕ → Row
@@ -95,13 +97,15 @@ unfoldable pub rows : List ℕ → ℕ → ℕ → List Row
 rows s i zero = []
 rows s i (suc n) = rowAt s i ∷ rows s (suc i) n
 
--- the calls of rows, each lent the watched nodes that the one before it left
-unfoldable pub calls : List Row → List WatchedNode → List ℕ → List Call
-calls [] ws bytes = []
-calls (r ∷ rs) ws bytes = callOf r ws bytes ∷ calls rs (nodesAfter ws (callOf r ws bytes)) bytes
+-- the calls of rows, each on the plain head, and lent the watched nodes, that the one before it left
+unfoldable pub calls : Plain → List WatchedNode → List ℕ → List Row → List Call
+calls p ws bytes [] = []
+calls p ws bytes (r ∷ rs) =
+    let c = callOf r ws bytes in c ∷ calls (step p c .head) (nodesAfter p ws c) bytes rs
 
-abbrev pub decode : List ℕ → List WatchedNode → List ℕ → List Call
-decode s ws bytes = calls (rows s 0 (length s / 9)) ws bytes
+-- the calls of a script after a start s
+abbrev pub decode : Start → List ℕ → List ℕ → List Call
+decode s script bytes = calls (fresh s) (started s .lent) bytes (rows script 0 (length script / 9))
 
 -- the number that declined a call, or 0
 abbrev pub numberOf : Answer → ℕ
@@ -112,6 +116,7 @@ numberOf (dllAnswer es) = 0
 numberOf (errorAnswer a s es) = 0
 numberOf (cycleAnswer b) = 0
 numberOf (handOutAnswer f) = 0
+numberOf (tickAnswer es) = 0
 
 abbrev pub numbers : List Said → List ℕ
 numbers ss = map (λ (s : Said). numberOf (s .answer)) ss
@@ -133,7 +138,7 @@ pub record Turns (h : Head) (q m : List ℕ) (c : Call) (t : Turn) (q′ m′ : 
 -- `out`; of a start that is declined, its number, and all as it was lent.
 abbrev pub Replayed : Start → List ℕ → List ℕ → HeadAnswer → List ℕ → List ℕ → List ℕ → List ℕ → List ℕ → List ℕ → Type 0
 Replayed s script bytes (head-answer.Taken h) q m out q′ m′ out′ =
-    let cs = decode script (started s .lent) bytes in
+    let cs = decode s script bytes in
     Claim s cs (said (fresh s) cs) h q′ m′ × (out′ ≡ written out 0 (numbers (said (fresh s) cs)))
 Replayed s script bytes (head-answer.Refused r) q m out q′ m′ out′ =
     (declined r ≡ started s .begun) × (q′ ≡ q) × (m′ ≡ m) × (out′ ≡ out)

@@ -10,7 +10,7 @@ use Rattle.types.specs.States.{sameState}
 use Rattle.types.specs.Events.{sameEvent, readEvent}
 use Rattle.types.specs.declared.nmt.states.NmtState.the-variants.{NmtPreOperational2}
 use Rattle.types.specs.declared.nmt.events.NmtEvent.{NmtEvent}
-use Rattle.types.specs.declared.nmt.events.NmtEvent.the-variants.{StartNode, EnableReadyToOperate, CnConfigurationComplete}
+use Rattle.types.specs.declared.nmt.events.NmtEvent.the-variants.{StartNode, EnableReadyToOperate, CnConfigurationComplete, Error}
 use Rattle.types.specs.declared.nmt.events.NmtEventRead.{NmtEventRead}
 use Rattle.types.specs.declared.nmt.events.NmtEventRead.the-variants as event
 use Rattle.nmt.specs.declared.cn_state_machine.CnNmtStateMachine.{CnNmtStateMachine}
@@ -20,8 +20,8 @@ use Rattle.entries.specs.declared.status_response.FoundEntry.{FoundEntry}
 use Rattle.entries.specs.declared.status_response.FoundEntry.the-variants.{Entry, None}
 use Rattle.node.specs.declared.load.CounterUpdate.{CounterUpdate}
 use Rattle.node.specs.declared.load.CounterUpdate.the-variants.{Set, Keep}
-use Rattle.node.specs.Plain.{Plain, Call, nmtEvent, dllEvent, error, cycleComplete, withdraw, heard, handOut, load, arm, Answer, refused, taken, nmtAnswer, dllAnswer, errorAnswer, cycleAnswer, handOutAnswer, Step}
-use Rattle.node.specs.Steps.{step}
+use Rattle.node.specs.Plain.{Plain, Call, nmtEvent, dllEvent, error, cycleComplete, withdraw, heard, handOut, load, arm, tick, Answer, refused, taken, nmtAnswer, dllAnswer, errorAnswer, cycleAnswer, handOutAnswer, tickAnswer, Step}
+use Rattle.node.specs.Run.{step}
 
 -- What the node was told: an enable or StartNode came in the last visit to PreOperational2; the application's last counted
 -- word is ready.
@@ -66,6 +66,12 @@ toldWithdrawn (dllAnswer es) w = w
 toldWithdrawn (errorAnswer a s es) w = w
 toldWithdrawn (cycleAnswer b) w = w
 toldWithdrawn (handOutAnswer f) w = w
+toldWithdrawn (tickAnswer es) w = w
+
+-- A tick's event is Error, or Timeout at NotActive. Neither asks nor is a ready word, so either tells what Error does: what
+-- the machines before and after it show. A tick without an event leaves the machine, and tells nothing.
+abbrev pub toldInTick : CnNmtStateMachine → CnNmtStateMachine → Told → Told
+toldInTick m m′ w = toldBy m Error m′ w
 
 -- by the call
 abbrev pub toldAt : Plain → Call → Step → Told → Told
@@ -78,6 +84,7 @@ toldAt p (heard n s ws) t w = w
 toldAt p handOut t w = w
 toldAt p (load v h) t w = w
 toldAt p (arm s) t w = w
+toldAt p (tick s ws) t w = toldInTick (p .nmt) (t .head .nmt) w
 
 -- the entry that an answer hands out
 abbrev pub found : FoundEntry → List ErrorEntry
@@ -92,6 +99,7 @@ handedBy (dllAnswer es) = []
 handedBy (errorAnswer a s es) = []
 handedBy (cycleAnswer b) = []
 handedBy (handOutAnswer f) = found f
+handedBy (tickAnswer es) = []
 
 -- "A SoC-check crossing is dropped with the queue full, else kept as its entry"
 abbrev pub isFull : Plain → Bool
@@ -115,6 +123,7 @@ loadsCounter3 (heard n t ws) = false
 loadsCounter3 handOut = false
 loadsCounter3 (load v h) = isSet (v .«counter_3»)
 loadsCounter3 (arm t) = false
+loadsCounter3 (tick t ws) = false
 
 -- What is counted: what the node was told; the counters' marks, from which E, N and D are counted; the entries of the
 -- SoC-check crossings, those handed out and those dropped, each in order; and whether counter 3 was loaded.

@@ -6,7 +6,8 @@ ghost use Prim.Native.Nat.{ℕ, _+_, _*_, _<_};
 ghost use lib.ListN.{length, set};
 ghost use Rattle.node.specs.declared.watched.WatchedNode.{WatchedNode};
 ghost use Rattle.node.specs.Watched.{watchedList};
-ghost use Rattle.node.specs.Refines.{nmtLeft, dllLeft, errorLeft, headLeft, heardLeft, startOf};
+ghost use Rattle.node.specs.Refines.{plain, nmtLeft, dllLeft, errorLeft, headLeft, heardLeft, startOf};
+ghost use Rattle.node.specs.Ticks.{tickLeft};
 ghost use Rattle.trace.specs.Script.{byteUpdate, counterUpdate, objectUpdate, valuesOf, rowAt, callOf, nodesAfter, turned, Turns, Replayed};
 use node::calls::DllEventAnswer;
 use node::calls::ErrorAnswer;
@@ -21,6 +22,7 @@ use node::start::start;
 use node::state::Dictionary;
 use node::state::Head;
 use node::state::ObjectValue;
+use node::tick::TickAnswer;
 use node::watched::WatchedNodes;
 use types::nmt::flags::FeatureFlags;
 
@@ -170,6 +172,21 @@ fn heard_turn(head: Head, answer: HeardAnswer) -> Turn
     }
 }
 
+fn tick_turn(head: Head, answer: TickAnswer) -> Turn
+    ensures { λ r. ⌜ r ≡ turned (tickLeft head answer) ⌝ }
+{
+    match answer {
+        TickAnswer::Taken(taken) => {
+            let head = taken.head;
+            Turn { head, number: 0 }
+        }
+        TickAnswer::Refused(refusal) => Turn {
+            head,
+            number: refusal.number() as u64,
+        },
+    }
+}
+
 // The i-th row of a script.
 fn row_at(script: &[u64], i: usize) -> Row
     requires { ⌜ 9 * i + 8 < length (now script) ⌝ }
@@ -198,7 +215,7 @@ fn put(out: &mut [u64], i: usize, n: u64)
     }
 }
 
-// A call but for heard.
+// A call that is lent no watched nodes.
 fn head_call(
     head: Head,
     queue: &[u8; 640],
@@ -206,7 +223,7 @@ fn head_call(
     bytes: &[u8],
     row: Row,
 ) -> Turn
-    requires { ⌜ (row .tag ≡ 5 → ⊥) ⌝ }
+    requires { ⌜ (row .tag ≡ 5 → ⊥) × (row .tag ≡ 9 → ⊥) ⌝ }
     ensures { λ r. ⌜ ((ws : List WatchedNode) → Turns head (now (queue .entry)) (now (history .entry)) (callOf row ws (now (bytes .entry))) r (now (queue .entry)) (now (history .exit))) ⌝ }
 {
     if row.tag == 0 {
@@ -240,23 +257,30 @@ fn head_call(
     head_turn(head, node::calls::arm(head, row.a))
 }
 
-// Any call; where a node is heard, the watched nodes are lent.
+// Any call; heard and a tick are lent the watched nodes.
 fn call(
     head: Head,
     watched: WatchedNodes,
-    queue: &[u8; 640],
+    queue: &mut [u8; 640],
     history: &mut [u8; 5080],
     bytes: &[u8],
     row: Row,
 ) -> WatchedTurn
-    ensures { λ r. ⌜ Turns head (now (queue .entry)) (now (history .entry)) (callOf row (watchedList watched) (now (bytes .entry))) (r .turn) (now (queue .entry)) (now (history .exit))
-        × (watchedList (r .watched) ≡ nodesAfter (watchedList watched) (callOf row (watchedList watched) (now (bytes .entry)))) ⌝ }
+    ensures { λ r. ⌜ Turns head (now (queue .entry)) (now (history .entry)) (callOf row (watchedList watched) (now (bytes .entry))) (r .turn) (now (queue .exit)) (now (history .exit))
+        × (watchedList (r .watched) ≡ nodesAfter (plain head (now (queue .entry)) (now (history .entry))) (watchedList watched) (callOf row (watchedList watched) (now (bytes .entry)))) ⌝ }
 {
     if row.tag == 5 {
         let heard = node::calls::heard(watched, (row.a % 256) as u8, row.b);
         let answer = heard.answer;
         let turn = heard_turn(head, answer);
         let watched = heard.watched;
+        return WatchedTurn { turn, watched };
+    }
+    if row.tag == 9 {
+        let ticked = node::tick::process_tick(head, queue, history, watched, row.a);
+        let answer = ticked.answer;
+        let turn = tick_turn(head, answer);
+        let watched = ticked.watched;
         return WatchedTurn { turn, watched };
     }
     let turn = head_call(head, queue, history, bytes, row);

@@ -12,13 +12,13 @@ use Rattle.trace.proofs.drive.Statement.{statement}
 use Rattle.trace.proofs.drive.Tie as tie
 
 abbrev Inv-loop : tie.InvT-loop
-Inv-loop node basic-ethernet-timeout queue-capacity queue history₀ script bytes out₀ head₀ nodes₀ n i₀ history out head nodes i =
+Inv-loop node basic-ethernet-timeout queue-capacity queue₀ history₀ script bytes out₀ head₀ nodes₀ n i₀ queue history out head nodes i =
     (length out ≡ length out₀)
     × (n ≡ length script / 9)
-    × Going queue script bytes history₀ out₀ head₀ (watchedList nodes₀) n history out head (watchedList nodes) i
+    × Going script bytes queue₀ history₀ out₀ head₀ (watchedList nodes₀) n queue history out head (watchedList nodes) i
 
 abbrev μ-loop : tie.MeasureT-loop
-μ-loop node basic-ethernet-timeout queue-capacity queue history₀ script bytes out₀ head₀ nodes₀ n i₀ history out head nodes i =
+μ-loop node basic-ethernet-timeout queue-capacity queue₀ history₀ script bytes out₀ head₀ nodes₀ n i₀ queue history out head nodes i =
     n - i
 
 pub drive-spec : {M : Type 1} → statement M

@@ -51,5 +51,5 @@ head-call-spec =
     (λ c ws.
     let s = c .before .before .before .before .before .before .before .before .before .before .before .before .before .before .before .before .before in
     turns
-    (call-else (s .args .row) ws (now (s .args .bytes)) (c .before .before .before .before .before .before .before .before .before .before .before .before .before .before .if1 .left) (c .before .before .before .before .before .before .before .before .before .before .before .before .if2 .left) (c .before .before .before .before .before .before .before .before .before .before .if3 .left) (c .before .before .before .before .before .before .before .before .if4 .left) (c .before .before .before .before .before .before .if5 .left) (s .pre) (c .before .before .before .before .if6 .left) (c .before .before .if7 .left))
+    (call-else (s .args .row) ws (now (s .args .bytes)) (c .before .before .before .before .before .before .before .before .before .before .before .before .before .before .if1 .left) (c .before .before .before .before .before .before .before .before .before .before .before .before .if2 .left) (c .before .before .before .before .before .before .before .before .before .before .if3 .left) (c .before .before .before .before .before .before .before .before .if4 .left) (c .before .before .before .before .before .before .if5 .left) (s .pre .0) (c .before .before .before .before .if6 .left) (c .before .before .if7 .left) (s .pre .1))
     (c .before .arm .ensures .0 (now (s .args .queue)) (now (s .args .history))) (c .head-turn2 .ensures)))

@@ -6,8 +6,8 @@ use mathlib.Core.List.{List}
 use native.Mathlib.Omega.{arith}
 use lib.ListN.{length, length-set}
 use borrow.Author.Needs.{needs}
-use Rattle.node.specs.Watched.{noNode, unheardFirst}
-use Rattle.node.proofs.Nodes.{unheard-turn}
+use Rattle.node.specs.Watched.{noNode, heardNow, unheardFirst}
+use Rattle.node.proofs.Nodes.{each-turn}
 use Rattle.node.proofs.watched.unheard.Statement.{statement}
 use Rattle.node.proofs.watched.unheard.Tie as tie
 
@@ -35,7 +35,7 @@ unheard-spec =
     let t = c .before in
     let h = t .before .loop .inv in
     let a = t .before .before .args in (
-      unheard-turn (a .t1) (t .before .loop .nodes) (t .before .loop .i) noNode (omega arith) (h .0),
+      each-turn (heardNow 0) (a .t1) (t .before .loop .nodes) (t .before .loop .i) noNode (omega arith) (h .0) _ refl,
       omega arith,
       h .2,
       h .3,

@@ -1,0 +1,42 @@
+-- What the plain head does at each call, and at a list of calls.
+-- Assumes nothing.
+use Prim.Native.Nat.{ℕ}
+use mathlib.Core.List.{List, [], _∷_}
+use Rattle.types.specs.Events.{readEvent}
+use Rattle.types.specs.CsEvents.{readCsEvent}
+use Rattle.types.specs.Errors.{readError}
+use Rattle.types.specs.declared.refusals.Refusal.the-variants.{TimeLimit}
+use Rattle.counters.specs.Counters.{completed}
+use Rattle.counters.specs.Marks.{cycleMarks}
+use Rattle.node.specs.declared.watched.WatchedNode.{WatchedNode}
+use Rattle.node.specs.Watched.{inTime, heardAt}
+use Rattle.node.specs.Plain.{Plain, Call, nmtEvent, dllEvent, error, cycleComplete, withdraw, heard, handOut, load, arm, tick, Answer, taken, Step}
+use Rattle.node.specs.Steps.{must, tried, withNmt, withSoc, withValues, answers, declines, nmtStep, dllStep, errorStep, cycleTaken, withdrawn, withdrawTests, heardTests, handOutStep, updated, updatedHistory, armed}
+use Rattle.node.specs.Tick.{tickStep}
+
+-- what the plain head does at a call
+abbrev pub step : Plain → Call → Step
+step p (nmtEvent n) = nmtStep p (readEvent n)
+step p (dllEvent n expected) = dllStep p expected (readCsEvent n)
+step p (error kind a b) = errorStep p (readError kind a b)
+step p cycleComplete = cycleTaken p (completed (p .errors)) (cycleMarks (p .errors))
+step p withdraw = tried (withdrawTests p) (declines p []) (answers (withNmt p (withdrawn (p .nmt))) taken [])
+step p (heard n t ws) = tried (heardTests n t ws) (declines p ws) (answers p taken (heardAt n t ws))
+step p handOut = handOutStep p
+step p (load values h) = answers (withValues p (updated (p .od) values) (updatedHistory (p .history) h)) taken []
+step p (tick t ws) = tickStep p t ws
+step p (arm t) = tried (must (inTime t) TimeLimit ∷ []) (declines p []) (answers (withSoc p (armed (p .soc) (p .od) t)) taken [])
+
+-- a list of calls, each on the head that the last one left: the head after it
+unfoldable pub run : Plain → List Call → Plain
+run p [] = p
+run p (c ∷ cs) = run (step p c .head) cs
+
+-- and what each answered, with what it left of what it was lent
+pub record Said : Type 0 where
+  pub answer : Answer
+  pub lent : List WatchedNode
+
+unfoldable pub said : Plain → List Call → List Said
+said p [] = []
+said p (c ∷ cs) = record { answer = step p c .answer; lent = step p c .lent } ∷ said (step p c .head) cs
