@@ -79,7 +79,7 @@ pub fn cycling(deadline: u64) -> Head {
     head(NmtState::NmtOperational, false, DllCsState::WaitSoc, soc)
 }
 
-// A node with timeout 50, of which the first `count` records are watched: itself or none.
+// Node 5 with timeout 50, not heard yet, where `count` is 1; no node where it is 0.
 pub fn watching(count: usize) -> WatchedNodes {
     let node = WatchedNode {
         node: 5,

@@ -100,10 +100,11 @@ acts (action.ResetNode n) = true
 abbrev pub oneMore : ℕ → ℕ
 oneMore n = (n + 1) % 4294967296
 
--- "signals, sets the error register's lowest bit (counter 5 rises if that changes it)"
+-- the lowest bit of a number is 0
 abbrev pub isEven : ℕ → Bool
 isEven n = eqb (n % 2) 0
 
+-- "signals, sets the error register's lowest bit (counter 5 rises if that changes it)"
 abbrev pub registered : Dictionary → Dictionary
 registered o =
     record {
@@ -116,6 +117,7 @@ registered o =
       «counter_5» = pick (isEven (o .«error_register»)) (oneMore (o .«counter_5»)) (o .«counter_5»);
     }
 
+-- `error_status_changed`, "which a signal in a tick sets and no call clears"
 abbrev pub changed : SocWatch → SocWatch
 changed s =
     socWatch (s .«last_soc_reception_time_us») (s .«soc_timeout_check_active») (s .«next_tick_us») true
@@ -184,7 +186,7 @@ setsBasic p t = pick (ltb 0 (basicTimeout p)) (withDeadline p (At (t + basicTime
 abbrev pub timesOut : Plain → Plain
 timesOut p = pick (ltb 0 (basicTimeout p)) (eventInTick p Timeout) p
 
--- "Each error adds to counter 1."
+-- the head with its dictionary values replaced, and those with counters 1, 2 and 3 replaced
 abbrev pub withOd : Plain → Dictionary → Plain
 withOd p o = plainOf (p .nmt) (p .dll) (p .errors) (p .soc) o (p .capacity) (p .queue) (p .history)
 
@@ -200,6 +202,7 @@ statistics o a b c =
       «counter_5» = o .«counter_5»;
     }
 
+-- "Each error adds to counter 1."
 abbrev pub counter1 : Plain → Plain
 counter1 p = withOd p (statistics (p .od) (oneMore (p .od .«counter_1»)) (p .od .«counter_2») (p .od .«counter_3»))
 
@@ -256,6 +259,7 @@ withinLimit p t =
 abbrev pub socTimeout : Plain → Dll.Outcome
 socTimeout p = Dll.processed (p .dll) SocTimeout (p .nmt .«current_state») true
 
+-- where no error ended the tick, the check goes on
 abbrev pub afterLoss : ℕ → Ticked → Ticked
 afterLoss t k = pick (k .ended) k (behind k (goesOn (rescheduled (k .head) t)))
 
