@@ -1,6 +1,7 @@
 // The NMT state machine of a controlled node: one decision for each pair of state and event, and what a decision does.
 ghost use mathlib.Core.Path.{_≡_};
 ghost use mathlib.Core.Bool.{true};
+ghost use mathlib.Core.List.{[]};
 ghost use Rattle.types.specs.Errors.{reported};
 ghost use Rattle.nmt.specs.Resets.{isReset};
 ghost use Rattle.nmt.specs.Nmt.{look, bootUpRows, cyclicRows, rowOf, fresh, enter, outcome, plain, applied, resetBy, processed};
@@ -117,20 +118,6 @@ pub fn row_of(state: NmtState, event: NmtEvent) -> Move
     }
 }
 
-// The answer to an event that is no reset.
-fn plain_answer(machine: CnNmtStateMachine, errors: DllErrors) -> NmtAnswer
-    ensures { λ r. ⌜ outcome r ≡ plain machine (reported errors) ⌝ }
-{
-    NmtAnswer {
-        machine,
-        errors,
-        reset: ResetSequence {
-            entered: EnteredStates::None,
-            restored: RestoredRanges::None,
-        },
-    }
-}
-
 impl CnNmtStateMachine {
     pub fn new(node_id: NodeId, feature_flags: FeatureFlags, basic_ethernet_timeout: u32) -> Self
         ensures { λ r. ⌜ r ≡ fresh «node_id» «feature_flags» «basic_ethernet_timeout» ⌝ }
@@ -175,34 +162,68 @@ impl CnNmtStateMachine {
         }
     }
 
+    // The answer to an event that is no reset.
+    fn plain_answer(self, errors: DllErrors) -> NmtAnswer
+        ensures { λ r. ⌜ outcome r ≡ plain self (reported errors) ⌝ }
+    {
+        NmtAnswer {
+            machine: self,
+            errors,
+            reset: ResetSequence {
+                entered: EnteredStates::None,
+                restored: RestoredRanges::None,
+            },
+        }
+    }
+
+    // To one that reports no error.
+    fn quiet_answer(self) -> NmtAnswer
+        ensures { λ r. ⌜ outcome r ≡ plain self [] ⌝ }
+    {
+        self.plain_answer(DllErrors::None)
+    }
+
+    // To one that the state has no row for.
+    fn unexpected(self, event: NmtEvent) -> NmtAnswer
+        ensures { λ r. ⌜ outcome r ≡ applied self event Move.Unexpected ⌝ }
+    {
+        let current = self.current_state;
+        let state = current.as_u8();
+        let event = event.as_u8();
+        let error = DllError::UnexpectedEventInState { state, event };
+        self.plain_answer(DllErrors::One(error))
+    }
+
     // The machine after a decision, with what it reports.
     fn apply(mut self, event: NmtEvent, decision: Move) -> NmtAnswer
         ensures { λ r. ⌜ outcome r ≡ applied self event decision ⌝ }
     {
         match decision {
-            Move::Goes(to) => plain_answer(self.set_state(to), DllErrors::None),
-            Move::Stays => plain_answer(self, DllErrors::None),
+            Move::Goes(to) => {
+                self = self.set_state(to);
+                return self.quiet_answer();
+            }
+            Move::Stays => {
+                return self.quiet_answer();
+            }
             Move::Enables(to) => {
                 self.ready_to_operate_enabled = true;
                 if self.app_ready {
-                    return plain_answer(self.set_state(to), DllErrors::None);
+                    self = self.set_state(to);
+                    return self.quiet_answer();
                 }
-                plain_answer(self, DllErrors::None)
+                return self.quiet_answer();
             }
             Move::Readies => {
                 self.app_ready = true;
                 if self.ready_to_operate_enabled {
-                    let to = NmtState::NmtReadyToOperate;
-                    return plain_answer(self.set_state(to), DllErrors::None);
+                    self = self.set_state(NmtState::NmtReadyToOperate);
+                    return self.quiet_answer();
                 }
-                plain_answer(self, DllErrors::None)
+                return self.quiet_answer();
             }
             Move::Unexpected => {
-                let current = self.current_state;
-                let state = current.as_u8();
-                let event = event.as_u8();
-                let error = DllError::UnexpectedEventInState { state, event };
-                plain_answer(self, DllErrors::One(error))
+                return self.unexpected(event);
             }
         }
     }
