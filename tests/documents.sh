@@ -7,7 +7,7 @@ failed=0
 
 asking=$(find crates -name '*.rt' -exec awk '
     /^ *(#\[no_mangle\] *)?pub (extern "C" )?fn/ { name = FILENAME ": " $0; open = 1 }
-    /^ *fn / { open = 0 }
+    /^ *(pub\(crate\) )?fn / { open = 0 }
     /^ *requires/ && open { print name; open = 0 }
     /^ *\{/ { open = 0 }' {} +)
 if [ -n "$asking" ]; then

@@ -1,176 +1,222 @@
 // The parts of answers: errors, states, ranges, entries.
 use crate::print::Buffer;
+use crate::print::put;
 use crate::print::say;
 use crate::print::say_bytes;
-use crate::print::say_number;
+use crate::print::say_form;
+use crate::print::say_one;
+use entries::status_response::ErrorEntry;
 use entries::status_response::FoundEntry;
 use nmt::state_machine::EnteredStates;
 use nmt::state_machine::IndexRange;
 use nmt::state_machine::RestoredRanges;
 use types::frame::error::types::DllError;
 use types::frame::error::types::DllErrors;
+use types::frame::error::types::NmtAction;
 use types::nmt::events::NmtStateCommand;
 use types::nmt::events::NmtStateCommandRead;
 use types::nmt::states::NmtState;
 use types::nmt::states::NmtStateRead;
 use types::refusals::Refusal;
-use types::types::NodeId;
 
-pub fn say_unreadable(out: &mut Buffer, at: u16, line: u64) -> u16 {
-    let at = say(out, at, b"(unreadable ");
-    let at = say_number(out, at, line);
-    say(out, at, b")\n")
+// What an error carries beside its kind.
+enum Carried {
+    Nothing,
+    Node(u8),
+    StateAndEvent(u8, u8),
 }
 
-pub fn say_refused(out: &mut Buffer, at: u16, refusal: Refusal) -> u16 {
-    let at = say(out, at, b"(refused ");
-    let at = say_number(out, at, refusal.number() as u64);
-    say(out, at, b")\n")
+pub fn say_unreadable(out: &mut Buffer, line: u64) {
+    say_one(out, b"(unreadable #)\n", line)
 }
 
-pub fn say_taken(out: &mut Buffer, at: u16) -> u16 {
-    say(out, at, b"(taken)\n")
+pub fn say_refused(out: &mut Buffer, refusal: Refusal) {
+    say_one(out, b"(refused #)\n", refusal.number() as u64)
 }
 
-fn say_read(out: &mut Buffer, at: u16, n: u8) -> u16 {
-    let at = say(out, at, b"(taken ");
-    let at = say(out, at, &forms::hex2(n as u64));
-    say(out, at, b")\n")
+pub fn say_taken(out: &mut Buffer) {
+    say(out, b"(taken)\n")
+}
+
+fn say_read(out: &mut Buffer, n: u8) {
+    say_one(out, b"(taken %)\n", n as u64)
 }
 
 // The reading of a number as an NMT state.
-pub fn say_state_read(out: &mut Buffer, at: u16, n: u64) -> u16 {
+pub fn say_state_read(out: &mut Buffer, n: u64) {
     match NmtState::try_from(n) {
-        NmtStateRead::Taken(state) => say_read(out, at, state.as_u8()),
-        NmtStateRead::Refused(refusal) => say_refused(out, at, refusal),
+        NmtStateRead::Taken(state) => say_read(out, state.as_u8()),
+        NmtStateRead::Refused(refusal) => say_refused(out, refusal),
     }
 }
 
 // The reading of a number as a state command.
-pub fn say_command_read(out: &mut Buffer, at: u16, n: u64) -> u16 {
+pub fn say_command_read(out: &mut Buffer, n: u64) {
     match NmtStateCommand::try_from(n) {
-        NmtStateCommandRead::Taken(command) => say_read(out, at, command.as_u8()),
-        NmtStateCommandRead::Refused(refusal) => say_refused(out, at, refusal),
+        NmtStateCommandRead::Taken(command) => say_read(out, command.as_u8()),
+        NmtStateCommandRead::Refused(refusal) => say_refused(out, refusal),
     }
 }
 
-fn say_node(out: &mut Buffer, at: u16, node: NodeId) -> u16 {
-    let at = say(out, at, b" ");
-    say_number(out, at, node.0 as u64)
-}
-
-fn say_state_and_event(out: &mut Buffer, at: u16, state: u8, event: u8) -> u16 {
-    let at = say(out, at, b" ");
-    let at = say(out, at, &forms::hex2(state as u64));
-    let at = say(out, at, b" ");
-    say_number(out, at, event as u64)
-}
-
-// What an error carries.
-fn say_carried(out: &mut Buffer, at: u16, error: DllError) -> u16 {
+fn carried_by(error: DllError) -> Carried {
     match error {
-        DllError::LossOfPres { node_id } => say_node(out, at, node_id),
-        DllError::LossOfStatusRes { node_id } => say_node(out, at, node_id),
-        DllError::LatePres { node_id } => say_node(out, at, node_id),
-        DllError::UnexpectedEventInState { state, event } => {
-            say_state_and_event(out, at, state, event)
-        }
-        DllError::PdoMapVersion { node_id } => say_node(out, at, node_id),
-        DllError::PdoPayloadShort { node_id } => say_node(out, at, node_id),
-        DllError::HeartbeatTimeout { node_id } => say_node(out, at, node_id),
-        _ => at,
+        DllError::LossOfPres { node_id } => return Carried::Node(node_id.0),
+        DllError::LossOfStatusRes { node_id } => return Carried::Node(node_id.0),
+        DllError::LatePres { node_id } => return Carried::Node(node_id.0),
+        DllError::UnexpectedEventInState { state, event } => return Carried::StateAndEvent(
+            state,
+            event,
+        ),
+        DllError::PdoMapVersion { node_id } => return Carried::Node(node_id.0),
+        DllError::PdoPayloadShort { node_id } => return Carried::Node(node_id.0),
+        DllError::HeartbeatTimeout { node_id } => return Carried::Node(node_id.0),
+        _ => return Carried::Nothing,
     }
 }
 
-fn say_error(out: &mut Buffer, at: u16, error: DllError) -> u16 {
-    let at = say(out, at, b" (");
-    let at = say_number(out, at, error.kind() as u64);
-    let at = say_carried(out, at, error);
-    say(out, at, b")")
+fn say_error(out: &mut Buffer, error: DllError) {
+    let kind = error.kind() as u64;
+    match carried_by(error) {
+        Carried::Nothing => say_one(out, b" (#)", kind),
+        Carried::Node(node) => say_form(out, b" (# #)", &[kind, node as u64]),
+        Carried::StateAndEvent(state, event) => {
+            say_form(out, b" (# % #)", &[kind, state as u64, event as u64])
+        }
+    }
 }
 
 // Each behind a space.
-pub fn say_errors(out: &mut Buffer, at: u16, errors: DllErrors) -> u16 {
+fn say_errors(out: &mut Buffer, errors: DllErrors) {
     match errors {
-        DllErrors::None => at,
-        DllErrors::One(a) => say_error(out, at, a),
+        DllErrors::None => {}
+        DllErrors::One(a) => say_error(out, a),
         DllErrors::Two(a, b) => {
-            let at = say_error(out, at, a);
-            say_error(out, at, b)
+            say_error(out, a);
+            say_error(out, b)
         }
     }
+}
+
+// Errors, and the answer's end; `before` is what stands before them.
+fn say_with_errors(out: &mut Buffer, before: &[u8], errors: DllErrors) {
+    say(out, before);
+    say_errors(out, errors);
+    say(out, b"))\n")
+}
+
+// The errors that an event reports.
+pub fn say_reported(out: &mut Buffer, errors: DllErrors) {
+    say_with_errors(out, b"(taken (errors", errors)
 }
 
 // What a tick logged.
-pub fn say_ticked(out: &mut Buffer, at: u16, logged: DllErrors) -> u16 {
-    let at = say(out, at, b"(taken (logged");
-    let at = say_errors(out, at, logged);
-    say(out, at, b"))\n")
+pub fn say_ticked(out: &mut Buffer, logged: DllErrors) {
+    say_with_errors(out, b"(taken (logged", logged)
 }
 
-fn say_state(out: &mut Buffer, at: u16, state: NmtState) -> u16 {
-    let at = say(out, at, b" ");
-    say(out, at, &forms::hex2(state.as_u8() as u64))
+fn action_number(action: NmtAction) -> u64 {
+    match action {
+        NmtAction::None => 0,
+        NmtAction::ResetCommunication => 1,
+        NmtAction::ResetNode(_) => 2,
+    }
+}
+
+// What an error led to.
+pub fn say_handled(out: &mut Buffer, action: NmtAction, signal: bool, logged: DllErrors) {
+    say_form(
+        out,
+        b"(taken (action #) (signal #)",
+        &[action_number(action), signal as u64],
+    );
+    say_with_errors(out, b" (logged", logged)
+}
+
+fn say_state(out: &mut Buffer, state: NmtState) {
+    say_one(out, b" %", state.as_u8() as u64)
+}
+
+fn say_two_states(out: &mut Buffer, a: NmtState, b: NmtState) {
+    say_form(out, b" % %", &[a.as_u8() as u64, b.as_u8() as u64])
 }
 
 // Each behind a space.
-pub fn say_entered(out: &mut Buffer, at: u16, entered: EnteredStates) -> u16 {
+fn say_entered(out: &mut Buffer, entered: EnteredStates) {
     match entered {
-        EnteredStates::None => at,
-        EnteredStates::Two(a, b) => {
-            let at = say_state(out, at, a);
-            say_state(out, at, b)
-        }
+        EnteredStates::None => {}
+        EnteredStates::Two(a, b) => say_two_states(out, a, b),
         EnteredStates::Three(a, b, c) => {
-            let at = say_state(out, at, a);
-            let at = say_state(out, at, b);
-            say_state(out, at, c)
+            say_two_states(out, a, b);
+            say_state(out, c)
         }
         EnteredStates::Four(a, b, c, d) => {
-            let at = say_state(out, at, a);
-            let at = say_state(out, at, b);
-            let at = say_state(out, at, c);
-            say_state(out, at, d)
+            say_two_states(out, a, b);
+            say_two_states(out, c, d)
         }
         EnteredStates::Five(a, b, c, d, e) => {
-            let at = say_state(out, at, a);
-            let at = say_state(out, at, b);
-            let at = say_state(out, at, c);
-            let at = say_state(out, at, d);
-            say_state(out, at, e)
+            say_two_states(out, a, b);
+            say_two_states(out, c, d);
+            say_state(out, e)
         }
     }
 }
 
-fn say_range(out: &mut Buffer, at: u16, range: IndexRange) -> u16 {
-    let at = say(out, at, b" (");
-    let at = say(out, at, &forms::hex4(range.first as u64));
-    let at = say(out, at, b" ");
-    let at = say(out, at, &forms::hex4(range.last as u64));
-    say(out, at, b")")
+fn say_range(out: &mut Buffer, range: IndexRange) {
+    say_form(out, b" (@ @)", &[range.first as u64, range.last as u64])
 }
 
 // Each behind a space.
-pub fn say_ranges(out: &mut Buffer, at: u16, ranges: RestoredRanges) -> u16 {
+fn say_ranges(out: &mut Buffer, ranges: RestoredRanges) {
     match ranges {
-        RestoredRanges::None => at,
-        RestoredRanges::One(a) => say_range(out, at, a),
+        RestoredRanges::None => {}
+        RestoredRanges::One(a) => say_range(out, a),
         RestoredRanges::Three(a, b, c) => {
-            let at = say_range(out, at, a);
-            let at = say_range(out, at, b);
-            say_range(out, at, c)
+            say_range(out, a);
+            say_range(out, b);
+            say_range(out, c)
         }
     }
+}
+
+fn say_reset(out: &mut Buffer, entered: EnteredStates, restored: RestoredRanges) {
+    say(out, b"(taken (entered");
+    say_entered(out, entered);
+    say(out, b") (restore");
+    say_ranges(out, restored);
+    say(out, b"))\n")
+}
+
+// An NMT event: a reset enters states; of another the errors are printed.
+pub fn say_event(
+    out: &mut Buffer,
+    errors: DllErrors,
+    entered: EnteredStates,
+    restored: RestoredRanges,
+) {
+    match entered {
+        EnteredStates::None => say_reported(out, errors),
+        _ => say_reset(out, entered, restored),
+    }
+}
+
+// Whether the end of a cycle cleared something.
+pub fn say_cleared(out: &mut Buffer, cleared: bool) {
+    say_one(out, b"(taken (cleared #))\n", cleared as u64)
+}
+
+// Behind a space.
+pub fn say_entry(out: &mut Buffer, entry: ErrorEntry) {
+    put(out, b' ');
+    say_bytes(out, &entry.serialize())
 }
 
 // An entry that was handed out.
-pub fn say_handed(out: &mut Buffer, at: u16, found: FoundEntry) -> u16 {
-    match found {
-        FoundEntry::Entry(entry) => {
-            let at = say(out, at, b"(taken (entry ");
-            let at = say_bytes(out, at, &entry.serialize());
-            say(out, at, b"))\n")
-        }
-        FoundEntry::None => say(out, at, b"(taken none)\n"),
-    }
+pub fn say_handed(out: &mut Buffer, found: FoundEntry) {
+    let FoundEntry::Entry(entry) = found else {
+        say(out, b"(taken none)\n");
+        return;
+    };
+    say(out, b"(taken (entry");
+    say_entry(out, entry);
+    say(out, b"))\n")
 }

@@ -6,6 +6,7 @@ use crate::print::flush;
 use crate::script::Line;
 use crate::script::read;
 use crate::session::Session;
+use crate::values::Numbers;
 use crate::words::Behind;
 use crate::words::text_at;
 use libc::STDIN_FILENO;
@@ -13,17 +14,18 @@ use libc::STDIN_FILENO;
 // The longest line; the longest call, a load of everything, has some 12,500 characters.
 pub type LineBuffer = [u8; 16384];
 
-// Where the line or the part ends, and how many characters the line has so far. A number above the buffer's length says
-// that it has more than the buffer.
-struct Gathered {
-    end: usize,
-    length: usize,
-}
+// What was read last.
+pub type Part = [u8; 65536];
 
-// A session after a read, and whether the script may go on.
-struct PlayedPart {
-    session: Session,
-    more: bool,
+// A line that has been gathered, and where the script goes on.
+struct Gathered {
+    // A number above the line buffer's length says that the line has more than the buffer.
+    length: usize,
+    // Whether a newline ended it.
+    whole: bool,
+    // The place behind it in the part, and how many characters the part has.
+    at: usize,
+    count: usize,
 }
 
 // Adds a character to a line of some length; the new length.
@@ -35,21 +37,65 @@ fn keep(text: &mut [u8], length: usize, byte: u8) -> usize {
     text.len() + 1
 }
 
-// Adds to a line what stands in a part of the script from a place up to the next newline.
-fn gather(part: &[u8], from: usize, text: &mut LineBuffer, length: usize) -> Gathered
-    ensures { λ r. ⌜ from ≤ r .end ⌝ }
+// Adds to a line what stands among the first characters of the part from a place up to the next newline.
+fn gather(part: &[u8], from: usize, count: usize, text: &mut LineBuffer, length: usize) -> Gathered
+    ensures { λ r. ⌜ from ≤ r .at ⌝ }
 {
-    let mut end = from;
+    let mut at = from;
     let mut length = length;
-    while end < part.len() {
-        let byte = part[end];
+    while at < count {
+        if part.len() <= at {
+            return Gathered {
+                length,
+                whole: false,
+                at,
+                count,
+            };
+        }
+        let byte = part[at];
+        at += 1;
         if byte == b'\n' {
-            return Gathered { end, length };
+            return Gathered {
+                length,
+                whole: true,
+                at,
+                count,
+            };
         }
         length = keep(text, length, byte);
-        end += 1;
     }
-    Gathered { end, length }
+    Gathered {
+        length,
+        whole: false,
+        at,
+        count,
+    }
+}
+
+// Reads the next part, after what has been printed is written; how many characters came, 0 at the end of the script.
+fn next_part(part: &mut Part, out: &mut Buffer) -> usize {
+    flush(out);
+    let got = libc::read(STDIN_FILENO, part);
+    io::count(got, part)
+}
+
+// Gathers the line behind the last one. A proved loop has to end, and nothing says that a script does: the loop counts its
+// reads down from a number that no run uses up.
+fn next_line(last: Gathered, part: &mut Part, text: &mut LineBuffer, out: &mut Buffer) -> Gathered {
+    let mut line = gather(part, last.at, last.count, text, 0);
+    let mut reads = u64::MAX;
+    while 0 < reads {
+        if line.whole {
+            return line;
+        }
+        let count = next_part(part, out);
+        if count == 0 {
+            return line;
+        }
+        line = gather(part, 0, count, text, line.length);
+        reads -= 1;
+    }
+    line
 }
 
 // A line that is too long may still be a comment.
@@ -60,113 +106,37 @@ fn read_long(text: &[u8]) -> Line {
     }
 }
 
-fn read_line(text: &[u8], length: usize, bytes: &mut EntryBuffer) -> Line {
+fn read_line(text: &[u8], length: usize, numbers: &mut Numbers, bytes: &mut EntryBuffer) -> Line {
     if text.len() < length {
         return read_long(text);
     }
-    read(&text[0..length], bytes)
+    read(&text[0..length], numbers, bytes)
 }
 
-fn play_line(
-    mut session: Session,
-    text: &LineBuffer,
-    queue: &mut [u8; 640],
-    history: &mut [u8; 5080],
-    bytes: &mut EntryBuffer,
-    out: &mut Buffer,
-) -> Session {
-    let line = read_line(text, session.length, bytes);
-    let lines = std::num::wrapping_add_u64(session.lines, 1);
-    session.lines = lines;
-    session.length = 0;
-    session.play(line, queue, history, bytes, out)
-}
-
-// Plays the lines that end in a part of the script.
-fn play_part(
-    part: &[u8],
-    session: Session,
-    text: &mut LineBuffer,
-    queue: &mut [u8; 640],
-    history: &mut [u8; 5080],
-    bytes: &mut EntryBuffer,
-    out: &mut Buffer,
-) -> Session {
-    let mut session = session;
-    let mut from = 0;
-    while from < part.len() {
-        let gathered = gather(part, from, text, session.length);
-        let end = gathered.end;
-        session.length = gathered.length;
-        if part.len() <= end {
-            return session;
-        }
-        session = play_line(session, text, queue, history, bytes, out);
-        from = end + 1;
-    }
-    session
-}
-
-// Reads once and plays what came; whether there is more.
-fn play_some(
-    mut session: Session,
-    text: &mut LineBuffer,
-    queue: &mut [u8; 640],
-    history: &mut [u8; 5080],
-    bytes: &mut EntryBuffer,
-    out: &mut Buffer,
-) -> PlayedPart {
-    let mut part = io::large_buffer();
-    let got = libc::read(STDIN_FILENO, &mut part);
-    if got <= 0 {
-        return PlayedPart {
-            session,
-            more: false,
-        };
-    }
-    let n = io::count(got, &part);
-    session = play_part(&part[..n], session, text, queue, history, bytes, out);
-    flush(out, session.at);
-    session.at = 0;
-    PlayedPart {
-        session,
-        more: true,
-    }
-}
-
-// Plays the script up to its last newline. A proved loop has to end, and nothing says that a script does: the loop counts its
-// reads down from a number that no run uses up.
-fn play_parts(
-    text: &mut LineBuffer,
-    queue: &mut [u8; 640],
-    history: &mut [u8; 5080],
-    bytes: &mut EntryBuffer,
-    out: &mut Buffer,
-) -> Session {
-    let mut session = Session::new();
-    let mut reads = u64::MAX;
-    while 0 < reads {
-        let played = play_some(session, text, queue, history, bytes, out);
-        session = played.session;
-        if !played.more {
-            return session;
-        }
-        reads -= 1;
-    }
-    session
-}
-
-// Plays the whole script, whose last line may lack its newline.
+// Plays the script, whose last line may lack its newline.
 pub fn play_all(
+    part: &mut Part,
     text: &mut LineBuffer,
+    numbers: &mut Numbers,
+    bytes: &mut EntryBuffer,
     queue: &mut [u8; 640],
     history: &mut [u8; 5080],
-    bytes: &mut EntryBuffer,
     out: &mut Buffer,
 ) {
-    let mut session = play_parts(text, queue, history, bytes, out);
-    if 0 < session.length {
-        session = play_line(session, text, queue, history, bytes, out);
+    let mut session = Session::new();
+    let mut next = Gathered {
+        length: 0,
+        whole: true,
+        at: 0,
+        count: 0,
+    };
+    'script: for number in 1..u64::MAX {
+        next = next_line(next, part, text, out);
+        let line = read_line(text, next.length, numbers, bytes);
+        session = session.play(line, number, numbers, bytes, queue, history, out);
+        if !next.whole {
+            break 'script;
+        }
     }
-    flush(out, session.at);
+    flush(out);
 }

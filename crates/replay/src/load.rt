@@ -1,152 +1,70 @@
-// Reading a `load`: the values that it names, and its history.
+// Reading a `load`: the values that it names, and its history. Here a place beyond the line's end says that a word was
+// unreadable.
+ghost use Prim.Native.Nat.{_≤_};
 use crate::history::EntriesRead;
 use crate::history::EntryBuffer;
 use crate::history::entries;
-use crate::script::Call;
 use crate::script::Line;
-use crate::script::Load;
-use crate::script::call_line;
-use crate::script::whole;
-use crate::start::ObjectRead;
-use crate::start::object;
+use crate::script::next_object;
+use crate::script::next_within;
+use crate::values::KEPT;
+use crate::values::Numbers;
 use crate::words::Behind;
-use crate::words::Number8;
-use crate::words::Number32;
-use crate::words::next_number8;
-use crate::words::next_number32;
+use crate::words::Number;
 use crate::words::next_word;
-use node::load::ByteUpdate;
-use node::load::CounterUpdate;
-use node::load::DictionaryUpdate;
-use node::load::ObjectUpdate;
+use crate::words::word_end;
 
-enum ByteNamed {
-    Taken(ByteUpdate, usize),
-    Unreadable,
+// The next word as the value at a place of the load.
+fn next_value(line: &[u8], at: usize, place: usize) -> Number {
+    match place {
+        0 => next_within(line, at, 255),
+        1 | 2 => next_object(line, at),
+        _ => next_within(line, at, 4294967295),
+    }
 }
 
-enum CounterNamed {
-    Taken(CounterUpdate, usize),
-    Unreadable,
+// Reads the value of a name, if that is the next word; the place behind.
+fn value_named(line: &[u8], at: usize, name: &[u8], place: usize, numbers: &mut Numbers) -> usize
+    requires { ⌜ place ≤ 10 ⌝ }
+{
+    let Behind::At(behind) = next_word(line, at, name) else {
+        numbers[place] = KEPT;
+        return at;
+    };
+    let Number::Taken(n, end) = next_value(line, behind, place) else {
+        return line.len() + 1;
+    };
+    numbers[place] = n;
+    end
 }
 
-enum ObjectNamed {
-    Taken(ObjectUpdate, usize),
-    Unreadable,
+// Reads the values that are named, by the seven names in their order; the place behind them.
+fn values_named(names: &[u8], line: &[u8], at: usize, numbers: &mut Numbers) -> usize {
+    let mut at = at;
+    let mut from = 0;
+    for place in 0..7usize {
+        if names.len() <= from {
+            return at;
+        }
+        let end = word_end(names, from);
+        at = value_named(line, at, &names[from..end], place, numbers);
+        from = end + 1;
+    }
+    at
 }
 
-struct Counters {
-    c1: CounterUpdate,
-    c2: CounterUpdate,
-    c3: CounterUpdate,
-    c5: CounterUpdate,
-}
-
-enum CountersNamed {
-    Taken(Counters, usize),
-    Unreadable,
-}
-
-enum ValuesRead {
-    Taken(DictionaryUpdate, usize),
-    Unreadable,
-}
-
-// The register, if it is named next.
-fn register_named(line: &[u8], at: usize) -> ByteNamed {
-    let Behind::At(at) = next_word(line, at, b"register") else {
-        return ByteNamed::Taken(ByteUpdate::Keep, at);
-    };
-    let Number8::Taken(n, at) = next_number8(line, at) else {
-        return ByteNamed::Unreadable;
-    };
-    ByteNamed::Taken(ByteUpdate::Set(n), at)
-}
-
-fn counter_named(line: &[u8], at: usize, name: &[u8]) -> CounterNamed {
-    let Behind::At(at) = next_word(line, at, name) else {
-        return CounterNamed::Taken(CounterUpdate::Keep, at);
-    };
-    let Number32::Taken(n, at) = next_number32(line, at) else {
-        return CounterNamed::Unreadable;
-    };
-    CounterNamed::Taken(CounterUpdate::Set(n), at)
-}
-
-fn object_named(line: &[u8], at: usize, name: &[u8]) -> ObjectNamed {
-    let Behind::At(at) = next_word(line, at, name) else {
-        return ObjectNamed::Taken(ObjectUpdate::Keep, at);
-    };
-    let ObjectRead::Taken(value, at) = object(line, at) else {
-        return ObjectNamed::Unreadable;
-    };
-    ObjectNamed::Taken(ObjectUpdate::Set(value), at)
-}
-
-fn counters_named(line: &[u8], at: usize) -> CountersNamed {
-    let CounterNamed::Taken(c1, at) = counter_named(line, at, b"c1") else {
-        return CountersNamed::Unreadable;
-    };
-    let CounterNamed::Taken(c2, at) = counter_named(line, at, b"c2") else {
-        return CountersNamed::Unreadable;
-    };
-    let CounterNamed::Taken(c3, at) = counter_named(line, at, b"c3") else {
-        return CountersNamed::Unreadable;
-    };
-    let CounterNamed::Taken(c5, at) = counter_named(line, at, b"c5") else {
-        return CountersNamed::Unreadable;
-    };
-    CountersNamed::Taken(Counters { c1, c2, c3, c5 }, at)
-}
-
-fn values(line: &[u8], at: usize) -> ValuesRead {
-    let ByteNamed::Taken(error_register, at) = register_named(line, at) else {
-        return ValuesRead::Unreadable;
-    };
-    let ObjectNamed::Taken(cycle_time, at) = object_named(line, at, b"cycle") else {
-        return ValuesRead::Unreadable;
-    };
-    let ObjectNamed::Taken(tolerance, at) = object_named(line, at, b"tolerance") else {
-        return ValuesRead::Unreadable;
-    };
-    let CountersNamed::Taken(counters, at) = counters_named(line, at) else {
-        return ValuesRead::Unreadable;
-    };
-    let counter_1 = counters.c1;
-    let counter_2 = counters.c2;
-    let counter_3 = counters.c3;
-    let counter_5 = counters.c5;
-    let values = DictionaryUpdate {
-        error_register,
-        cycle_time,
-        tolerance,
-        counter_1,
-        counter_2,
-        counter_3,
-        counter_5,
-    };
-    ValuesRead::Taken(values, at)
-}
-
-pub fn load(line: &[u8], at: usize, bytes: &mut EntryBuffer) -> Line {
-    let ValuesRead::Taken(values, at) = values(line, at) else {
-        return Line::Unreadable;
-    };
+pub fn read_load(line: &[u8], at: usize, numbers: &mut Numbers, bytes: &mut EntryBuffer) -> Line {
+    let at = values_named(b"register cycle tolerance c1 c2 c3 c5", line, at, numbers);
     let Behind::At(at) = next_word(line, at, b"history") else {
-        let load = Load {
-            values,
-            with_history: false,
-            length: 0,
-        };
-        return whole(line, at, call_line(Call::Load(load)));
+        numbers[7] = KEPT;
+        if at == line.len() {
+            return Line::Load;
+        }
+        return Line::Unreadable;
     };
     let EntriesRead::Taken(length) = entries(line, at, bytes) else {
         return Line::Unreadable;
     };
-    let load = Load {
-        values,
-        with_history: true,
-        length,
-    };
-    call_line(Call::Load(load))
+    numbers[7] = length as u64;
+    Line::Load
 }

@@ -9,14 +9,24 @@ mod run;
 mod script;
 mod session;
 mod show;
-mod start;
+mod values;
 mod words;
 
 fn main() {
+    let mut part = [0u8; 65536];
     let mut text = [0u8; 16384];
+    let mut numbers = [0u64; 11];
+    let mut bytes = [0u8; 6000];
     let mut queue = [0u8; 640];
     let mut history = [0u8; 5080];
-    let mut bytes = [0u8; 6000];
-    let mut out = [0u8; 65536];
-    lines::play_all(&mut text, &mut queue, &mut history, &mut bytes, &mut out);
+    let mut out = [0u8; 65538];
+    lines::play_all(
+        &mut part,
+        &mut text,
+        &mut numbers,
+        &mut bytes,
+        &mut queue,
+        &mut history,
+        &mut out,
+    );
 }

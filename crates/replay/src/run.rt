@@ -10,12 +10,6 @@ pub struct Run {
     pub count: usize,
 }
 
-pub struct Joined {
-    pub run: Run,
-    // Whether there was room.
-    pub kept: bool,
-}
-
 impl Run {
     pub fn empty() -> Self {
         let none = WatchedNode {
@@ -32,33 +26,23 @@ impl Run {
         }
     }
 
-    // The run with a record behind the last one.
-    pub fn joined_by(self, record: WatchedNode) -> Joined {
+    // The run with a record behind the last one, where there is room.
+    pub fn joined_by(mut self, record: WatchedNode) -> Self {
         let count = self.count;
-        let mut nodes = self.nodes;
-        let mut rest = self.rest;
         if count < 32 {
+            let mut nodes = self.nodes;
             nodes[count] = record;
-            let run = Run {
-                nodes,
-                rest,
-                count: count + 1,
-            };
-            return Joined { run, kept: true };
+            self.nodes = nodes;
+            self.count = count + 1;
+            return self;
         }
         if count < 40 {
+            let mut rest = self.rest;
             rest[count - 32] = record;
-            let run = Run {
-                nodes,
-                rest,
-                count: count + 1,
-            };
-            return Joined { run, kept: true };
+            self.rest = rest;
+            self.count = count + 1;
         }
-        Joined {
-            run: self,
-            kept: false,
-        }
+        self
     }
 
     // The record at a place below the count.
@@ -80,13 +64,9 @@ impl Run {
     }
 
     // The run after a call that took it.
-    pub fn after(self, watched: WatchedNodes) -> Self {
+    pub fn after(mut self, watched: WatchedNodes) -> Self {
         let nodes = watched.nodes;
-        let rest = self.rest;
-        Run {
-            nodes,
-            rest,
-            count: self.count,
-        }
+        self.nodes = nodes;
+        self
     }
 }

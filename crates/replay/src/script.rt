@@ -1,256 +1,206 @@
-// What a line of a script says.
+// What a line of a script says: its name, and its numbers in a lent array, in their order.
+ghost use Prim.Native.Nat.{_≤_};
 use crate::history::EntryBuffer;
-use crate::load::load;
-use crate::start::start;
+use crate::load::read_load;
+use crate::values::MISSING;
+use crate::values::Numbers;
+use crate::values::number;
 use crate::words::Behind;
 use crate::words::Number;
-use crate::words::Number8;
 use crate::words::next_number;
-use crate::words::next_number8;
+use crate::words::next_word;
 use crate::words::word_at;
-use node::load::DictionaryUpdate;
-use node::state::Dictionary;
-use node::watched::WatchedNode;
-
-pub struct Start {
-    pub node: u8,
-    pub flags: u32,
-    pub timeout: u32,
-    pub queue: u64,
-    pub od: Dictionary,
-}
-
-// The entries of its history are the first `length` bytes of the buffer that is lent for them.
-pub struct Load {
-    pub values: DictionaryUpdate,
-    pub with_history: bool,
-    pub length: usize,
-}
-
-// A call on the head alone.
-pub enum Call {
-    Nmt(u64),
-    Dll(u64, bool),
-    Error(u64, u8, u8),
-    Cycle,
-    Withdraw,
-    HandOut,
-    Arm(u64),
-    Load(Load),
-}
-
-// What needs a head: before the first accepted start it is unreadable.
-pub enum Request {
-    Show,
-    State(u64),
-    Command(u64),
-    Heard(u8, u64),
-    Tick(u64),
-    Call(Call),
-}
+use crate::words::word_end;
 
 pub enum Line {
     // An empty line, or a comment.
     Passed,
     Unreadable,
-    Watch(WatchedNode),
+    Watch,
     Unwatch,
-    Start(Start),
-    Request(Request),
+    Start,
+    // What follows needs a head: before the first accepted start it is unreadable.
+    Show,
+    State,
+    Command,
+    Heard,
+    Tick,
+    Nmt,
+    Dll,
+    Error,
+    Cycle,
+    Withdraw,
+    HandOut,
+    Arm,
+    Load,
 }
 
-// What was read, if the line ends behind its last word.
-pub fn whole(line: &[u8], at: usize, read: Line) -> Line {
+// A line by its name, and the place behind that.
+enum Named {
+    Line(Line, usize),
+    Other,
+}
+
+// The line whose name stands at a place among the names in `read`.
+fn line_of(place: usize) -> Line {
+    match place {
+        0 => Line::Watch,
+        1 => Line::Unwatch,
+        2 => Line::Start,
+        3 => Line::Show,
+        4 => Line::State,
+        5 => Line::Command,
+        6 => Line::Heard,
+        7 => Line::Tick,
+        8 => Line::Nmt,
+        9 => Line::Dll,
+        10 => Line::Error,
+        11 => Line::Cycle,
+        12 => Line::Withdraw,
+        13 => Line::HandOut,
+        14 => Line::Arm,
+        _ => Line::Load,
+    }
+}
+
+// The line by the first of the names that it begins with.
+fn line_among(names: &[u8], line: &[u8]) -> Named {
+    let mut place = 0;
+    let mut from = 0;
+    while from < names.len() {
+        let end = word_end(names, from);
+        if let Behind::At(at) = word_at(line, 0, &names[from..end]) {
+            return Named::Line(line_of(place), at);
+        }
+        place += 1;
+        from = end + 1;
+    }
+    Named::Other
+}
+
+// How many numbers stand behind a name.
+fn count(read: Line) -> usize
+    ensures { λ r. ⌜ r ≤ 11 ⌝ }
+{
+    match read {
+        Line::State | Line::Command | Line::Tick | Line::Nmt | Line::Arm => 1,
+        Line::Heard | Line::Dll => 2,
+        Line::Watch | Line::Error => 3,
+        Line::Start => 11,
+        _ => 0,
+    }
+}
+
+// The largest number at a place of a line.
+fn largest(read: Line, place: usize) -> u64 {
+    match read {
+        Line::Watch | Line::Heard => {
+            if place == 0 {
+                return 255;
+            }
+            u64::MAX
+        }
+        Line::Dll => {
+            if place == 1 {
+                return 1;
+            }
+            u64::MAX
+        }
+        Line::Start => match place {
+            0 | 4 => 255,
+            3 => u64::MAX,
+            _ => 4294967295,
+        },
+        _ => u64::MAX,
+    }
+}
+
+// The next word as a number up to the largest.
+pub fn next_within(line: &[u8], at: usize, largest: u64) -> Number {
+    let Number::Taken(n, at) = next_number(line, at) else {
+        return Number::Unreadable;
+    };
+    if largest < n {
+        return Number::Unreadable;
+    }
+    Number::Taken(n, at)
+}
+
+// The next word as the value of an object: a number of 32 bits, or `-` for a missing one.
+pub fn next_object(line: &[u8], at: usize) -> Number {
+    if let Behind::At(at) = next_word(line, at, b"-") {
+        return Number::Taken(MISSING, at);
+    }
+    next_within(line, at, 4294967295)
+}
+
+// The next word as the number at a place of a line: a start has objects, its cycle and its tolerance, at 5 and 6.
+fn next_at(read: Line, place: usize, line: &[u8], at: usize) -> Number {
+    if let Line::Start = read {
+        if place == 5 {
+            return next_object(line, at);
+        }
+        if place == 6 {
+            return next_object(line, at);
+        }
+    }
+    next_within(line, at, largest(read, place))
+}
+
+// A line with its numbers, which have to be all that follows its name.
+fn read_numbers(read: Line, line: &[u8], from: usize, numbers: &mut Numbers) -> Line {
+    let mut at = from;
+    for i in 0..count(read) {
+        let Number::Taken(n, end) = next_at(read, i, line, at) else {
+            return Line::Unreadable;
+        };
+        numbers[i] = n;
+        at = end;
+    }
     if at < line.len() {
         return Line::Unreadable;
     }
     read
 }
 
-pub fn call_line(call: Call) -> Line {
-    Line::Request(Request::Call(call))
-}
-
-fn whole_call(line: &[u8], at: usize, call: Call) -> Line {
-    whole(line, at, call_line(call))
-}
-
-fn watch(line: &[u8], at: usize) -> Line {
-    let Number8::Taken(node, at) = next_number8(line, at) else {
-        return Line::Unreadable;
-    };
-    let Number::Taken(timeout, at) = next_number(line, at) else {
-        return Line::Unreadable;
-    };
-    let Number::Taken(last_heard, at) = next_number(line, at) else {
-        return Line::Unreadable;
-    };
-    let record = WatchedNode {
-        node,
-        timeout,
-        last_heard,
-    };
-    whole(line, at, Line::Watch(record))
-}
-
-fn heard(line: &[u8], at: usize) -> Line {
-    let Number8::Taken(node, at) = next_number8(line, at) else {
-        return Line::Unreadable;
-    };
-    let Number::Taken(time, at) = next_number(line, at) else {
-        return Line::Unreadable;
-    };
-    whole(line, at, Line::Request(Request::Heard(node, time)))
-}
-
-fn nmt(line: &[u8], at: usize) -> Line {
-    let Number::Taken(event, at) = next_number(line, at) else {
-        return Line::Unreadable;
-    };
-    whole_call(line, at, Call::Nmt(event))
-}
-
-fn dll(line: &[u8], at: usize) -> Line {
-    let Number::Taken(event, at) = next_number(line, at) else {
-        return Line::Unreadable;
-    };
-    let Number::Taken(expected, at) = next_number(line, at) else {
-        return Line::Unreadable;
-    };
-    match expected {
-        0 => whole_call(line, at, Call::Dll(event, false)),
-        1 => whole_call(line, at, Call::Dll(event, true)),
-        _ => Line::Unreadable,
-    }
-}
-
-// The numbers that a kind carries have 8 bits; another is not looked at.
-fn error_of(kind: u64, a: u64, b: u64) -> Line {
+// Whether the numbers that an error's kind carries have 8 bits; another is not looked at.
+fn carries_bytes(kind: u64, a: u64, b: u64) -> bool {
     match kind {
-        9 | 10 | 12 | 19 | 20 | 21 => {
-            if 255 < a {
-                return Line::Unreadable;
-            }
-            call_line(Call::Error(kind, a as u8, 0))
-        }
+        9 | 10 | 12 | 19 | 20 | 21 => a <= 255,
         18 => {
             if 255 < a {
-                return Line::Unreadable;
+                return false;
             }
-            if 255 < b {
-                return Line::Unreadable;
-            }
-            call_line(Call::Error(kind, a as u8, b as u8))
+            b <= 255
         }
-        _ => call_line(Call::Error(kind, 0, 0)),
+        _ => true,
     }
 }
 
-fn error(line: &[u8], at: usize) -> Line {
-    let Number::Taken(kind, at) = next_number(line, at) else {
-        return Line::Unreadable;
-    };
-    let Number::Taken(a, at) = next_number(line, at) else {
-        return Line::Unreadable;
-    };
-    let Number::Taken(b, at) = next_number(line, at) else {
-        return Line::Unreadable;
-    };
-    whole(line, at, error_of(kind, a, b))
-}
-
-fn arm(line: &[u8], at: usize) -> Line {
-    let Number::Taken(time, at) = next_number(line, at) else {
-        return Line::Unreadable;
-    };
-    whole_call(line, at, Call::Arm(time))
-}
-
-fn tick(line: &[u8], at: usize) -> Line {
-    let Number::Taken(time, at) = next_number(line, at) else {
-        return Line::Unreadable;
-    };
-    whole(line, at, Line::Request(Request::Tick(time)))
-}
-
-fn state(line: &[u8], at: usize) -> Line {
-    let Number::Taken(n, at) = next_number(line, at) else {
-        return Line::Unreadable;
-    };
-    whole(line, at, Line::Request(Request::State(n)))
-}
-
-fn command(line: &[u8], at: usize) -> Line {
-    let Number::Taken(n, at) = next_number(line, at) else {
-        return Line::Unreadable;
-    };
-    whole(line, at, Line::Request(Request::Command(n)))
-}
-
-// Lines of one word.
-fn read_word(line: &[u8]) -> Line {
-    if let Behind::At(at) = word_at(line, 0, b"cycle") {
-        return whole_call(line, at, Call::Cycle);
-    }
-    if let Behind::At(at) = word_at(line, 0, b"handout") {
-        return whole_call(line, at, Call::HandOut);
-    }
-    if let Behind::At(at) = word_at(line, 0, b"withdraw") {
-        return whole_call(line, at, Call::Withdraw);
-    }
-    if let Behind::At(at) = word_at(line, 0, b"unwatch") {
-        return whole(line, at, Line::Unwatch);
-    }
-    if let Behind::At(at) = word_at(line, 0, b"show") {
-        return whole(line, at, Line::Request(Request::Show));
+fn read_error(line: &[u8], at: usize, numbers: &mut Numbers) -> Line {
+    let read = read_numbers(Line::Error, line, at, numbers);
+    if carries_bytes(number(numbers, 0), number(numbers, 1), number(numbers, 2)) {
+        return read;
     }
     Line::Unreadable
 }
 
-// Lines of one number behind the name.
-fn read_number(line: &[u8]) -> Line {
-    if let Behind::At(at) = word_at(line, 0, b"nmt") {
-        return nmt(line, at);
-    }
-    if let Behind::At(at) = word_at(line, 0, b"tick") {
-        return tick(line, at);
-    }
-    if let Behind::At(at) = word_at(line, 0, b"arm") {
-        return arm(line, at);
-    }
-    if let Behind::At(at) = word_at(line, 0, b"state") {
-        return state(line, at);
-    }
-    if let Behind::At(at) = word_at(line, 0, b"command") {
-        return command(line, at);
-    }
-    read_word(line)
-}
-
-pub fn read(line: &[u8], bytes: &mut EntryBuffer) -> Line {
+pub fn read(line: &[u8], numbers: &mut Numbers, bytes: &mut EntryBuffer) -> Line {
     if line.len() == 0 {
         return Line::Passed;
     }
     if line[0] == b'#' {
         return Line::Passed;
     }
-    if let Behind::At(at) = word_at(line, 0, b"dll") {
-        return dll(line, at);
+    let Named::Line(named, at) = line_among(
+        b"watch unwatch start show state command heard tick nmt dll error cycle withdraw handout arm load",
+        line,
+    ) else {
+        return Line::Unreadable;
+    };
+    match named {
+        Line::Load => read_load(line, at, numbers, bytes),
+        Line::Error => read_error(line, at, numbers),
+        _ => read_numbers(named, line, at, numbers),
     }
-    if let Behind::At(at) = word_at(line, 0, b"error") {
-        return error(line, at);
-    }
-    if let Behind::At(at) = word_at(line, 0, b"heard") {
-        return heard(line, at);
-    }
-    if let Behind::At(at) = word_at(line, 0, b"watch") {
-        return watch(line, at);
-    }
-    if let Behind::At(at) = word_at(line, 0, b"start") {
-        return start(line, at);
-    }
-    if let Behind::At(at) = word_at(line, 0, b"load") {
-        return load(line, at, bytes);
-    }
-    read_number(line)
 }

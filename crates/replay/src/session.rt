@@ -1,239 +1,231 @@
-// What a script drives: the head, the run that is lent to it, and what its lines do to them.
+// What a script drives: the head, the run that is lent to it, and what its lines do to them. The numbers of a line, and the
+// entries of a load, stand in arrays that are lent with it.
+//
+// The check of a function costs by the product of its statements and the sizes of its types. So what handles a head is kept
+// to few statements, and leaves the rest to functions on small values. The last call of a function that answers nothing
+// stands behind `return`, which saves a temporary.
 use crate::answers::say_command_read;
 use crate::answers::say_refused;
 use crate::answers::say_state_read;
 use crate::answers::say_taken;
-use crate::answers::say_ticked;
 use crate::answers::say_unreadable;
+use crate::calls::head_after;
 use crate::calls::make;
 use crate::history::EntryBuffer;
 use crate::print::Buffer;
 use crate::run::Run;
-use crate::script::Call;
 use crate::script::Line;
-use crate::script::Request;
-use crate::script::Start;
 use crate::show::show;
+use crate::values::Numbers;
+use crate::values::byte;
+use crate::values::dictionary;
+use crate::values::number;
+use crate::values::record;
+use crate::values::word;
+use counters::counters::CnErrorCounters;
+use dll::cs_state_machine::DllCsStateMachine;
+use entries::emergency_queue::EmergencyQueue;
+use entries::error_history::ErrorHistory;
+use nmt::cn_state_machine::CnNmtStateMachine;
 use node::calls::HeadAnswer;
 use node::calls::HeardAnswer;
+use node::start::Started;
+use node::state::Deadline;
+use node::state::Dictionary;
 use node::state::Head;
-use node::tick::TickAnswer;
-use node::tick::TickTaken;
-use node::watched::WatchedNode;
+use node::state::ObjectValue;
+use node::state::SocWatch;
 use types::nmt::flags::FeatureFlags;
-use types::refusals::Refusal;
-
-// Nothing before the first accepted start.
-pub enum Driven {
-    Nothing,
-    Head(Head),
-}
+use types::types::NodeId;
 
 pub struct Session {
-    pub driven: Driven,
+    // Whether a start was accepted: before that no line reaches the head.
+    pub started: bool,
+    pub head: Head,
     pub run: Run,
-    // How many lines were read.
-    pub lines: u64,
-    // How many characters of the next one have been gathered.
-    pub length: usize,
-    // The place in the output.
-    pub at: u16,
+}
+
+// The head before the first accepted start.
+fn idle_head() -> Head {
+    let flags = FeatureFlags::from_bits_truncate(0);
+    let nmt = CnNmtStateMachine::new(NodeId(0), flags, 0);
+    let dll = DllCsStateMachine::new();
+    let errors = CnErrorCounters::new();
+    let soc = SocWatch {
+        last_soc_reception_time_us: 0,
+        soc_timeout_check_active: false,
+        next_tick_us: Deadline::Nothing,
+        error_status_changed: false,
+    };
+    let od = Dictionary {
+        error_register: 0,
+        cycle_time: ObjectValue::Missing,
+        tolerance: ObjectValue::Missing,
+        counter_1: 0,
+        counter_2: 0,
+        counter_3: 0,
+        counter_5: 0,
+    };
+    let queue = EmergencyQueue::new(0);
+    let history = ErrorHistory::new();
+    Head {
+        nmt,
+        dll,
+        errors,
+        soc,
+        od,
+        queue,
+        history,
+    }
+}
+
+// A line that needs a head is unreadable before the first accepted start.
+fn line_after(started: bool, line: Line) -> Line {
+    if started {
+        return line;
+    }
+    match line {
+        Line::Passed | Line::Watch | Line::Unwatch | Line::Start => line,
+        _ => Line::Unreadable,
+    }
+}
+
+fn heard(run: Run, numbers: &Numbers, out: &mut Buffer) -> Run {
+    let heard = node::calls::heard(run.lent(), byte(numbers, 0), number(numbers, 1));
+    let answer = heard.answer;
+    match answer {
+        HeardAnswer::Taken => say_taken(out),
+        HeardAnswer::Refused(refusal) => say_refused(out, refusal),
+    }
+    run.after(heard.watched)
+}
+
+// The run after a line that changes nothing else.
+fn run_after(run: Run, line: Line, place: u64, numbers: &Numbers, out: &mut Buffer) -> Run {
+    match line {
+        Line::Unwatch => return Run::empty(),
+        Line::Heard => return heard(run, numbers, out),
+        _ => {
+            if 39 < run.count {
+                say_unreadable(out, place);
+                return run;
+            }
+            return run.joined_by(record(numbers));
+        }
+    }
+}
+
+// A line that changes nothing.
+fn say_line(line: Line, place: u64, numbers: &Numbers, out: &mut Buffer) {
+    match line {
+        Line::State => say_state_read(out, number(numbers, 0)),
+        Line::Command => say_command_read(out, number(numbers, 0)),
+        Line::Unreadable => say_unreadable(out, place),
+        _ => {}
+    }
+}
+
+fn start_of(run: Run, numbers: &Numbers) -> Started {
+    let flags = FeatureFlags::from_bits_truncate(word(numbers, 1));
+    node::start::start(
+        byte(numbers, 0),
+        flags,
+        word(numbers, 2),
+        number(numbers, 3),
+        dictionary(numbers),
+        run.lent(),
+    )
 }
 
 impl Session {
     pub fn new() -> Self {
+        let head = idle_head();
         let run = Run::empty();
-        let driven = Driven::Nothing;
         Session {
-            driven,
+            started: false,
+            head,
             run,
-            lines: 0,
-            length: 0,
-            at: 0,
         }
     }
 
-    // The session with the place behind what was printed.
-    fn printed(mut self, at: u16) -> Self {
-        self.at = at;
-        self
-    }
-
-    fn unreadable(self, out: &mut Buffer) -> Self {
-        self.printed(say_unreadable(out, self.at, self.lines))
-    }
-
-    fn refused(self, refusal: Refusal, out: &mut Buffer) -> Self {
-        self.printed(say_refused(out, self.at, refusal))
-    }
-
-    fn started(self, head: Head, run: Run, out: &mut Buffer) -> Self {
-        let at = say_taken(out, self.at);
-        let driven = Driven::Head(head);
-        Session {
-            driven,
-            run,
-            at,
-            ..self
-        }
-    }
-
-    fn start(self, start: Start, out: &mut Buffer) -> Self {
-        let run = self.run;
-        let od = start.od;
-        let flags = FeatureFlags::from_bits_truncate(start.flags);
-        let lent = run.lent();
-        let started = node::start::start(start.node, flags, start.timeout, start.queue, od, lent);
-        let watched = started.watched;
+    fn start(self, numbers: &Numbers, out: &mut Buffer) -> Self {
+        let started = start_of(self.run, numbers);
         let answer = started.answer;
         match answer {
-            HeadAnswer::Taken(head) => self.started(head, run.after(watched), out),
-            HeadAnswer::Refused(refusal) => self.refused(refusal, out),
-        }
-    }
-
-    fn heard_in(mut self, run: Run, out: &mut Buffer) -> Self {
-        let at = say_taken(out, self.at);
-        self.run = run;
-        self.at = at;
-        self
-    }
-
-    fn heard(self, node: u8, time: u64, out: &mut Buffer) -> Self {
-        let run = self.run;
-        let lent = run.lent();
-        let heard = node::calls::heard(lent, node, time);
-        let watched = heard.watched;
-        let answer = heard.answer;
-        match answer {
-            HeardAnswer::Taken => self.heard_in(run.after(watched), out),
-            HeardAnswer::Refused(refusal) => self.refused(refusal, out),
-        }
-    }
-
-    fn ticked(self, taken: TickTaken, run: Run, out: &mut Buffer) -> Self {
-        let logged = taken.logged;
-        let at = say_ticked(out, self.at, logged);
-        let head = taken.head;
-        let driven = Driven::Head(head);
-        Session {
-            driven,
-            run,
-            at,
-            ..self
+            HeadAnswer::Taken(head) => {
+                say_taken(out);
+                let run = self.run.after(started.watched);
+                return Session {
+                    started: true,
+                    head,
+                    run,
+                };
+            }
+            HeadAnswer::Refused(refusal) => {
+                say_refused(out, refusal);
+                return self;
+            }
         }
     }
 
     fn tick(
-        self,
-        head: Head,
+        mut self,
         time: u64,
         queue: &mut [u8; 640],
         history: &mut [u8; 5080],
         out: &mut Buffer,
     ) -> Self {
-        let run = self.run;
-        let lent = run.lent();
-        let ticked = node::tick::process_tick(head, queue, history, lent, time);
-        let watched = ticked.watched;
-        let answer = ticked.answer;
-        match answer {
-            TickAnswer::Taken(taken) => self.ticked(taken, run.after(watched), out),
-            TickAnswer::Refused(refusal) => self.refused(refusal, out),
-        }
-    }
-
-    fn watch(mut self, record: WatchedNode, out: &mut Buffer) -> Self {
-        let run = self.run;
-        let joined = run.joined_by(record);
-        if joined.kept {
-            let run = joined.run;
-            self.run = run;
-            return self;
-        }
-        self.unreadable(out)
-    }
-
-    fn unwatch(mut self) -> Self {
-        let run = Run::empty();
+        let ticked = node::tick::process_tick(self.head, queue, history, self.run.lent(), time);
+        let head = head_after(self.head, ticked, out);
+        let run = self.run.after(ticked.watched);
+        self.head = head;
         self.run = run;
         self
     }
 
-    fn show(self, head: Head, queue: &[u8; 640], history: &[u8; 5080], out: &mut Buffer) -> Self {
-        let run = self.run;
-        self.printed(show(out, self.at, head, queue, history, run))
-    }
-
     fn call(
-        self,
-        head: Head,
-        call: Call,
-        queue: &mut [u8; 640],
-        history: &mut [u8; 5080],
-        bytes: &EntryBuffer,
-        out: &mut Buffer,
-    ) -> Self {
-        let answered = make(head, call, queue, history, bytes, out, self.at);
-        let head = answered.head;
-        let driven = Driven::Head(head);
-        Session {
-            driven,
-            at: answered.at,
-            ..self
-        }
-    }
-
-    fn answer(
-        self,
-        head: Head,
-        request: Request,
-        queue: &mut [u8; 640],
-        history: &mut [u8; 5080],
-        bytes: &EntryBuffer,
-        out: &mut Buffer,
-    ) -> Self {
-        match request {
-            Request::Show => self.show(head, queue, history, out),
-            Request::State(n) => self.printed(say_state_read(out, self.at, n)),
-            Request::Command(n) => self.printed(say_command_read(out, self.at, n)),
-            Request::Heard(node, time) => self.heard(node, time, out),
-            Request::Tick(time) => self.tick(head, time, queue, history, out),
-            Request::Call(call) => self.call(head, call, queue, history, bytes, out),
-        }
-    }
-
-    fn request(
-        self,
-        request: Request,
-        queue: &mut [u8; 640],
-        history: &mut [u8; 5080],
-        bytes: &EntryBuffer,
-        out: &mut Buffer,
-    ) -> Self {
-        let driven = self.driven;
-        match driven {
-            Driven::Head(head) => self.answer(head, request, queue, history, bytes, out),
-            Driven::Nothing => self.unreadable(out),
-        }
-    }
-
-    // A line of the script; `queue` and `history` are the head's memory, and `bytes` has the entries of a load.
-    pub fn play(
-        self,
+        mut self,
         line: Line,
-        queue: &mut [u8; 640],
-        history: &mut [u8; 5080],
+        numbers: &Numbers,
         bytes: &EntryBuffer,
+        queue: &[u8; 640],
+        history: &mut [u8; 5080],
         out: &mut Buffer,
     ) -> Self {
+        let head = make(self.head, line, numbers, bytes, queue, history, out);
+        self.head = head;
+        self
+    }
+
+    // The line at a place of the script; `queue` and `history` are the head's memory.
+    pub fn play(
+        mut self,
+        line: Line,
+        place: u64,
+        numbers: &Numbers,
+        bytes: &EntryBuffer,
+        queue: &mut [u8; 640],
+        history: &mut [u8; 5080],
+        out: &mut Buffer,
+    ) -> Self {
+        let line = line_after(self.started, line);
         match line {
-            Line::Passed => self,
-            Line::Unreadable => self.unreadable(out),
-            Line::Watch(record) => self.watch(record, out),
-            Line::Unwatch => self.unwatch(),
-            Line::Start(start) => self.start(start, out),
-            Line::Request(request) => self.request(request, queue, history, bytes, out),
+            Line::Start => return self.start(numbers, out),
+            Line::Tick => return self.tick(number(numbers, 0), queue, history, out),
+            Line::Show => {
+                show(out, self.head, queue, history, self.run);
+                return self;
+            }
+            Line::Watch | Line::Unwatch | Line::Heard => {
+                let run = run_after(self.run, line, place, numbers, out);
+                self.run = run;
+                return self;
+            }
+            Line::Passed | Line::Unreadable | Line::State | Line::Command => {
+                say_line(line, place, numbers, out);
+                return self;
+            }
+            _ => return self.call(line, numbers, bytes, queue, history, out),
         }
     }
 }

@@ -1,19 +1,10 @@
 // The words of a line. `at` is the place behind the last word that was read: there a space begins the next word, or the
 // line ends. A number that was read comes with the place behind it.
 ghost use Prim.Native.Nat.{_≤_};
+ghost use lib.ListN.{length};
 
 pub enum Number {
     Taken(u64, usize),
-    Unreadable,
-}
-
-pub enum Number32 {
-    Taken(u32, usize),
-    Unreadable,
-}
-
-pub enum Number8 {
-    Taken(u8, usize),
     Unreadable,
 }
 
@@ -80,6 +71,21 @@ pub fn digit_of(c: u8) -> u8
     }
 }
 
+// Where the word ends that stands at a place of a text.
+pub(crate) fn word_end(text: &[u8], from: usize) -> usize
+    requires { ⌜ from ≤ length (now text) ⌝ }
+    ensures { λ r. ⌜ (from ≤ r) × (r ≤ length (now (text .entry))) ⌝ }
+{
+    let mut at = from;
+    while at < text.len() {
+        if text[at] == b' ' {
+            return at;
+        }
+        at += 1;
+    }
+    at
+}
+
 fn sum(a: u64, b: u64) -> Grown {
     if u64::MAX - b < a {
         return Grown::TooWide;
@@ -136,26 +142,4 @@ pub fn next_number(line: &[u8], at: usize) -> Number {
         Behind::At(hex) => digits(line, hex, 16),
         Behind::Other => digits(line, from, 10),
     }
-}
-
-// The next word as a number of 32 bits.
-pub fn next_number32(line: &[u8], at: usize) -> Number32 {
-    let Number::Taken(n, at) = next_number(line, at) else {
-        return Number32::Unreadable;
-    };
-    if 4294967295 < n {
-        return Number32::Unreadable;
-    }
-    Number32::Taken(n as u32, at)
-}
-
-// The next word as a number of 8 bits.
-pub fn next_number8(line: &[u8], at: usize) -> Number8 {
-    let Number::Taken(n, at) = next_number(line, at) else {
-        return Number8::Unreadable;
-    };
-    if 255 < n {
-        return Number8::Unreadable;
-    }
-    Number8::Taken(n as u8, at)
 }

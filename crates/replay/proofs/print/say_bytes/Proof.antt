@@ -6,10 +6,10 @@ use Rattle.replay.proofs.print.say_bytes.Statement.{statement}
 use Rattle.replay.proofs.print.say_bytes.Tie as tie
 
 abbrev Inv-loop : tie.InvT-loop
-Inv-loop out₀ at bytes at₀ i₀ i-end out at' i = Unit
+Inv-loop out₀ bytes i₀ i-end out i = Unit
 
 abbrev μ-loop : tie.MeasureT-loop
-μ-loop out₀ at bytes at₀ i₀ i-end out at' i = i-end - i
+μ-loop out₀ bytes i₀ i-end out i = i-end - i
 
 pub say-bytes-spec : {M : Type 1} → statement M
 say-bytes-spec =
