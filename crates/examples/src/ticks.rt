@@ -13,10 +13,10 @@ use node::calls::hand_out;
 use node::calls::heard;
 use node::state::Deadline;
 use node::state::Head;
-use node::tick::TickAnswer;
-use node::tick::TickTaken;
-use node::tick::process_tick;
 use node::watched::WatchedNodes;
+use tick::tick::TickAnswer;
+use tick::tick::TickTaken;
+use tick::tick::process_tick;
 use types::nmt::states::NmtState;
 
 fn is_due(head: Head, deadline: u64) -> bool {

@@ -22,14 +22,8 @@ use Rattle.node.specs.declared.calls.DllEventAnswer.the-variants as dll-
 use Rattle.node.specs.declared.calls.ErrorAnswer.{ErrorAnswer}
 use Rattle.node.specs.declared.calls.ErrorAnswer.the-variants as error-answer
 use Rattle.node.specs.Plain.{Call, Answer, refused, taken, nmtAnswer, dllAnswer, errorAnswer, cycleAnswer, handOutAnswer, tickAnswer}
-use Rattle.node.specs.declared.tick.TickAnswer.{TickAnswer}
-use Rattle.node.specs.declared.tick.TickAnswer.the-variants as tick-answer
-use Rattle.node.specs.declared.tick.TickWatched.{TickWatched}
-use Rattle.node.specs.declared.watched.WatchedNodes.{WatchedNodes}
-use Rattle.node.specs.Ticks.{tickLeft}
 use Rattle.node.specs.Refines.{plain, Rings, rings, Left, headLeft, nmtLeft, dllLeft, errorLeft}
 use Rattle.node.proofs.Laws.{Alone}
-use Rattle.node.proofs.TickRefines.{TickLeft}
 
 -- a head is what it stands for, and where its queue and history stand
 pub head-fixed :
@@ -77,15 +71,15 @@ alone-fixes h c o u x y =
     λ i. record { head = k i; answer = a i }
 
 -- the parts of an answer, where it has them: whether it is a refusal and which, errors, reset, action and signal
-record Parts : Type 0 where
-  declines : Bool
-  refusal : Refusal
-  errors : List DllError
-  reset : Passed
-  action : NmtAction
-  signal : Bool
+pub record Parts : Type 0 where
+  pub declines : Bool
+  pub refusal : Refusal
+  pub errors : List DllError
+  pub reset : Passed
+  pub action : NmtAction
+  pub signal : Bool
 
-abbrev parts : Answer → Parts
+abbrev pub parts : Answer → Parts
 parts (refused r) = record { declines = true; refusal = r; errors = []; reset = record { states = []; ranges = [] }; action = None; signal = false }
 parts taken = record { declines = false; refusal = NodeNumber; errors = []; reset = record { states = []; ranges = [] }; action = None; signal = false }
 parts (nmtAnswer es p) = record { declines = false; refusal = NodeNumber; errors = es; reset = p; action = None; signal = false }
@@ -96,11 +90,11 @@ parts (handOutAnswer f) = record { declines = false; refusal = NodeNumber; error
 parts (tickAnswer es) = record { declines = false; refusal = NodeNumber; errors = es; reset = record { states = []; ranges = [] }; action = None; signal = false }
 
 -- a part of what two calls left alike
-part : {A : Type 0} (f : Parts → A) (o u : Left) → o ≡ u → f (parts (o .answer)) ≡ f (parts (u .answer))
+pub part : {A : Type 0} (f : Parts → A) (o u : Left) → o ≡ u → f (parts (o .answer)) ≡ f (parts (u .answer))
 part f o u e = ap (λ (o : Left). f (parts (o .answer))) e
 
 -- one that is declined and one that is taken are not alike
-apart : {A : Type 0} (o u : Left) → o ≡ u → parts (o .answer) .declines ≡ true → parts (u .answer) .declines ≡ false → A
+pub apart : {A : Type 0} (o u : Left) → o ≡ u → parts (o .answer) .declines ≡ true → parts (u .answer) .declines ≡ false → A
 apart o u e x y = absurd (true≢false (sym x ∙ part (λ (p : Parts). p .declines) o u e ∙ y))
 
 -- and an answer of each kind is fixed by what it leaves
@@ -144,25 +138,3 @@ module _ (h : Head) where
   error-answer-fixed (error-answer.Refused r) (error-answer.Taken u) e = apart _ _ e refl refl
   error-answer-fixed (error-answer.Refused r) (error-answer.Refused s) e =
       ap error-answer.Refused (part (λ (p : Parts). p .refusal) _ _ e)
-
-  pub tick-answer-fixed : (a b : TickAnswer) → tickLeft h a ≡ tickLeft h b → a ≡ b
-  tick-answer-fixed (tick-answer.Taken t) (tick-answer.Taken u) e =
-      let k = ap (λ (o : Left). o .head) e in
-      let r = reported-fixes (t .logged) (u .logged) (part (λ (p : Parts). p .errors) _ _ e) in
-      λ i. tick-answer.Taken (record { head = k i; logged = r i })
-  tick-answer-fixed (tick-answer.Taken t) (tick-answer.Refused s) e = apart _ _ (sym e) refl refl
-  tick-answer-fixed (tick-answer.Refused r) (tick-answer.Taken u) e = apart _ _ e refl refl
-  tick-answer-fixed (tick-answer.Refused r) (tick-answer.Refused s) e =
-      ap tick-answer.Refused (part (λ (p : Parts). p .refusal) _ _ e)
-
--- so a tick leaves one answer, one head and one memory
-pub tick-fixes :
-    (h : Head) (q m : List ℕ) (w : WatchedNodes) (t : ℕ) (r s : TickWatched) (q₁ m₁ q₂ m₂ : List ℕ) →
-    TickLeft h q m w t r q₁ m₁ →
-    TickLeft h q m w t s q₂ m₂ →
-    (r .answer ≡ s .answer) × (q₁ ≡ q₂) × (m₁ ≡ m₂)
-tick-fixes h q m w t r s q₁ m₁ q₂ m₂ x y =
-    let f =
-    left-fixed (tickLeft h (r .answer)) (tickLeft h (s .answer)) q₁ m₁ q₂ m₂ (x .0 .head ∙ sym (y .0 .head)) (x .1 ∙ sym (y .1))
-    (x .0 .answer ∙ sym (y .0 .answer)) in
-    (tick-answer-fixed h (r .answer) (s .answer) (f .0), f .1, f .2)

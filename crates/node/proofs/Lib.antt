@@ -3,8 +3,4 @@ pub mod Nodes
 pub mod Lent
 pub mod Fixed
 pub mod Links
-pub mod TickLaws
-pub mod Beats
-pub mod DeadlineLaws
-pub mod TickRefines
 pub mod Examples

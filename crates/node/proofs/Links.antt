@@ -14,11 +14,9 @@ use Rattle.node.specs.declared.calls.CycleTaken.{CycleTaken}
 use Rattle.node.specs.declared.calls.HandOutTaken.{HandOutTaken}
 use Rattle.node.specs.declared.calls.HeardWatched.{HeardWatched}
 use Rattle.node.specs.declared.start.Started.{Started}
-use Rattle.node.specs.declared.tick.TickWatched.{TickWatched}
 use Rattle.node.specs.Watched.{watchedList}
 use Rattle.node.specs.Plain.{Call}
 use Rattle.node.specs.Refines.{Refines, headLeft, nmtLeft, dllLeft, errorLeft, cycleLeft, handOutLeft, loadLeft, heardLeft, historyUpdate, startOf, startedNodes, Begins}
-use Rattle.node.specs.Ticks.{tickLeft}
 use Rattle.node.proofs.calls.nmt_event.Reads as nmt-event-reads
 use Rattle.node.proofs.calls.dll_event.Reads as dll-event-reads
 use Rattle.node.proofs.calls.handle_error.Reads as handle-error-reads
@@ -29,7 +27,6 @@ use Rattle.node.proofs.calls.hand_out.Reads as hand-out-reads
 use Rattle.node.proofs.calls.arm.Reads as arm-reads
 use Rattle.node.proofs.load.load.Reads as load-reads
 use Rattle.node.proofs.start.start.Reads as start-reads
-use Rattle.node.proofs.tick.process_tick.Reads as process-tick-reads
 
 -- κs: the lifetimes; a: the arguments; o: what is returned; x: what is lent, as it is left
 pub nmt-event-refines :
@@ -97,13 +94,6 @@ pub arm-refines :
     Refines (a .0) q m (Call.arm (a .1 .0)) (headLeft (a .0) o) q m []
 arm-refines κs a o x e = e .0
 
-pub process-tick-refines :
-    (κs : _) (a : _) (o : TickWatched) (x : _) →
-    process-tick-reads.Learnt κs a o x →
-    Refines (a .0) (now (a .1 .0)) (now (a .1 .1 .0)) (Call.tick (a .1 .1 .1 .1 .0) (watchedList (a .1 .1 .1 .0))) (tickLeft (a .0) (o .answer))
-    (now (x .1 .0)) (now (x .1 .1 .0)) (watchedList (o .watched))
-process-tick-refines κs a o x e = e .0
-
 pub start-begins :
     (κs : _) (a : _) (o : Started) (x : _) →
     start-reads.Learnt κs a o x →
@@ -120,7 +110,6 @@ start-leaves κs a o x e = e .2
 
 pub asks-nothing :
     ((κs : _) (a : _) → start-reads.Asked κs a)
-    × ((κs : _) (a : _) → process-tick-reads.Asked κs a)
     × ((κs : _) (a : _) → nmt-event-reads.Asked κs a)
     × ((κs : _) (a : _) → dll-event-reads.Asked κs a)
     × ((κs : _) (a : _) → handle-error-reads.Asked κs a)
@@ -131,4 +120,4 @@ pub asks-nothing :
     × ((κs : _) (a : _) → load-reads.Asked κs a)
     × ((κs : _) (a : _) → arm-reads.Asked κs a)
 asks-nothing =
-    (λ κs a. tt, λ κs a. tt, λ κs a. tt, λ κs a. tt, λ κs a. tt, λ κs a. tt, λ κs a. tt, λ κs a. tt, λ κs a. tt, λ κs a. tt, λ κs a. tt)
+    (λ κs a. tt, λ κs a. tt, λ κs a. tt, λ κs a. tt, λ κs a. tt, λ κs a. tt, λ κs a. tt, λ κs a. tt, λ κs a. tt, λ κs a. tt)

@@ -5,4 +5,3 @@ pub mod Tick
 pub mod Run
 pub mod Examples
 pub mod Refines
-pub mod Ticks

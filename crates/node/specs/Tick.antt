@@ -4,7 +4,7 @@ use Prim.Native.Nat.{ℕ, _+_, _-_, _*_, _/_, _%_, min}
 use mathlib.Core.Bool.{Bool, true, false}
 use mathlib.Core.List.{List, [], _∷_, _++_, map}
 use lib.Dec.{eqb, leb, ltb}
-use lib.ListN.{length, take, drop}
+use lib.ListN.{length, take}
 use Rattle.types.specs.Pick.{pick, both, either}
 use Rattle.types.specs.Types.{node}
 use Rattle.types.specs.States.{stateNumber, sameState}
@@ -81,10 +81,6 @@ isLate t w =
 -- "Last heard 0 is set to now"; a late node's "time is set to now"
 abbrev pub looked : ℕ → WatchedNode → WatchedNode
 looked t w = pick (either (eqb (w .«last_heard») 0) (isLate t w)) (heardNow t w) w
-
--- the array itself: the look at the first so many nodes; those behind are kept
-abbrev pub lookedFirst : ℕ → ℕ → List WatchedNode → List WatchedNode
-lookedFirst t k ns = map (looked t) (take k ns) ++ drop k ns
 
 abbrev pub lateOnes : ℕ → List WatchedNode → List WatchedNode
 lateOnes t [] = []

@@ -87,7 +87,7 @@ pub struct HeardWatched {
 }
 
 // An NMT event, by its number.
-pub fn nmt_event(head: Head, event: u64) -> NmtEventAnswer
+pub fn nmt_event(mut head: Head, event: u64) -> NmtEventAnswer
     ensures { λ r. ⌜ ((q m : List ℕ) → Refines head q m (Call.nmtEvent event) (nmtLeft head r) q m []) × SamePlaces head (nmtLeft head r .head) ⌝ }
 {
     match NmtEvent::try_from(event) {
@@ -97,19 +97,21 @@ pub fn nmt_event(head: Head, event: u64) -> NmtEventAnswer
             let nmt = answer.machine;
             let errors = answer.errors;
             let reset = answer.reset;
-            let head = Head { nmt, ..head };
-            NmtEventAnswer::Taken(NmtTaken {
+            head.nmt = nmt;
+            return NmtEventAnswer::Taken(NmtTaken {
                 head,
                 errors,
                 reset,
-            })
+            });
         }
-        NmtEventRead::Refused(refusal) => NmtEventAnswer::Refused(refusal),
+        NmtEventRead::Refused(refusal) => {
+            return NmtEventAnswer::Refused(refusal);
+        }
     }
 }
 
 // A DLL event, by its number, in the head's own NMT state.
-pub fn dll_event(head: Head, event: u64, expect_preq: bool) -> DllEventAnswer
+pub fn dll_event(mut head: Head, event: u64, expect_preq: bool) -> DllEventAnswer
     ensures { λ r. ⌜ ((q m : List ℕ) → Refines head q m (Call.dllEvent event «expect_preq») (dllLeft head r) q m []) × SamePlaces head (dllLeft head r .head) ⌝ }
 {
     match DllCsEvent::try_from(event) {
@@ -120,15 +122,17 @@ pub fn dll_event(head: Head, event: u64, expect_preq: bool) -> DllEventAnswer
             let answer = machine.process_event(event, state, expect_preq);
             let dll = answer.machine;
             let errors = answer.errors;
-            let head = Head { dll, ..head };
-            DllEventAnswer::Taken(DllTaken { head, errors })
+            head.dll = dll;
+            return DllEventAnswer::Taken(DllTaken { head, errors });
         }
-        DllCsEventRead::Refused(refusal) => DllEventAnswer::Refused(refusal),
+        DllCsEventRead::Refused(refusal) => {
+            return DllEventAnswer::Refused(refusal);
+        }
     }
 }
 
 // One error to the counters, by its kind; a is its node, or a and b are its state and event.
-pub fn handle_error(head: Head, kind: u64, a: u8, b: u8) -> ErrorAnswer
+pub fn handle_error(mut head: Head, kind: u64, a: u8, b: u8) -> ErrorAnswer
     ensures { λ r. ⌜ ((q m : List ℕ) → Refines head q m (Call.error kind a b) (errorLeft head r) q m []) × SamePlaces head (errorLeft head r .head) ⌝ }
 {
     match DllError::try_from(kind, a, b) {
@@ -139,25 +143,27 @@ pub fn handle_error(head: Head, kind: u64, a: u8, b: u8) -> ErrorAnswer
             let action = handled.action;
             let signal = handled.signal;
             let logged = handled.logged;
-            let head = Head { errors, ..head };
-            ErrorAnswer::Taken(ErrorTaken {
+            head.errors = errors;
+            return ErrorAnswer::Taken(ErrorTaken {
                 head,
                 action,
                 signal,
                 logged,
-            })
+            });
         }
-        DllErrorRead::Refused(refusal) => ErrorAnswer::Refused(refusal),
+        DllErrorRead::Refused(refusal) => {
+            return ErrorAnswer::Refused(refusal);
+        }
     }
 }
 
-pub fn on_cycle_complete(head: Head) -> CycleTaken
+pub fn on_cycle_complete(mut head: Head) -> CycleTaken
     ensures { λ r. ⌜ ((q m : List ℕ) → Refines head q m (Call.cycleComplete) (cycleLeft r) q m []) × SamePlaces head (cycleLeft r .head) ⌝ }
 {
     let counters = head.errors;
     let completed = counters.on_cycle_complete();
     let errors = completed.counters;
-    let head = Head { errors, ..head };
+    head.errors = errors;
     CycleTaken {
         head,
         cleared: completed.cleared,
@@ -165,16 +171,19 @@ pub fn on_cycle_complete(head: Head) -> CycleTaken
 }
 
 // The application takes its ready word back.
-pub fn withdraw(head: Head) -> HeadAnswer
+pub fn withdraw(mut head: Head) -> HeadAnswer
     ensures { λ r. ⌜ ((q m : List ℕ) → Refines head q m (Call.withdraw) (headLeft head r) q m []) × SamePlaces head (headLeft head r .head) ⌝ }
 {
     let mut nmt = head.nmt;
     let state = nmt.current_state;
     match state {
-        NmtState::NmtReadyToOperate => HeadAnswer::Refused(Refusal::ReadyToOperate),
+        NmtState::NmtReadyToOperate => {
+            return HeadAnswer::Refused(Refusal::ReadyToOperate);
+        }
         _ => {
             nmt.app_ready = false;
-            HeadAnswer::Taken(Head { nmt, ..head })
+            head.nmt = nmt;
+            return HeadAnswer::Taken(head);
         }
     }
 }
@@ -212,7 +221,7 @@ pub fn heard(watched: WatchedNodes, node: u8, time: u64) -> HeardWatched
 }
 
 // The oldest entry leaves the queue; of an empty one, none does.
-pub fn hand_out(head: Head, memory: &[u8; 640]) -> HandOutTaken
+pub fn hand_out(mut head: Head, memory: &[u8; 640]) -> HandOutTaken
     ensures { λ r. ⌜ ((m : List ℕ) → Refines head (now (memory .entry)) m Call.handOut (handOutLeft r) (now (memory .entry)) m [])
         × (r .head .queue ≡ handedOut (now (memory .entry)) (head .queue) .queue) × (r .head .history ≡ head .history) ⌝ }
 {
@@ -220,12 +229,12 @@ pub fn hand_out(head: Head, memory: &[u8; 640]) -> HandOutTaken
     let handed = queue.hand_out(memory);
     let queue = handed.queue;
     let entry = handed.entry;
-    let head = Head { queue, ..head };
+    head.queue = queue;
     HandOutTaken { head, entry }
 }
 
 // An SoC was received at a time: the check goes on where there is a cycle, with a deadline.
-pub fn arm(head: Head, time: u64) -> HeadAnswer
+pub fn arm(mut head: Head, time: u64) -> HeadAnswer
     ensures { λ r. ⌜ ((q m : List ℕ) → Refines head q m (Call.arm time) (headLeft head r) q m []) × SamePlaces head (headLeft head r .head) ⌝ }
 {
     if !in_time(time) {
@@ -234,5 +243,6 @@ pub fn arm(head: Head, time: u64) -> HeadAnswer
     let old = head.soc;
     let od = head.od;
     let soc = old.armed(od, time);
-    HeadAnswer::Taken(Head { soc, ..head })
+    head.soc = soc;
+    HeadAnswer::Taken(head)
 }

@@ -1,12 +1,7 @@
-// The head: what a controlled node keeps (node/cn/state.rs), and the calls on it. A head is a small value; the bytes of
-// its emergency queue and of its error history are lent, and the watched nodes stand beside it.
+// The head: what a controlled node keeps (node/cn/state.rs), and the calls on it but for the tick. A head is a small value; the
+// bytes of its emergency queue and of its error history are lent, and the watched nodes stand beside it.
 pub mod calls;
-mod deadline;
-mod dealt;
-mod heartbeats;
 pub mod load;
-mod soc;
 pub mod start;
 pub mod state;
-pub mod tick;
 pub mod watched;

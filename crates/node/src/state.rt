@@ -58,14 +58,14 @@ pub struct Head {
     pub history: ErrorHistory,
 }
 
-pub(crate) fn in_time(time: u64) -> bool
+pub fn in_time(time: u64) -> bool
     ensures { λ r. ⌜ r ≡ inTime time ⌝ }
 {
     time <= LATEST_TIME
 }
 
 // How long ago a moment is, at least 0.
-pub(crate) fn time_since(time: u64, moment: u64) -> u64
+pub fn time_since(time: u64, moment: u64) -> u64
     ensures { λ r. ⌜ r ≡ time - moment ⌝ }
 {
     if moment <= time { time - moment } else { 0 }
@@ -82,7 +82,7 @@ fn value_or(none: u32, value: ObjectValue) -> u64
 
 impl Dictionary {
     // In microseconds.
-    pub(crate) fn cycle(self) -> u64
+    pub fn cycle(self) -> u64
         ensures { λ r. ⌜ (r ≡ cycleOf self) × (r ≤ 4294967295) ⌝ }
     {
         let value = self.cycle_time;
@@ -90,7 +90,7 @@ impl Dictionary {
     }
 
     // In microseconds.
-    pub(crate) fn tolerance_us(self) -> u64
+    pub fn tolerance_us(self) -> u64
         ensures { λ r. ⌜ (r ≡ toleranceOf self / 1000) × (r ≤ 4294967) ⌝ }
     {
         let value = self.tolerance;
@@ -98,7 +98,7 @@ impl Dictionary {
     }
 
     // How long after the last SoC the next one is late, in microseconds.
-    pub(crate) fn limit(self) -> u64
+    pub fn limit(self) -> u64
         ensures { λ r. ⌜ (r ≡ limitOf self) × (r ≤ 4299262262) ⌝ }
     {
         self.cycle() + self.tolerance_us()
@@ -107,7 +107,7 @@ impl Dictionary {
 
 impl SocWatch {
     // No call leaves a time above the latest; one is read as that.
-    pub(crate) fn last_soc(self) -> u64
+    pub fn last_soc(self) -> u64
         ensures { λ r. ⌜ r ≡ min (self .«last_soc_reception_time_us») 4611686018427387903 ⌝ }
     {
         if self.last_soc_reception_time_us < LATEST_TIME {

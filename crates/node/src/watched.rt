@@ -41,7 +41,7 @@ impl WatchedNode {
 }
 
 // Whether the first nodes of the array are few enough, ascending, and each within its limits.
-pub(crate) fn well_formed(nodes: [WatchedNode; 32], count: usize) -> bool
+pub fn well_formed(nodes: [WatchedNode; 32], count: usize) -> bool
     ensures { λ r. ⌜ (r ≡ wellFormed (watchedOf nodes count)) × (length nodes ≡ 32) ⌝ }
 {
     if 32 < count {

@@ -23,9 +23,9 @@ use node::calls::HeadAnswer;
 use node::calls::NmtEventAnswer;
 use node::calls::NmtTaken;
 use node::state::Head;
-use node::tick::TickAnswer;
-use node::tick::TickTaken;
-use node::tick::TickWatched;
+use tick::tick::TickAnswer;
+use tick::tick::TickTaken;
+use tick::tick::TickWatched;
 use types::refusals::Refusal;
 
 // The head that a declined call leaves.

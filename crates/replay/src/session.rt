@@ -175,7 +175,7 @@ impl Session {
         history: &mut [u8; 5080],
         out: &mut Buffer,
     ) -> Self {
-        let ticked = node::tick::process_tick(self.head, queue, history, self.run.lent(), time);
+        let ticked = tick::tick::process_tick(self.head, queue, history, self.run.lent(), time);
         let head = head_after(self.head, ticked, out);
         let run = self.run.after(ticked.watched);
         self.head = head;

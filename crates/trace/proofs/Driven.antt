@@ -17,9 +17,9 @@ use Rattle.node.specs.declared.calls.HeardAnswer.{HeardAnswer}
 use Rattle.node.specs.declared.calls.HeardAnswer.the-variants as heard-answer
 use Rattle.node.specs.declared.calls.HeardWatched.{HeardWatched}
 use Rattle.node.specs.declared.start.Started.{Started}
-use Rattle.node.specs.declared.tick.TickWatched.{TickWatched}
-use Rattle.node.specs.Ticks.{tickLeft}
-use Rattle.node.proofs.tick.process_tick.Reads as process-tick-reads
+use Rattle.tick.specs.declared.tick.TickWatched.{TickWatched}
+use Rattle.tick.specs.Ticks.{tickLeft}
+use Rattle.tick.proofs.tick.process_tick.Reads as process-tick-reads
 use Rattle.node.specs.Watched.{watchedList}
 use Rattle.node.specs.Plain.{Call, Start, declined}
 use Rattle.node.specs.Steps.{started}
@@ -36,6 +36,7 @@ use Rattle.node.proofs.calls.arm.Reads as arm-reads
 use Rattle.node.proofs.load.load.Reads as load-reads
 use Rattle.node.proofs.start.start.Reads as start-reads
 use Rattle.node.proofs.Links
+use Rattle.tick.proofs.Links.{process-tick-refines}
 use Rattle.trace.specs.Claim.{Claim}
 use Rattle.trace.proofs.Follows.{Follows, finished, next, saying, begins-fresh, followed}
 
@@ -123,7 +124,7 @@ follows (heard {h = h} {h′ = h′} {q = q} {m = m} {q′ = q′} {m′ = m′}
 follows (handOut {m = m} κs a o x e d) = next (Links.hand-out-refines κs a o x e m) (follows d)
 follows (load {q = q} κs a o x e d) = next (Links.load-refines κs a o x e q) (follows d)
 follows (arm {q = q} {m = m} κs a o x e d) = next (Links.arm-refines κs a o x e q m) (follows d)
-follows (tick κs a o x e d) = next (Links.process-tick-refines κs a o x e) (follows d)
+follows (tick κs a o x e d) = next (process-tick-refines κs a o x e) (follows d)
 
 module _ (κs : _) (a : _) (o : Started) (x : _) (e : start-reads.Learnt κs a o x) where
   -- what start was given

@@ -33,6 +33,18 @@ turns {h} {q} {m} {q′} {m′} e r s =
           ap (λ (x : Call). numberOf (step (plain h q m) x .answer)) (sym e);
     }
 
+-- and of a call that is the same one
+pub turns-as :
+    {h : Head} {q m q′ m′ : List ℕ} {c d : Call} {t : Turn} →
+    d ≡ c →
+    Turns h q m c t q′ m′ →
+    Turns h q m d t q′ m′
+turns-as {h} {q} {m} e w =
+    record {
+      head = w .head ∙ ap (λ (x : Call). step (plain h q m) x .head) (sym e);
+      number = w .number ∙ ap (λ (x : Call). numberOf (step (plain h q m) x .answer)) (sym e);
+    }
+
 -- the call of each tag
 module _ (r : Row) (ws : List WatchedNode) (bytes : List ℕ) where
   pub call-0 : r .tag ≡ 0 → callOf r ws bytes ≡ nmtEvent (r .a)

@@ -6,24 +6,36 @@ ghost use Prim.Native.Nat.{ℕ, _+_, _*_, _<_};
 ghost use lib.ListN.{length, set};
 ghost use Rattle.node.specs.declared.watched.WatchedNode.{WatchedNode};
 ghost use Rattle.node.specs.Watched.{watchedList};
-ghost use Rattle.node.specs.Refines.{plain, nmtLeft, dllLeft, errorLeft, headLeft, heardLeft, startOf};
-ghost use Rattle.node.specs.Ticks.{tickLeft};
+ghost use Rattle.node.specs.Plain.{Call};
+ghost use Rattle.node.specs.Run.{step};
+ghost use Rattle.node.specs.Refines.{plain, headLeft, heardLeft, startOf};
+ghost use Rattle.tick.specs.Ticks.{tickLeft};
 ghost use Rattle.trace.specs.Script.{byteUpdate, counterUpdate, objectUpdate, valuesOf, rowAt, callOf, nodesAfter, turned, Turns, Replayed};
 use node::calls::DllEventAnswer;
 use node::calls::ErrorAnswer;
 use node::calls::HeadAnswer;
 use node::calls::HeardAnswer;
 use node::calls::NmtEventAnswer;
+use node::calls::arm;
+use node::calls::dll_event;
+use node::calls::hand_out;
+use node::calls::handle_error;
+use node::calls::heard;
+use node::calls::nmt_event;
+use node::calls::on_cycle_complete;
+use node::calls::withdraw;
 use node::load::ByteUpdate;
 use node::load::CounterUpdate;
 use node::load::DictionaryUpdate;
 use node::load::ObjectUpdate;
+use node::load::load;
 use node::start::start;
 use node::state::Dictionary;
 use node::state::Head;
 use node::state::ObjectValue;
-use node::tick::TickAnswer;
 use node::watched::WatchedNodes;
+use tick::tick::TickAnswer;
+use tick::tick::process_tick;
 use types::nmt::flags::FeatureFlags;
 
 // A call as nine numbers: which one, and its arguments.
@@ -103,88 +115,157 @@ fn values(row: Row) -> DictionaryUpdate
     }
 }
 
-fn nmt_turn(head: Head, answer: NmtEventAnswer) -> Turn
-    ensures { λ r. ⌜ r ≡ turned (nmtLeft head answer) ⌝ }
+// An NMT event.
+fn nmt_turn(head: Head, event: u64) -> Turn
+    ensures { λ r. ⌜ ((q m : List ℕ) → Turns head q m (Call.nmtEvent event) r q m) ⌝ }
 {
-    match answer {
+    match nmt_event(head, event) {
         NmtEventAnswer::Taken(taken) => {
             let head = taken.head;
-            Turn { head, number: 0 }
+            return Turn { head, number: 0 };
         }
-        NmtEventAnswer::Refused(refusal) => Turn {
-            head,
-            number: refusal.number() as u64,
-        },
+        NmtEventAnswer::Refused(refusal) => {
+            return Turn {
+                head,
+                number: refusal.number() as u64,
+            };
+        }
     }
 }
 
-fn dll_turn(head: Head, answer: DllEventAnswer) -> Turn
-    ensures { λ r. ⌜ r ≡ turned (dllLeft head answer) ⌝ }
+// A DLL event.
+fn dll_turn(head: Head, event: u64, expect_preq: bool) -> Turn
+    ensures { λ r. ⌜ ((q m : List ℕ) → Turns head q m (Call.dllEvent event «expect_preq») r q m) ⌝ }
 {
-    match answer {
+    match dll_event(head, event, expect_preq) {
         DllEventAnswer::Taken(taken) => {
             let head = taken.head;
-            Turn { head, number: 0 }
+            return Turn { head, number: 0 };
         }
-        DllEventAnswer::Refused(refusal) => Turn {
-            head,
-            number: refusal.number() as u64,
-        },
+        DllEventAnswer::Refused(refusal) => {
+            return Turn {
+                head,
+                number: refusal.number() as u64,
+            };
+        }
     }
 }
 
-fn error_turn(head: Head, answer: ErrorAnswer) -> Turn
-    ensures { λ r. ⌜ r ≡ turned (errorLeft head answer) ⌝ }
+// An error to the counters.
+fn error_turn(head: Head, kind: u64, a: u8, b: u8) -> Turn
+    ensures { λ r. ⌜ ((q m : List ℕ) → Turns head q m (Call.error kind a b) r q m) ⌝ }
 {
-    match answer {
+    match handle_error(head, kind, a, b) {
         ErrorAnswer::Taken(taken) => {
             let head = taken.head;
-            Turn { head, number: 0 }
+            return Turn { head, number: 0 };
         }
-        ErrorAnswer::Refused(refusal) => Turn {
-            head,
-            number: refusal.number() as u64,
-        },
+        ErrorAnswer::Refused(refusal) => {
+            return Turn {
+                head,
+                number: refusal.number() as u64,
+            };
+        }
     }
+}
+
+// The end of a cycle.
+fn cycle_turn(mut head: Head) -> Turn
+    ensures { λ r. ⌜ ((q m : List ℕ) → Turns head q m Call.cycleComplete r q m) ⌝ }
+{
+    let taken = on_cycle_complete(head);
+    head = taken.head;
+    Turn { head, number: 0 }
 }
 
 fn head_turn(head: Head, answer: HeadAnswer) -> Turn
     ensures { λ r. ⌜ r ≡ turned (headLeft head answer) ⌝ }
 {
     match answer {
-        HeadAnswer::Taken(head) => Turn { head, number: 0 },
-        HeadAnswer::Refused(refusal) => Turn {
-            head,
-            number: refusal.number() as u64,
-        },
+        HeadAnswer::Taken(head) => {
+            return Turn { head, number: 0 };
+        }
+        HeadAnswer::Refused(refusal) => {
+            return Turn {
+                head,
+                number: refusal.number() as u64,
+            };
+        }
     }
+}
+
+// The ready word is taken back.
+fn withdraw_turn(head: Head) -> Turn
+    ensures { λ r. ⌜ ((q m : List ℕ) → Turns head q m Call.withdraw r q m) ⌝ }
+{
+    head_turn(head, withdraw(head))
+}
+
+// An SoC.
+fn arm_turn(head: Head, time: u64) -> Turn
+    ensures { λ r. ⌜ ((q m : List ℕ) → Turns head q m (Call.arm time) r q m) ⌝ }
+{
+    head_turn(head, arm(head, time))
+}
+
+// The oldest entry is handed out.
+fn hand_out_turn(mut head: Head, queue: &[u8; 640]) -> Turn
+    ensures { λ r. ⌜ ((m : List ℕ) → Turns head (now (queue .entry)) m Call.handOut r (now (queue .entry)) m) ⌝ }
+{
+    let taken = hand_out(head, queue);
+    head = taken.head;
+    Turn { head, number: 0 }
 }
 
 fn heard_turn(head: Head, answer: HeardAnswer) -> Turn
     ensures { λ r. ⌜ r ≡ turned (heardLeft head answer) ⌝ }
 {
     match answer {
-        HeardAnswer::Taken => Turn { head, number: 0 },
-        HeardAnswer::Refused(refusal) => Turn {
-            head,
-            number: refusal.number() as u64,
-        },
+        HeardAnswer::Taken => {
+            return Turn { head, number: 0 };
+        }
+        HeardAnswer::Refused(refusal) => {
+            return Turn {
+                head,
+                number: refusal.number() as u64,
+            };
+        }
     }
 }
 
-fn tick_turn(head: Head, answer: TickAnswer) -> Turn
+fn ticked_turn(head: Head, answer: TickAnswer) -> Turn
     ensures { λ r. ⌜ r ≡ turned (tickLeft head answer) ⌝ }
 {
     match answer {
         TickAnswer::Taken(taken) => {
             let head = taken.head;
-            Turn { head, number: 0 }
+            return Turn { head, number: 0 };
         }
-        TickAnswer::Refused(refusal) => Turn {
-            head,
-            number: refusal.number() as u64,
-        },
+        TickAnswer::Refused(refusal) => {
+            return Turn {
+                head,
+                number: refusal.number() as u64,
+            };
+        }
     }
+}
+
+// A tick.
+fn tick_turn(
+    head: Head,
+    mut watched: WatchedNodes,
+    queue: &mut [u8; 640],
+    history: &mut [u8; 5080],
+    time: u64,
+) -> WatchedTurn
+    ensures { λ r. ⌜ Turns head (now (queue .entry)) (now (history .entry)) (Call.tick time (watchedList watched)) (r .turn) (now (queue .exit)) (now (history .exit))
+        × (watchedList (r .watched) ≡ step (plain head (now (queue .entry)) (now (history .entry))) (Call.tick time (watchedList watched)) .lent) ⌝ }
+{
+    let ticked = process_tick(head, queue, history, watched, time);
+    let answer = ticked.answer;
+    watched = ticked.watched;
+    let turn = ticked_turn(head, answer);
+    WatchedTurn { turn, watched }
 }
 
 // The i-th row of a script.
@@ -217,7 +298,7 @@ fn put(out: &mut [u64], i: usize, n: u64)
 
 // A call that is lent no watched nodes.
 fn head_call(
-    head: Head,
+    mut head: Head,
     queue: &[u8; 640],
     history: &mut [u8; 5080],
     bytes: &[u8],
@@ -227,40 +308,36 @@ fn head_call(
     ensures { λ r. ⌜ ((ws : List WatchedNode) → Turns head (now (queue .entry)) (now (history .entry)) (callOf row ws (now (bytes .entry))) r (now (queue .entry)) (now (history .exit))) ⌝ }
 {
     if row.tag == 0 {
-        return nmt_turn(head, node::calls::nmt_event(head, row.a));
+        return nmt_turn(head, row.a);
     }
     if row.tag == 1 {
-        return dll_turn(head, node::calls::dll_event(head, row.a, row.b == 1));
+        return dll_turn(head, row.a, row.b == 1);
     }
     if row.tag == 2 {
         let a = (row.b % 256) as u8;
         let b = (row.c % 256) as u8;
-        return error_turn(head, node::calls::handle_error(head, row.a, a, b));
+        return error_turn(head, row.a, a, b);
     }
     if row.tag == 3 {
-        let taken = node::calls::on_cycle_complete(head);
-        let head = taken.head;
-        return Turn { head, number: 0 };
+        return cycle_turn(head);
     }
     if row.tag == 4 {
-        return head_turn(head, node::calls::withdraw(head));
+        return withdraw_turn(head);
     }
     if row.tag == 6 {
-        let taken = node::calls::hand_out(head, queue);
-        let head = taken.head;
-        return Turn { head, number: 0 };
+        return hand_out_turn(head, queue);
     }
     if row.tag == 7 {
-        let head = node::load::load(head, history, values(row), row.h == 1, bytes);
+        head = load(head, history, values(row), row.h == 1, bytes);
         return Turn { head, number: 0 };
     }
-    head_turn(head, node::calls::arm(head, row.a))
+    arm_turn(head, row.a)
 }
 
 // Any call; heard and a tick are lent the watched nodes.
 fn call(
     head: Head,
-    watched: WatchedNodes,
+    mut watched: WatchedNodes,
     queue: &mut [u8; 640],
     history: &mut [u8; 5080],
     bytes: &[u8],
@@ -270,18 +347,14 @@ fn call(
         × (watchedList (r .watched) ≡ nodesAfter (plain head (now (queue .entry)) (now (history .entry))) (watchedList watched) (callOf row (watchedList watched) (now (bytes .entry)))) ⌝ }
 {
     if row.tag == 5 {
-        let heard = node::calls::heard(watched, (row.a % 256) as u8, row.b);
-        let answer = heard.answer;
+        let said = heard(watched, (row.a % 256) as u8, row.b);
+        let answer = said.answer;
+        watched = said.watched;
         let turn = heard_turn(head, answer);
-        let watched = heard.watched;
         return WatchedTurn { turn, watched };
     }
     if row.tag == 9 {
-        let ticked = node::tick::process_tick(head, queue, history, watched, row.a);
-        let answer = ticked.answer;
-        let turn = tick_turn(head, answer);
-        let watched = ticked.watched;
-        return WatchedTurn { turn, watched };
+        return tick_turn(head, watched, queue, history, row.a);
     }
     let turn = head_call(head, queue, history, bytes, row);
     WatchedTurn { turn, watched }
@@ -314,10 +387,9 @@ pub fn drive(
         watched,
     );
     let answer = started.answer;
-    let HeadAnswer::Taken(fresh) = answer else {
+    let HeadAnswer::Taken(mut head) = answer else {
         return answer;
     };
-    let mut head = fresh;
     let mut nodes = started.watched;
     let n = script.len() / 9;
     let mut i = 0;
@@ -326,10 +398,8 @@ pub fn drive(
         let called = call(head, nodes, queue, history, bytes, row);
         let turn = called.turn;
         put(out, i, turn.number);
-        let left = turn.head;
-        head = left;
-        let watched = called.watched;
-        nodes = watched;
+        head = turn.head;
+        nodes = called.watched;
         i += 1;
     }
     HeadAnswer::Taken(head)

@@ -9,8 +9,8 @@ head-turn-spec =
     tie.close
     (tie.spec
     (λ c. search needs)
+    (λ c. rw (c .before .answer .given .1))
     (λ c. search needs)
     (λ c κs. search needs)
     (λ c. search needs)
-    (λ c. rw (c .before .answer .given .1))
     (λ c. rw (c .before .before .answer2 .given .1, ← c .number .ensures)))

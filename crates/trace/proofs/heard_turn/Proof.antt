@@ -9,8 +9,8 @@ heard-turn-spec =
     tie.close
     (tie.spec
     (λ c. search needs)
+    (λ c. rw (c .enum-told .given .1))
     (λ c. search needs)
     (λ c κs. search needs)
     (λ c. search needs)
-    (λ c. rw (c .enum-told .given .1))
     (λ c. rw (c .before .before .answer .given .1, ← c .number .ensures)))

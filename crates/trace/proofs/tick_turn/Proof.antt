@@ -1,6 +1,8 @@
--- `trace::tick_turn` meets its contract: the answer's head and number.
+-- `trace::tick_turn` meets its contract: the call's head, number and watched nodes.
 -- Assumes nothing.
+use mathlib.Core.Path.{refl}
 use borrow.Author.Needs.{needs}
+use Rattle.trace.proofs.Turning.{turns}
 use Rattle.trace.proofs.tick_turn.Statement.{statement}
 use Rattle.trace.proofs.tick_turn.Tie as tie
 
@@ -8,9 +10,8 @@ pub tick-turn-spec : {M : Type 1} → statement M
 tick-turn-spec =
     tie.close
     (tie.spec
-    (λ c. search needs)
-    (λ c. search needs)
     (λ c κs. search needs)
-    (λ c. search needs)
-    (λ c. rw (c .before .before .answer .given .1))
-    (λ c. rw (c .before .before .answer2 .given .1, ← c .number .ensures)))
+    (λ c κs. search needs)
+    (λ c.
+    let r = c .before .before .process-tick .ensures .0 in
+    (turns refl r (c .ticked-turn .ensures), r .lent)))

@@ -20,7 +20,6 @@ arm-spec =
     let i = c .before .before .before in
     leb-true (i .before .args .time) 4611686018427387903 (sym (i .in-time .ensures) ∙ not-false (i .in-time .result) (c .before .before .if1 .left)))
     (λ c.
-    let r = c .before .before .before .before .before .before in
-    let i = r .before .before .before .before in
+    let i = c .before .before .before .before in
     let a = i .before .args in
-    arm-taken (a .head) (a .time) (r .armed .result) (sym (i .in-time .ensures) ∙ not-false (i .in-time .result) (r .before .before .before .if1 .left)) (r .armed .ensures)))
+    arm-taken (a .head) (a .time) (c .armed .result) (sym (i .in-time .ensures) ∙ not-false (i .in-time .result) (c .before .before .before .if1 .left)) (c .armed .ensures)))

@@ -13,13 +13,13 @@ dll-event-spec =
     (λ c κs. search needs)
     (λ c. search needs)
     (λ c κs. search needs)
-    (λ c. search needs)
     (λ c.
-    let r = c .before .before .before .before .before .before .before in
+    let r = c .before in
     let t = r .before .before .before .before .before .before in
     let a = t .before .args in
     dll-taken (a .head) (a .event) (a .expect-preq) _ (r .process-event .result)
     (sym (t .try-from .ensures) ∙ r .before .before .before .before .event .given .1) (r .process-event .ensures))
+    (λ c. search needs)
     (λ c.
     let t = c .before .before .before in
     let a = t .before .args in

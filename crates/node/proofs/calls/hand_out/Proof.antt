@@ -12,6 +12,6 @@ hand-out-spec =
     (tie.spec
     (λ c κs. search needs)
     (λ c.
-    let r = c .before .before .before .before .before .before .before in
+    let r = c .before in
     let a = r .before .before .args in
     hand-out-taken (a .head) (now (a .memory)) (r .hand-out .result) (r .hand-out .ensures)))

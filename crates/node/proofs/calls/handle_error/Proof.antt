@@ -13,13 +13,13 @@ handle-error-spec =
     (λ c κs. search needs)
     (λ c. search needs)
     (λ c κs. search needs)
-    (λ c. search needs)
     (λ c.
-    let r = c .before .before .before .before .before .before .before in
+    let r = c .before in
     let t = r .before .before .before .before .before in
     let a = t .before .args in
     error-taken (a .head) (a .kind) (a .a) (a .b) _ (r .handle-error .result)
     (sym (t .try-from .ensures) ∙ r .before .before .before .error .given .1) (r .handle-error .ensures))
+    (λ c. search needs)
     (λ c.
     let t = c .before .before .before in
     let a = t .before .args in

@@ -13,12 +13,12 @@ nmt-event-spec =
     (λ c κs. search needs)
     (λ c. search needs)
     (λ c κs. search needs)
-    (λ c. search needs)
     (λ c.
-    let r = c .before .before .before .before .before .before .before .before in
+    let r = c .before .before in
     let t = r .before .before .before .before .before in
     nmt-taken (t .before .args .head) (t .before .args .event) _ (r .process-event .result)
     (sym (t .try-from .ensures) ∙ r .before .before .before .event .given .1) (r .process-event .ensures))
+    (λ c. search needs)
     (λ c.
     let t = c .before .before .before in
     nmt-refused (t .before .args .head) (t .before .args .event) _ (sym (t .try-from .ensures) ∙ c .before .refusal .given .1)))

@@ -11,5 +11,5 @@ on-cycle-complete-spec =
     (tie.spec
     (λ c κs. search needs)
     (λ c.
-    let r = c .before .before .before .before .before .before .before in
+    let r = c .before in
     cycle-taken (r .before .before .args .head) (r .on-cycle-complete .result) (r .on-cycle-complete .ensures)))

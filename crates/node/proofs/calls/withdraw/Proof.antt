@@ -18,6 +18,5 @@ withdraw-spec =
     (λ c. search needs)
     (λ c. withdraw-refused (c .before .before .before .args .head) (c .enum-told .given .1))
     (λ c.
-    let r = c .before .before .before .before .before .before in
-    let h = r .before .before .args .head in
-    withdraw-taken h (arm NmtStates (λ s. not (sameState s NmtReadyToOperate)) (λ s. true) (keys-but NmtStates (NmtReadyToOperate ∷ [])) (h .nmt .«current_state») (r .match .keys2) refl)))
+    let h = c .before .before .args .head in
+    withdraw-taken h (arm NmtStates (λ s. not (sameState s NmtReadyToOperate)) (λ s. true) (keys-but NmtStates (NmtReadyToOperate ∷ [])) (h .nmt .«current_state») (c .match .keys2) refl)))

@@ -1,0 +1,14 @@
+-- `trace::cycle_turn` meets its contract: the call's head and number.
+-- Assumes nothing.
+use mathlib.Core.Path.{refl}
+use borrow.Author.Needs.{needs}
+use Rattle.trace.proofs.Turning.{turns}
+use Rattle.trace.proofs.cycle_turn.Statement.{statement}
+use Rattle.trace.proofs.cycle_turn.Tie as tie
+
+pub cycle-turn-spec : {M : Type 1} → statement M
+cycle-turn-spec =
+    tie.close
+    (tie.spec
+    (λ c κs. search needs)
+    (λ c q m. turns refl (c .before .on-cycle-complete .ensures .0 q m) refl))
