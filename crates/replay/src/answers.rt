@@ -60,17 +60,14 @@ pub fn say_command_read(out: &mut Buffer, n: u64) {
 
 fn carried_by(error: DllError) -> Carried {
     match error {
-        DllError::LossOfPres { node_id } => return Carried::Node(node_id.0),
-        DllError::LossOfStatusRes { node_id } => return Carried::Node(node_id.0),
-        DllError::LatePres { node_id } => return Carried::Node(node_id.0),
-        DllError::UnexpectedEventInState { state, event } => return Carried::StateAndEvent(
-            state,
-            event,
-        ),
-        DllError::PdoMapVersion { node_id } => return Carried::Node(node_id.0),
-        DllError::PdoPayloadShort { node_id } => return Carried::Node(node_id.0),
-        DllError::HeartbeatTimeout { node_id } => return Carried::Node(node_id.0),
-        _ => return Carried::Nothing,
+        DllError::LossOfPres { node_id } => Carried::Node(node_id.0),
+        DllError::LossOfStatusRes { node_id } => Carried::Node(node_id.0),
+        DllError::LatePres { node_id } => Carried::Node(node_id.0),
+        DllError::UnexpectedEventInState { state, event } => Carried::StateAndEvent(state, event),
+        DllError::PdoMapVersion { node_id } => Carried::Node(node_id.0),
+        DllError::PdoPayloadShort { node_id } => Carried::Node(node_id.0),
+        DllError::HeartbeatTimeout { node_id } => Carried::Node(node_id.0),
+        _ => Carried::Nothing,
     }
 }
 

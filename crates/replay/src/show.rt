@@ -79,12 +79,12 @@ fn show_soc(out: &mut Buffer, soc: SocWatch) {
     let changed = soc.error_status_changed as u64;
     let deadline = soc.next_tick_us;
     match deadline {
-        Deadline::At(time) => return say_form(
+        Deadline::At(time) => say_form(
             out,
             b"(soc (last #) (check #) (deadline #) (status_changed #))\n",
             &[last, check, time, changed],
         ),
-        Deadline::Nothing => return say_form(
+        Deadline::Nothing => say_form(
             out,
             b"(soc (last #) (check #) (deadline none) (status_changed #))\n",
             &[last, check, changed],
