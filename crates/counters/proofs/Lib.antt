@@ -1,3 +1,4 @@
 pub mod ByKind
 pub mod Balance
 pub mod Examples
+pub mod Counts

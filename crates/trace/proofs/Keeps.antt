@@ -22,7 +22,7 @@ use Rattle.trace.specs.Tally.{Tally, noted, nothing, tally, droppedBy, l
 use Rattle.trace.specs.Claim.{Merge, empty, Each, counted, Claim}
 use Rattle.trace.proofs.Modes.{mode, mode-word, mode-ready}
 use Rattle.trace.proofs.Queues.{merge-queued}
-use Rattle.trace.proofs.Counts.{Rises, rises-none, rises-then}
+use Rattle.counters.proofs.Counts.{Rises, rises-none, rises-then}
 use Rattle.trace.proofs.Shares.{Shares, shares, rule}
 
 -- of the head p and what was counted since a start at which counter 3 was lost₀

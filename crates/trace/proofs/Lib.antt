@@ -1,6 +1,5 @@
 pub mod Modes
 pub mod Queues
-pub mod Counts
 pub mod Ticking
 pub mod Shares
 pub mod Keeps

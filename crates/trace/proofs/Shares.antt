@@ -37,7 +37,7 @@ use Rattle.node.specs.Run.{step}
 use Rattle.trace.specs.Tally.{Told, toldAt, handedBy, droppedBy, isFull, isSet, loadsCounter3}
 use Rattle.trace.specs.Claim.{Queued, still, kept, dropped, handed, Rule}
 use Rattle.trace.proofs.Modes.{mode, mode-event, mode-withdraw}
-use Rattle.trace.proofs.Counts.{Counting, counting-none, counting-handled, counting-completed}
+use Rattle.counters.proofs.Counts.{Counting, counting-none, counting-handled, counting-completed}
 use Rattle.trace.proofs.Ticking.{seen, Enters, none, one, PartOf, picked, still-tells, tick-part}
 
 -- the mode's share, the queue's, the counters' and counter 3's

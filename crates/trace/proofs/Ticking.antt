@@ -33,7 +33,7 @@ use Rattle.tick.specs.Ticks.{isQuiet}
 use Rattle.tick.proofs.TickLaws.{handled-quiet}
 use Rattle.trace.specs.Tally.{Told, told, toldBy, toldInTick, inPreOperational2}
 use Rattle.trace.proofs.Modes.{mode, mode-event, both-first, both-second}
-use Rattle.trace.proofs.Counts.{Counting, counting-none, counting-then, counting-handled}
+use Rattle.counters.proofs.Counts.{Counting, counting-none, counting-then, counting-handled}
 
 -- Timeout tells what Error does, and a machine that stays tells nothing
 pub timeout-tells : (m m′ : CnNmtStateMachine) (w : Told) → toldBy m Timeout m′ w ≡ toldInTick m m′ w
