@@ -16,6 +16,8 @@ use Rattle.counters.specs.declared.counters.CounterKind.the-variants.{Co
 use Rattle.counters.specs.declared.counters.CnErrorCounters.{CnErrorCounters}
 use Rattle.counters.specs.declared.counters.HandledError.{HandledError}
 use Rattle.counters.specs.declared.counters.CompletedCycle.{CompletedCycle}
+use Rattle.counters.specs.declared.counters.ErrorEffect.{ErrorEffect}
+use Rattle.counters.specs.declared.counters.ErrorEffect.the-variants as an-effect
 
 -- "Seven kinds", each with a counter
 abbrev pub counterKinds : List CounterKind
@@ -175,6 +177,13 @@ effect (error.UnexpectedEventInState s e) = nothing
 effect (error.PdoMapVersion n) = isLogged
 effect (error.PdoPayloadShort n) = isLogged
 effect (error.HeartbeatTimeout n) = counts HeartbeatTimeout
+
+-- of what `effect_of` answers
+abbrev pub effectOf : ErrorEffect → Effect
+effectOf (an-effect.Counts k) = counts k
+effectOf an-effect.LosesLink = losesLink
+effectOf an-effect.IsLogged = isLogged
+effectOf an-effect.Nothing = nothing
 
 abbrev pub handledAs : Effect → CnErrorCounters → DllError → HandledError
 handledAs (counts k) s e = counted k s e

@@ -1,6 +1,6 @@
 // The threshold counters (EPSG DS 301, Section 4.7.4.1) and those of a controlled node (Section 4.7.8).
 ghost use mathlib.Core.Path.{_≡_};
-ghost use Rattle.counters.specs.Counters.{addTop, newCounter, incremented, decremented, checked, active, newCounters, counter, replaced, unsignalled, signalled, counted, handled, lowered, anyActive, completed};
+ghost use Rattle.counters.specs.Counters.{addTop, newCounter, incremented, decremented, checked, active, newCounters, counter, replaced, unsignalled, signalled, counted, effect, effectOf, handled, lowered, anyActive, completed};
 use types::frame::error::types::DllError;
 use types::frame::error::types::DllErrors;
 use types::frame::error::types::NmtAction;
@@ -19,7 +19,7 @@ pub struct ThresholdCheck {
 }
 
 // a + b, stopping at the 32-bit top.
-fn saturating_add(a: u32, b: u32) -> u32
+pub fn saturating_add(a: u32, b: u32) -> u32
     ensures { λ r. ⌜ r ≡ addTop a b ⌝ }
 {
     if a <= 4294967295 - b {
@@ -97,6 +97,32 @@ pub enum CounterKind {
     SoCJitter,
     Crc,
     HeartbeatTimeout,
+}
+
+// What an error does to the counters.
+pub enum ErrorEffect {
+    Counts(CounterKind),
+    LosesLink,
+    IsLogged,
+    Nothing,
+}
+
+pub fn effect_of(error: DllError) -> ErrorEffect
+    ensures { λ r. ⌜ effectOf r ≡ effect error ⌝ }
+{
+    match error {
+        DllError::LossOfSoc => ErrorEffect::Counts(CounterKind::LossOfSoc),
+        DllError::LossOfSoa => ErrorEffect::Counts(CounterKind::LossOfSoa),
+        DllError::LossOfPreq => ErrorEffect::Counts(CounterKind::LossOfPreq),
+        DllError::Crc => ErrorEffect::Counts(CounterKind::Crc),
+        DllError::Collision => ErrorEffect::Counts(CounterKind::Collision),
+        DllError::SoCJitter => ErrorEffect::Counts(CounterKind::SoCJitter),
+        DllError::HeartbeatTimeout { .. } => ErrorEffect::Counts(CounterKind::HeartbeatTimeout),
+        DllError::LossOfLink => ErrorEffect::LosesLink,
+        DllError::PdoMapVersion { .. } | DllError::PdoPayloadShort { .. } => ErrorEffect::IsLogged,
+        // Errors of a managing node, and those that no counter has.
+        _ => ErrorEffect::Nothing,
+    }
 }
 
 // The DLL error counters of a controlled node.
@@ -218,23 +244,14 @@ impl CnErrorCounters {
     pub fn handle_error(mut self, error: DllError) -> HandledError
         ensures { λ r. ⌜ r ≡ handled self error ⌝ }
     {
-        match error {
-            DllError::LossOfSoc => self.count(CounterKind::LossOfSoc, error),
-            DllError::LossOfSoa => self.count(CounterKind::LossOfSoa, error),
-            DllError::LossOfPreq => self.count(CounterKind::LossOfPreq, error),
-            DllError::Crc => self.count(CounterKind::Crc, error),
-            DllError::Collision => self.count(CounterKind::Collision, error),
-            DllError::SoCJitter => self.count(CounterKind::SoCJitter, error),
-            DllError::HeartbeatTimeout { .. } => self.count(CounterKind::HeartbeatTimeout, error),
-            DllError::LossOfLink => {
+        match effect_of(error) {
+            ErrorEffect::Counts(kind) => self.count(kind, error),
+            ErrorEffect::LosesLink => {
                 self.loss_of_link_cumulative = saturating_add(self.loss_of_link_cumulative, 1);
                 signalled(self, error)
             }
-            DllError::PdoMapVersion { .. } | DllError::PdoPayloadShort { .. } => {
-                signalled(self, error)
-            }
-            // Errors of a managing node, and those that no counter has.
-            _ => unsignalled(self),
+            ErrorEffect::IsLogged => signalled(self, error),
+            ErrorEffect::Nothing => unsignalled(self),
         }
     }
 

@@ -1,186 +1,99 @@
-// The examples of NMT and DLL events, and of losses given to the counters.
-use crate::heads::in_state;
-use crate::heads::is_loss_of_soc;
-use crate::heads::is_none;
-use crate::heads::is_state;
-use crate::heads::is_unexpected;
+// The examples of NMT and DLL events, and of losses given to the counters: each with the document's words, as the table states it.
+ghost use Prim.Native.Nat.{ℕ};
+ghost use mathlib.Core.List.{List, []};
+ghost use Rattle.node.specs.Examples as table;
+ghost use Rattle.examples.specs.Shown.{Shown};
+use crate::answers::Stated;
+use crate::answers::is_taken;
+use crate::comes::cycle_comes;
+use crate::comes::dll_comes;
+use crate::comes::error_comes;
+use crate::comes::nmt_comes;
+use crate::comes::raises_to;
+use crate::comes::withdrawn;
+use crate::heads::counting;
 use crate::heads::resting;
-use crate::heads::socs_lost;
 use crate::heads::values;
-use crate::heads::watching;
-use nmt::state_machine::EnteredStates;
-use node::calls::DllEventAnswer;
-use node::calls::ErrorAnswer;
-use node::calls::HeadAnswer;
-use node::calls::NmtEventAnswer;
-use node::calls::dll_event;
-use node::calls::handle_error;
-use node::calls::nmt_event;
-use node::calls::on_cycle_complete;
-use node::calls::withdraw;
+use head::state::Head;
 use node::start::start;
-use node::state::Head;
-use types::frame::error::types::NmtAction;
+use node::watched::NodeWords;
 use types::nmt::flags::FeatureFlags;
 use types::nmt::states::NmtState;
 
-// The five states of a whole reset, in order.
-fn are_five(entered: EnteredStates) -> bool {
-    match entered {
-        EnteredStates::Five(a, b, c, d, e) => {
-            is_state(a, 0x19)
-                && is_state(b, 0x29)
-                && is_state(c, 0x39)
-                && is_state(d, 0x79)
-                && is_state(e, 0x1C)
-        }
-        _ => false,
-    }
-}
-
-fn resets(head: Head) -> bool {
-    let NmtEventAnswer::Taken(taken) = nmt_event(head, 5) else {
-        return false;
-    };
-    let reset = taken.reset;
-    let entered = reset.entered;
-    let after = taken.head;
-    let errors = taken.errors;
-    are_five(entered) && in_state(after, 0x1C) && is_none(errors)
-}
-
 // Fresh, SwReset: five states entered, NotActive.
-pub fn sw_reset() -> bool {
-    let od = values();
-    let started = start(1, FeatureFlags(0), 5, 1, od, watching(0));
-    let answer = started.answer;
-    let HeadAnswer::Taken(head) = answer else {
-        return false;
-    };
-    resets(head)
+pub fn sw_reset(head: &mut Head, after: &mut Head, nodes: &mut NodeWords) -> bool
+    ensures { λ r. ⌜ ((q m : List ℕ) → Shown table.swReset (now (head .exit)) q m [] r) ⌝ }
+{
+    resting(after, NmtState::NmtNotActive, false, true);
+    let od = values(0, 0, 0, 0, 0);
+    let started = is_taken(start(head, nodes, 0, 1, FeatureFlags(0), 5, 1, od));
+    started & nmt_comes(head, 5, Stated::Nothing, true, after)
 }
 
 // NotActive, Timeout: 0x1E.
-pub fn timeout() -> bool {
-    let NmtEventAnswer::Taken(taken) = nmt_event(resting(NmtState::NmtNotActive, false), 10) else {
-        return false;
-    };
-    let after = taken.head;
-    let errors = taken.errors;
-    in_state(after, 0x1E) && is_none(errors)
-}
-
-fn is_enabled(head: Head) -> bool {
-    let nmt = head.nmt;
-    nmt.ready_to_operate_enabled
-}
-
-fn readies(head: Head) -> bool {
-    let NmtEventAnswer::Taken(taken) = nmt_event(head, 15) else {
-        return false;
-    };
-    let after = taken.head;
-    let errors = taken.errors;
-    in_state(after, 0x6D) && is_none(errors)
+pub fn timeout(head: &mut Head, after: &mut Head) -> bool
+    ensures { λ r. ⌜ ((q m : List ℕ) → Shown table.timeout (now (head .exit)) q m [] r) ⌝ }
+{
+    resting(head, NmtState::NmtNotActive, false, true);
+    resting(after, NmtState::NmtBasicEthernet, false, true);
+    nmt_comes(head, 10, Stated::Nothing, false, after)
 }
 
 // PreOperational2, withdrawn, EnableReadyToOperate: stays, enabled; ready word: 0x6D.
-pub fn enable() -> bool {
-    let HeadAnswer::Taken(head) = withdraw(resting(NmtState::NmtPreOperational2, false)) else {
-        return false;
-    };
-    let NmtEventAnswer::Taken(taken) = nmt_event(head, 3) else {
-        return false;
-    };
-    let after = taken.head;
-    let errors = taken.errors;
-    in_state(after, 0x5D) && is_enabled(after) && is_none(errors) && readies(after)
+pub fn enable(head: &mut Head, after: &mut Head) -> bool
+    ensures { λ r. ⌜ ((q m : List ℕ) → Shown table.enable (now (head .exit)) q m [] r) ⌝ }
+{
+    resting(head, NmtState::NmtPreOperational2, false, true);
+    resting(after, NmtState::NmtPreOperational2, false, false);
+    let withdrawn = withdrawn(head, after);
+    resting(after, NmtState::NmtPreOperational2, true, false);
+    let enabled = nmt_comes(head, 3, Stated::Nothing, false, after);
+    resting(after, NmtState::NmtReadyToOperate, true, true);
+    withdrawn & enabled & nmt_comes(head, 15, Stated::Nothing, false, after)
 }
 
 // ReadyToOperate, EnterPreOperational2: stays, error (0x6D, 2).
-pub fn no_row() -> bool {
-    let NmtEventAnswer::Taken(taken) = nmt_event(resting(NmtState::NmtReadyToOperate, true), 2)
-    else {
-        return false;
-    };
-    let after = taken.head;
-    let errors = taken.errors;
-    in_state(after, 0x6D) && is_unexpected(errors, 0x6D, 2)
+pub fn no_row(head: &mut Head, after: &mut Head) -> bool
+    ensures { λ r. ⌜ ((q m : List ℕ) → Shown table.noRow (now (head .exit)) q m [] r) ⌝ }
+{
+    resting(head, NmtState::NmtReadyToOperate, true, true);
+    resting(after, NmtState::NmtReadyToOperate, true, true);
+    nmt_comes(head, 2, Stated::Unexpected(0x6D, 2), false, after)
 }
 
 // Operational, NonCyclic, SocTimeout: error (0, 5).
-pub fn no_cycle() -> bool {
-    let head = resting(NmtState::NmtOperational, false);
-    let DllEventAnswer::Taken(taken) = dll_event(head, 5, false) else {
-        return false;
-    };
-    let errors = taken.errors;
-    is_unexpected(errors, 0, 5)
-}
-
-// A lost SoC, given to the counters; a head that declines it is left as it is.
-fn lose(head: Head) -> Head {
-    let ErrorAnswer::Taken(taken) = handle_error(head, 6, 0, 0) else {
-        return head;
-    };
-    taken.head
-}
-
-fn complete(head: Head) -> Head {
-    let taken = on_cycle_complete(head);
-    taken.head
-}
-
-// The level that a lost SoC makes, before the threshold is looked at.
-fn raised(head: Head) -> u32 {
-    let errors = head.errors;
-    let counter = errors.loss_of_soc;
-    let raised = counter.increment();
-    raised.threshold_cnt
-}
-
-fn asks_for_reset(action: NmtAction) -> bool {
-    match action {
-        NmtAction::ResetCommunication => true,
-        _ => false,
-    }
-}
-
-fn asks_for_nothing(action: NmtAction) -> bool {
-    match action {
-        NmtAction::None => true,
-        _ => false,
-    }
+pub fn no_cycle(head: &mut Head, after: &mut Head) -> bool
+    ensures { λ r. ⌜ ((q m : List ℕ) → Shown table.noCycle (now (head .exit)) q m [] r) ⌝ }
+{
+    resting(head, NmtState::NmtOperational, false, true);
+    resting(after, NmtState::NmtOperational, false, true);
+    dll_comes(head, 5, false, Stated::Unexpected(0, 5), after)
 }
 
 // Two SoC losses, one cycle between: 15, crossing.
-pub fn one_between() -> bool {
-    let head = complete(lose(resting(NmtState::NmtOperational, false)));
-    let ErrorAnswer::Taken(taken) = handle_error(head, 6, 0, 0) else {
-        return false;
-    };
-    let after = taken.head;
-    let action = taken.action;
-    let logged = taken.logged;
-    raised(head) == 15
-        && socs_lost(after, 1, 0)
-        && asks_for_reset(action)
-        && taken.signal
-        && is_loss_of_soc(logged)
+pub fn one_between(head: &mut Head, after: &mut Head) -> bool
+    ensures { λ r. ⌜ ((q m : List ℕ) → Shown table.oneBetween (now (head .exit)) q m [] r) ⌝ }
+{
+    counting(head, 0, 0, 0, 0);
+    counting(after, 0, 8, 0, 0);
+    let lost = error_comes(head, 6, false, after);
+    counting(after, 0, 7, 0, 0);
+    let lowered = cycle_comes(head, false, after);
+    counting(after, 1, 0, 0, 0);
+    lost & lowered & raises_to(head, 15) & error_comes(head, 6, true, after)
 }
 
 // Two cycles between: 14, none.
-pub fn two_between() -> bool {
-    let head = complete(complete(lose(resting(NmtState::NmtOperational, false))));
-    let ErrorAnswer::Taken(taken) = handle_error(head, 6, 0, 0) else {
-        return false;
-    };
-    let after = taken.head;
-    let action = taken.action;
-    let logged = taken.logged;
-    raised(head) == 14
-        && socs_lost(after, 0, 14)
-        && asks_for_nothing(action)
-        && !taken.signal
-        && is_none(logged)
+pub fn two_between(head: &mut Head, after: &mut Head) -> bool
+    ensures { λ r. ⌜ ((q m : List ℕ) → Shown table.twoBetween (now (head .exit)) q m [] r) ⌝ }
+{
+    counting(head, 0, 0, 0, 0);
+    counting(after, 0, 8, 0, 0);
+    let lost = error_comes(head, 6, false, after);
+    counting(after, 0, 7, 0, 0);
+    let lowered = cycle_comes(head, false, after);
+    counting(after, 0, 6, 0, 0);
+    let again = cycle_comes(head, false, after);
+    counting(after, 0, 14, 0, 0);
+    lost & lowered & again & raises_to(head, 14) & error_comes(head, 6, false, after)
 }

@@ -1,144 +1,182 @@
-// The heads that the examples begin with, and what is compared of a head.
+// The words of the table's heads: node 1, basic timeout 5, a queue of 1, cycle 1000, tolerance 100,000 ns.
+ghost use mathlib.Core.Path.{_≡_};
+ghost use Rattle.counters.specs.Counters.{counterOf};
+ghost use Rattle.entries.specs.Queue.{queue};
+ghost use Rattle.entries.specs.History.{errorHistory};
+ghost use lib.ListN.{set};
+ghost use Rattle.head.specs.Head.{socWatch};
+ghost use Rattle.head.specs.Places as at;
+ghost use Rattle.head.specs.Words.{headOf};
+ghost use Rattle.head.specs.Written.{socWritten};
+ghost use Rattle.node.specs.Nodes.{nodesOf};
+ghost use Rattle.node.specs.Watched.{watchedOf};
+ghost use Rattle.node.specs.Examples.{machine, values, countersOf, resting, counting, cycling, crossing, watching};
+ghost use Rattle.examples.specs.Shown.{placed, Stands, restingWords};
 use counters::counters::CnErrorCounters;
+use counters::counters::CounterKind;
 use counters::counters::ThresholdCounter;
 use dll::cs_state_machine::DllCsState;
 use dll::cs_state_machine::DllCsStateMachine;
 use entries::emergency_queue::EmergencyQueue;
 use entries::error_history::ErrorHistory;
+use head::parts::clear;
+use head::parts::set_capacity;
+use head::parts::set_counter;
+use head::parts::set_dll;
+use head::parts::set_history;
+use head::parts::set_identity;
+use head::parts::set_nmt;
+use head::parts::set_od;
+use head::parts::set_queue;
+use head::parts::set_soc;
+use head::parts::set_thresholds;
+use head::state::Deadline;
+use head::state::Dictionary;
+use head::state::Head;
+use head::state::ObjectValue;
+use head::state::SocWatch;
 use nmt::cn_state_machine::CnNmtStateMachine;
-use node::state::Deadline;
-use node::state::Dictionary;
-use node::state::Head;
-use node::state::ObjectValue;
-use node::state::SocWatch;
-use node::watched::WatchedNode;
-use node::watched::WatchedNodes;
-use types::frame::error::types::DllError;
-use types::frame::error::types::DllErrors;
+use node::watched::NodeWords;
 use types::nmt::flags::FeatureFlags;
 use types::nmt::states::NmtState;
 use types::types::NodeId;
 
-// Cycle 1000, tolerance 100,000 ns.
-pub fn values() -> Dictionary {
+// The error register and the counters 1, 2, 3 and 5.
+pub fn values(
+    error_register: u8,
+    counter_1: u32,
+    counter_2: u32,
+    counter_3: u32,
+    counter_5: u32,
+) -> Dictionary
+    ensures { λ r. ⌜ r ≡ values «error_register» «counter_1» «counter_2» «counter_3» «counter_5» ⌝ }
+{
     Dictionary {
-        error_register: 0,
+        error_register,
         cycle_time: ObjectValue::Unsigned32(1000),
         tolerance: ObjectValue::Unsigned32(100000),
-        counter_1: 0,
-        counter_2: 0,
-        counter_3: 0,
-        counter_5: 0,
+        counter_1,
+        counter_2,
+        counter_3,
+        counter_5,
     }
 }
 
-fn head(state: NmtState, enabled: bool, dll: DllCsState, soc: SocWatch) -> Head {
-    let nmt = CnNmtStateMachine {
-        current_state: state,
+fn machine(current_state: NmtState, enabled: bool, ready: bool) -> CnNmtStateMachine
+    ensures { λ r. ⌜ r ≡ machine «current_state» enabled ready ⌝ }
+{
+    CnNmtStateMachine {
+        current_state,
         node_id: NodeId(1),
         feature_flags: FeatureFlags(0),
         basic_ethernet_timeout: 5,
         ready_to_operate_enabled: enabled,
-        app_ready: true,
-    };
-    let dll = DllCsStateMachine { state: dll };
+        app_ready: ready,
+    }
+}
+
+// In a state, NonCyclic, levels and counts 0, the check off, with these values.
+fn write(head: &mut Head, state: NmtState, enabled: bool, ready: bool, od: Dictionary)
+    ensures { λ _. ⌜ now (head .exit) ≡ restingWords state enabled ready od ⌝ }
+{
+    let nmt = machine(state, enabled, ready);
     let errors = CnErrorCounters::new();
-    let od = values();
-    let queue = EmergencyQueue::new(1);
-    let history = ErrorHistory::new();
-    Head {
-        nmt,
-        dll,
-        errors,
-        soc,
-        od,
-        queue,
-        history,
+    clear(head);
+    set_nmt(head, nmt);
+    set_identity(head, nmt);
+    set_thresholds(head, errors);
+    set_od(head, od);
+    set_capacity(head, 1);
+}
+
+pub fn resting(head: &mut Head, state: NmtState, enabled: bool, ready: bool)
+    ensures { λ _. ⌜ Stands (now (head .exit)) (resting state enabled ready) ⌝ }
+{
+    write(head, state, enabled, ready, values(0, 0, 0, 0, 0));
+}
+
+fn counter(count: u32, level: u32) -> ThresholdCounter
+    ensures { λ r. ⌜ r ≡ counterOf count level 15 ⌝ }
+{
+    ThresholdCounter {
+        cumulative_cnt: count,
+        threshold_cnt: level,
+        threshold: 15,
     }
 }
 
-// NonCyclic, with the check off, and enabled or not.
-pub fn resting(state: NmtState, enabled: bool) -> Head {
-    let soc = SocWatch {
-        last_soc_reception_time_us: 0,
-        soc_timeout_check_active: false,
-        next_tick_us: Deadline::Nothing,
-        error_status_changed: false,
-    };
-    head(state, enabled, DllCsState::NonCyclic, soc)
+// Operational, with a count and a level of LossOfSoc and of HeartbeatTimeout.
+pub fn counting(head: &mut Head, socs: u32, soc: u32, beats: u32, beat: u32)
+    ensures { λ _. ⌜ Stands (now (head .exit)) (counting (countersOf socs soc beats beat)) ⌝ }
+{
+    let od = values(0, 0, 0, 0, 0);
+    write(head, NmtState::NmtOperational, false, true, od);
+    set_counter(head, CounterKind::LossOfSoc, counter(socs, soc));
+    set_counter(head, CounterKind::HeartbeatTimeout, counter(beats, beat));
 }
 
-// Operational, WaitSoc, with the check on and the last SoC at 10,000.
-pub fn cycling(deadline: u64) -> Head {
-    let soc = SocWatch {
-        last_soc_reception_time_us: 10000,
-        soc_timeout_check_active: true,
-        next_tick_us: Deadline::At(deadline),
-        error_status_changed: false,
-    };
-    head(NmtState::NmtOperational, false, DllCsState::WaitSoc, soc)
+// WaitSoc, with the last SoC at 10,000.
+fn write_cycle(head: &mut Head, check: bool, next_tick_us: Deadline, changed: bool)
+    ensures { λ _. ⌜ now (head .exit) ≡ socWritten (set (now (head .entry)) at.dll 1) (socWatch 10000 check «next_tick_us» changed) ⌝ }
+{
+    set_dll(
+        head,
+        DllCsStateMachine {
+            state: DllCsState::WaitSoc,
+        },
+    );
+    set_soc(
+        head,
+        SocWatch {
+            last_soc_reception_time_us: 10000,
+            soc_timeout_check_active: check,
+            next_tick_us,
+            error_status_changed: changed,
+        },
+    );
 }
 
-// Node 5 with timeout 50, not heard yet, where `count` is 1; no node where it is 0.
-pub fn watching(count: usize) -> WatchedNodes {
-    let node = WatchedNode {
-        node: 5,
-        timeout: 50,
-        last_heard: 0,
-    };
-    WatchedNodes {
-        nodes: [node; 32],
-        count,
-    }
+// Operational, WaitSoc, the check on, with a deadline; the level of LossOfSoc, and counter 1.
+pub fn cycling(head: &mut Head, deadline: u64, level: u32, lost: u32)
+    ensures { λ _. ⌜ Stands (now (head .exit)) (cycling deadline level lost) ⌝ }
+{
+    let od = values(0, lost, 0, 0, 0);
+    write(head, NmtState::NmtOperational, false, true, od);
+    write_cycle(head, true, Deadline::At(deadline), false);
+    set_counter(head, CounterKind::LossOfSoc, counter(0, level));
 }
 
-pub fn is_state(state: NmtState, number: u8) -> bool {
-    state.as_u8() == number
+// After the crossing: PreOperational1, the check off, no deadline, one entry in queue and history.
+pub fn crossed(head: &mut Head)
+    ensures { λ _. ⌜ headOf (now (head .exit)) ≡ placed (crossing .all .head) (queue 0 1 1) (errorHistory 253 1) ⌝ }
+{
+    let od = values(1, 2, 1, 0, 1);
+    write(head, NmtState::NmtPreOperational1, false, true, od);
+    write_cycle(head, false, Deadline::Nothing, true);
+    set_counter(head, CounterKind::LossOfSoc, counter(1, 0));
+    set_queue(
+        head,
+        EmergencyQueue {
+            oldest: 0,
+            length: 1,
+            capacity: 1,
+        },
+    );
+    set_history(
+        head,
+        ErrorHistory {
+            newest: 253,
+            count: 1,
+        },
+    );
 }
 
-pub fn in_state(head: Head, number: u8) -> bool {
-    let nmt = head.nmt;
-    let state = nmt.current_state;
-    is_state(state, number)
-}
-
-pub fn is_counter(counter: ThresholdCounter, count: u32, level: u32) -> bool {
-    counter.cumulative_cnt == count && counter.threshold_cnt == level
-}
-
-// The count and the level of LossOfSoc.
-pub fn socs_lost(head: Head, count: u32, level: u32) -> bool {
-    let errors = head.errors;
-    let counter = errors.loss_of_soc;
-    is_counter(counter, count, level)
-}
-
-pub fn is_none(errors: DllErrors) -> bool {
-    match errors {
-        DllErrors::None => true,
-        _ => false,
-    }
-}
-
-fn is_pair(error: DllError, state: u8, event: u8) -> bool {
-    match error {
-        DllError::UnexpectedEventInState { state: s, event: e } => s == state && e == event,
-        _ => false,
-    }
-}
-
-// One error, UnexpectedEventInState with this state and event.
-pub fn is_unexpected(errors: DllErrors, state: u8, event: u8) -> bool {
-    match errors {
-        DllErrors::One(error) => is_pair(error, state, event),
-        _ => false,
-    }
-}
-
-// One error, LossOfSoc.
-pub fn is_loss_of_soc(errors: DllErrors) -> bool {
-    match errors {
-        DllErrors::One(error) => error.kind() == 6,
-        _ => false,
-    }
+// Node 5 with timeout 50, last heard at a time.
+pub fn watching(nodes: &mut NodeWords, last_heard: u64)
+    ensures { λ _. ⌜ watchedOf (nodesOf (now (nodes .exit))) 1 ≡ watching «last_heard» ⌝ }
+{
+    *nodes = [0; 96];
+    nodes[0] = 5;
+    nodes[1] = 50;
+    nodes[2] = last_heard;
 }

@@ -1,9 +1,16 @@
-// Document 01's bench examples marked ●, run on the real head: for each its number, and whether all that it states came so.
+// Document 01's bench examples marked ●, run on the real head: for each its number, and whether all that it states came so. That it does is
+// proved of each function, against the table of `node`.
+mod answers;
+mod comes;
 mod events;
 mod heads;
+mod memory;
+mod same;
 mod ticks;
 
+use head::state::Head;
 use libc::STDOUT_FILENO;
+use node::watched::NodeWords;
 
 fn say(number: u64, same: bool) {
     io::print_decimal(STDOUT_FILENO, number);
@@ -15,16 +22,36 @@ fn say(number: u64, same: bool) {
 }
 
 fn main() {
-    say(1, events::sw_reset());
-    say(2, events::timeout());
-    say(3, events::enable());
-    say(4, events::no_row());
-    say(5, events::no_cycle());
-    say(6, events::one_between());
-    say(7, events::two_between());
-    say(8, ticks::early());
-    say(9, ticks::at_limit());
-    say(10, ticks::above_limit());
-    say(11, ticks::then_crossing());
-    say(12, ticks::late());
+    let mut head: Head = [0; 52];
+    let mut after: Head = [0; 52];
+    let mut nodes: NodeWords = [0; 96];
+    let mut queue = [0u8; 640];
+    let mut history = [0u8; 5080];
+    say(1, events::sw_reset(&mut head, &mut after, &mut nodes));
+    say(2, events::timeout(&mut head, &mut after));
+    say(3, events::enable(&mut head, &mut after));
+    say(4, events::no_row(&mut head, &mut after));
+    say(5, events::no_cycle(&mut head, &mut after));
+    say(6, events::one_between(&mut head, &mut after));
+    say(7, events::two_between(&mut head, &mut after));
+    say(
+        8,
+        ticks::early(&mut head, &mut after, &mut queue, &mut history, &mut nodes),
+    );
+    say(
+        9,
+        ticks::at_limit(&mut head, &mut after, &mut queue, &mut history, &mut nodes),
+    );
+    say(
+        10,
+        ticks::above_limit(&mut head, &mut after, &mut queue, &mut history, &mut nodes),
+    );
+    say(
+        11,
+        ticks::then_crossing(&mut head, &mut after, &mut queue, &mut history, &mut nodes),
+    );
+    say(
+        12,
+        ticks::late(&mut head, &mut after, &mut queue, &mut history, &mut nodes),
+    );
 }

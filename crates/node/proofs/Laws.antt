@@ -9,7 +9,7 @@ use Rattle.types.specs.Pick.{pick}
 use Rattle.types.specs.States.{sameState}
 use Rattle.types.specs.Events.{readEvent}
 use Rattle.types.specs.CsEvents.{readCsEvent}
-use Rattle.types.specs.Errors.{readError}
+use Rattle.types.specs.Errors.{readError, reported}
 use Rattle.types.specs.declared.refusals.Refusal.{Refusal}
 use Rattle.types.specs.declared.refusals.Refusal.the-variants.{TimeLimit, ReadyToOperate}
 use Rattle.types.specs.declared.nmt.states.NmtState.{NmtState}
@@ -20,39 +20,33 @@ use Rattle.types.specs.declared.frame.cs_state_machine.DllCsEvent.{DllCsEvent}
 use Rattle.types.specs.declared.frame.cs_state_machine.DllCsEventRead.the-variants as cs-event
 use Rattle.types.specs.declared.frame.error.types.DllError.{DllError}
 use Rattle.types.specs.declared.frame.error.types.DllErrorRead.the-variants as error-read
+use Rattle.nmt.specs.Resets.{passed}
 use Rattle.nmt.specs.Nmt as Nmt
-use Rattle.nmt.specs.declared.cn_state_machine.CnNmtStateMachine.{CnNmtStateMachine}
 use Rattle.nmt.specs.declared.cn_state_machine.NmtAnswer.{NmtAnswer}
 use Rattle.dll.specs.Dll as Dll
-use Rattle.dll.specs.declared.cs_state_machine.DllCsStateMachine.{DllCsStateMachine}
 use Rattle.dll.specs.declared.cs_state_machine.DllAnswer.{DllAnswer}
 use Rattle.counters.specs.Counters.{handled, completed}
 use Rattle.counters.specs.Marks.{errorMarks, cycleMarks}
-use Rattle.counters.specs.declared.counters.CnErrorCounters.{CnErrorCounters}
 use Rattle.counters.specs.declared.counters.HandledError.{HandledError}
 use Rattle.counters.specs.declared.counters.CompletedCycle.{CompletedCycle}
 use Rattle.entries.specs.Ring.{nth, rest}
 use Rattle.entries.specs.Queue as Queue
 use Rattle.entries.specs.History as History
-use Rattle.entries.specs.declared.emergency_queue.EmergencyQueue.{EmergencyQueue}
 use Rattle.entries.specs.declared.emergency_queue.HandedOut.{HandedOut}
 use Rattle.entries.specs.declared.error_history.ErrorHistory.{ErrorHistory}
 use Rattle.entries.proofs.Lists.{handed-first, rest-waits, handed-capacity, history-loaded}
-use Rattle.node.specs.declared.state.Head.{Head}
-use Rattle.node.specs.declared.state.Deadline.the-variants.{At, Nothing}
-use Rattle.node.specs.declared.state.SocWatch.{SocWatch}
-use Rattle.node.specs.declared.state.Dictionary.{Dictionary}
+use Rattle.head.specs.Head.{Head, with-nmt, with-dll, with-errors, with-soc, with-values, with-queue}
+use Rattle.head.specs.declared.state.Deadline.the-variants.{At, Nothing}
+use Rattle.head.specs.declared.state.SocWatch.{SocWatch}
+use Rattle.head.specs.declared.state.Dictionary.{Dictionary}
 use Rattle.node.specs.declared.load.DictionaryUpdate.{DictionaryUpdate}
 use Rattle.node.specs.declared.watched.WatchedNode.{WatchedNode}
-use Rattle.node.specs.declared.calls.HeadAnswer.the-variants as head-answer
-use Rattle.node.specs.declared.calls.NmtEventAnswer.the-variants as nmt-answer
-use Rattle.node.specs.declared.calls.DllEventAnswer.the-variants as dll-answer
-use Rattle.node.specs.declared.calls.ErrorAnswer.the-variants as error-answer
-use Rattle.node.specs.Plain.{Plain, Step, Call, nmtEvent, dllEvent, error, cycleComplete, withdraw, handOut, load, arm, taken, handOutAnswer}
+use Rattle.node.specs.Plain.{Plain, Step, Call, nmtEvent, dllEvent, error, cycleComplete, withdraw, handOut, load, arm, refused, taken, nmtAnswer, dllAnswer, errorAnswer, cycleAnswer, handOutAnswer}
 use Rattle.node.specs.Watched.{inTime}
-use Rattle.node.specs.Steps.{must, tried, plainOf, withNmt, withSoc, answers, declines, nmtTaken, nmtStep, dllTaken, dllStep, errorTaken, errorStep, cycleTaken, withdrawn, handOutStep, updated, updatedHistory, socWatch, cycleOf, limitOf, armed}
+use Rattle.node.specs.Steps.{must, tried, plainOf, withNmt, withSoc, answers, declines, nmtTaken, nmtStep, dllTaken, dllStep, errorTaken, errorStep, cycleTaken, withdrawn, handOutStep, updated, updatedHistory, cycleOf, limitOf, armed}
+use Rattle.head.specs.Head.{socWatch}
 use Rattle.node.specs.Run.{step}
-use Rattle.node.specs.Refines.{plain, Left, headLeft, nmtLeft, dllLeft, errorLeft, cycleLeft, handOutLeft, loadLeft, historyUpdate, loadedPlaces, loadedMemory, Refines, SamePlaces}
+use Rattle.node.specs.Refines.{plain, Left, left, historyUpdate, loadedPlaces, loadedMemory, Refines, SamePlaces}
 
 -- what a call left is what its step, worked out, leaves
 pub refined :
@@ -69,29 +63,6 @@ refined h q m c o q′ m′ l t s a b d =
       lent = d ∙ sym (ap (λ (t : Step). t .lent) s);
     }
 
--- the head with one of its parts replaced
-abbrev pub headOf : CnNmtStateMachine → DllCsStateMachine → CnErrorCounters → SocWatch → Dictionary → EmergencyQueue → ErrorHistory → Head
-headOf n d e s o q h = record { nmt = n; dll = d; errors = e; soc = s; od = o; queue = q; history = h }
-
-module _ (h : Head) where
-  abbrev pub with-nmt : CnNmtStateMachine → Head
-  with-nmt n = headOf n (h .dll) (h .errors) (h .soc) (h .od) (h .queue) (h .history)
-
-  abbrev pub with-dll : DllCsStateMachine → Head
-  with-dll d = headOf (h .nmt) d (h .errors) (h .soc) (h .od) (h .queue) (h .history)
-
-  abbrev pub with-errors : CnErrorCounters → Head
-  with-errors e = headOf (h .nmt) (h .dll) e (h .soc) (h .od) (h .queue) (h .history)
-
-  abbrev pub with-soc : SocWatch → Head
-  with-soc s = headOf (h .nmt) (h .dll) (h .errors) s (h .od) (h .queue) (h .history)
-
-  abbrev pub with-values : Dictionary → ErrorHistory → Head
-  with-values o k = headOf (h .nmt) (h .dll) (h .errors) (h .soc) o (h .queue) k
-
-  abbrev pub with-queue : EmergencyQueue → Head
-  with-queue q = headOf (h .nmt) (h .dll) (h .errors) (h .soc) (h .od) q (h .history)
-
 -- the contract of a call that is not lent the queue or the history
 abbrev pub Alone : Head → Call → Left → Type 0
 Alone h c o = ((q m : List ℕ) → Refines h q m c o q m []) × SamePlaces h (o .head)
@@ -103,7 +74,7 @@ pub nmt-taken :
     (h : Head) (n : ℕ) (e : NmtEvent) (a : NmtAnswer) →
     readEvent n ≡ event.Taken e →
     Nmt.outcome a ≡ Nmt.processed (h .nmt) e →
-    Alone h (nmtEvent n) (nmtLeft h (nmt-answer.Taken (record { head = with-nmt h (a .machine); errors = a .errors; reset = a .reset })))
+    Alone h (nmtEvent n) (left (with-nmt h (a .machine)) (nmtAnswer (reported (a .errors)) (passed (a .reset))))
 nmt-taken h n e a r o = (
   λ q m.
       let p : Plain = plain h q m in
@@ -111,7 +82,7 @@ nmt-taken h n e a r o = (
   record { queue = refl; history = refl },
 )
 
-pub nmt-refused : (h : Head) (n : ℕ) (x : Refusal) → readEvent n ≡ event.Refused x → Alone h (nmtEvent n) (nmtLeft h (nmt-answer.Refused x))
+pub nmt-refused : (h : Head) (n : ℕ) (x : Refusal) → readEvent n ≡ event.Refused x → Alone h (nmtEvent n) (left h (refused x))
 nmt-refused h n x r = (
   λ q m. refined h q m (nmtEvent n) _ q m [] (declines (plain h q m) [] x) (ap (nmtStep (plain h q m)) r) refl refl refl,
   same-places h,
@@ -121,7 +92,7 @@ pub dll-taken :
     (h : Head) (n : ℕ) (expected : Bool) (e : DllCsEvent) (a : DllAnswer) →
     readCsEvent n ≡ cs-event.Taken e →
     Dll.outcome a ≡ Dll.processed (h .dll .state) e (h .nmt .«current_state») expected →
-    Alone h (dllEvent n expected) (dllLeft h (dll-answer.Taken (record { head = with-dll h (a .machine); errors = a .errors })))
+    Alone h (dllEvent n expected) (left (with-dll h (a .machine)) (dllAnswer (reported (a .errors))))
 dll-taken h n expected e a r o = (
   λ q m.
       let p : Plain = plain h q m in
@@ -132,7 +103,7 @@ dll-taken h n expected e a r o = (
 pub dll-refused :
     (h : Head) (n : ℕ) (expected : Bool) (x : Refusal) →
     readCsEvent n ≡ cs-event.Refused x →
-    Alone h (dllEvent n expected) (dllLeft h (dll-answer.Refused x))
+    Alone h (dllEvent n expected) (left h (refused x))
 dll-refused h n expected x r = (
   λ q m. refined h q m (dllEvent n expected) _ q m [] (declines (plain h q m) [] x) (ap (dllStep (plain h q m) expected) r) refl refl refl,
   same-places h,
@@ -143,7 +114,7 @@ pub error-taken :
     readError kind a b ≡ error-read.Taken e →
     r ≡ handled (h .errors) e →
     Alone h (error kind a b)
-    (errorLeft h (error-answer.Taken (record { head = with-errors h (r .counters); action = r .action; signal = r .signal; logged = r .logged })))
+    (left (with-errors h (r .counters)) (errorAnswer (r .action) (r .signal) (reported (r .logged))))
 error-taken h kind a b e r t s = (
   λ q m.
       let p : Plain = plain h q m in
@@ -155,7 +126,7 @@ error-taken h kind a b e r t s = (
 pub error-refused :
     (h : Head) (kind a b : ℕ) (x : Refusal) →
     readError kind a b ≡ error-read.Refused x →
-    Alone h (error kind a b) (errorLeft h (error-answer.Refused x))
+    Alone h (error kind a b) (left h (refused x))
 error-refused h kind a b x t = (
   λ q m. refined h q m (error kind a b) _ q m [] (declines (plain h q m) [] x) (ap (errorStep (plain h q m)) t) refl refl refl,
   same-places h,
@@ -164,7 +135,7 @@ error-refused h kind a b x t = (
 pub cycle-taken :
     (h : Head) (r : CompletedCycle) →
     r ≡ completed (h .errors) →
-    Alone h cycleComplete (cycleLeft (record { head = with-errors h (r .counters); cleared = r .cleared }))
+    Alone h cycleComplete (left (with-errors h (r .counters)) (cycleAnswer (r .cleared)))
 cycle-taken h r s = (
   λ q m.
       let p : Plain = plain h q m in
@@ -179,7 +150,7 @@ withdrawBy p s =
     tried (must (not (sameState s NmtReadyToOperate)) ReadyToOperate ∷ []) (declines p []) (answers (withNmt p (withdrawn (p .nmt))) taken [])
 
 pub withdraw-refused :
-    (h : Head) → h .nmt .«current_state» ≡ NmtReadyToOperate → Alone h withdraw (headLeft h (head-answer.Refused ReadyToOperate))
+    (h : Head) → h .nmt .«current_state» ≡ NmtReadyToOperate → Alone h withdraw (left h (refused ReadyToOperate))
 withdraw-refused h e = (
   λ q m. refined h q m withdraw _ q m [] (declines (plain h q m) [] ReadyToOperate) (ap (withdrawBy (plain h q m)) e) refl refl refl,
   same-places h,
@@ -188,7 +159,7 @@ withdraw-refused h e = (
 pub withdraw-taken :
     (h : Head) →
     not (sameState (h .nmt .«current_state») NmtReadyToOperate) ≡ true →
-    Alone h withdraw (headLeft h (head-answer.Taken (with-nmt h (withdrawn (h .nmt)))))
+    Alone h withdraw (left (with-nmt h (withdrawn (h .nmt))) taken)
 withdraw-taken h e = (
   λ q m.
       let p : Plain = plain h q m in
@@ -198,7 +169,7 @@ withdraw-taken h e = (
 )
 
 -- arm: number 5, or the watch armed
-pub arm-refused : (h : Head) (t : ℕ) → inTime t ≡ false → Alone h (arm t) (headLeft h (head-answer.Refused TimeLimit))
+pub arm-refused : (h : Head) (t : ℕ) → inTime t ≡ false → Alone h (arm t) (left h (refused TimeLimit))
 arm-refused h t e = (
   λ q m.
       let p : Plain = plain h q m in
@@ -211,7 +182,7 @@ pub arm-taken :
     (h : Head) (t : ℕ) (s : SocWatch) →
     inTime t ≡ true →
     s ≡ armed (h .soc) (h .od) t →
-    Alone h (arm t) (headLeft h (head-answer.Taken (with-soc h s)))
+    Alone h (arm t) (left (with-soc h s) taken)
 arm-taken h t s e a = (
   λ q m.
       let p : Plain = plain h q m in
@@ -226,7 +197,7 @@ arm-taken h t s e a = (
 pub hand-out-taken :
     (h : Head) (q : List ℕ) (r : HandedOut) →
     r ≡ Queue.handedOut q (h .queue) →
-    ((m : List ℕ) → Refines h q m handOut (handOutLeft (record { head = with-queue h (r .queue); entry = r .entry })) q m [])
+    ((m : List ℕ) → Refines h q m handOut (left (with-queue h (r .queue)) (handOutAnswer (r .entry))) q m [])
     × (r .queue ≡ Queue.handedOut q (h .queue) .queue)
     × (h .history ≡ h .history)
 hand-out-taken h q r e =
@@ -250,7 +221,7 @@ module _ (h : Head) (m s : List ℕ) (values : DictionaryUpdate) (o : Dictionary
       (m′ : List ℕ) (named : Bool) (k : ErrorHistory) →
       k ≡ loadedPlaces named s (h .history) →
       m′ ≡ loadedMemory named m s →
-      ((q : List ℕ) → Refines h q m (load values (historyUpdate named s)) (loadLeft (with-values h o k)) q m′ [])
+      ((q : List ℕ) → Refines h q m (load values (historyUpdate named s)) (left (with-values h o k) taken) q m′ [])
       × (h .queue ≡ h .queue)
       × (k ≡ loadedPlaces named s (h .history))
       × (m′ ≡ loadedMemory named m s)

@@ -3,12 +3,12 @@
 use Prim.Native.Nat.{ℕ, _≤_, _<_, min}
 use mathlib.Core.Path.{_≡_, refl, sym, ap, _∙_}
 use mathlib.Core.Bool.{Bool, true, false, false≢true}
-use mathlib.Core.List.{List, [], _∷_}
+use mathlib.Core.List.{List, []}
 use native.Mathlib.Omega.{arith}
-use lib.Dec.{leb, ltb}
+use lib.Dec.{leb}
 use lib.ListN.{length, getD, set}
 use borrow.Author.Tests.{le-leb, lt-leb, leb-true}
-use Rattle.types.specs.Pick.{pick, both}
+use Rattle.types.specs.Pick.{pick}
 use Rattle.types.specs.Types.{node, isNode, readNode}
 use Rattle.types.specs.declared.refusals.Refusal.{Refusal}
 use Rattle.types.specs.declared.refusals.Refusal.the-variants.{NodeNumber, QueueCapacity, WatchedNodes, TimeLimit, NotWatched}
@@ -22,20 +22,19 @@ use Rattle.counters.specs.Counters.{newCounters}
 use Rattle.entries.specs.Queue.{queue}
 use Rattle.entries.proofs.Lists.{waiting-new, history-new}
 use Rattle.entries.proofs.Rings.{listed-long}
-use Rattle.node.specs.declared.state.Deadline.the-variants.{Nothing}
-use Rattle.node.specs.declared.state.Dictionary.{Dictionary}
-use Rattle.node.specs.declared.state.Head.{Head}
+use Rattle.head.specs.declared.state.Deadline.the-variants.{Nothing}
+use Rattle.head.specs.declared.state.Dictionary.{Dictionary}
+use Rattle.head.specs.Head.{Head}
 use Rattle.node.specs.declared.watched.WatchedNode.{WatchedNode}
-use Rattle.node.specs.declared.watched.WatchedNodes as declared
-use Rattle.node.specs.declared.start.Started.{Started}
-use Rattle.node.specs.declared.calls.HeadAnswer.the-variants as head-answer
-use Rattle.node.specs.declared.calls.HeardAnswer.{HeardAnswer}
-use Rattle.node.specs.declared.calls.HeardAnswer.the-variants as heard-answer
-use Rattle.node.specs.Watched.{inTime, wellFormed, noNode, heardNow, isWatched, heardAt, placeOf, unheard, watchedOf, watchedList, heardFirst, unheardFirst, withNodes}
-use Rattle.node.specs.Plain.{Plain, Step, heard, Start, taken, begins, declined, FirstStep}
-use Rattle.node.specs.Steps.{plainOf, answers, declines, socWatch, fresh, started}
+use Rattle.node.specs.declared.calls.CallAnswer.{CallAnswer}
+use Rattle.node.specs.declared.calls.CallAnswer.the-variants as answer
+use Rattle.node.specs.Watched.{inTime, wellFormed, noNode, heardNow, isWatched, heardAt, placeOf, unheard, watchedOf, heardFirst, unheardFirst}
+use Rattle.node.specs.Plain.{Plain, heard, Start, taken, begins, declined, FirstStep}
+use Rattle.node.specs.Steps.{plainOf, answers, declines, fresh, started}
+use Rattle.head.specs.Head.{socWatch}
 use Rattle.node.specs.Run.{step}
-use Rattle.node.specs.Refines.{plain, heardLeft, startOf, freshHead, FreshPlaces, startedNodes, heardNodes, Refines, Begins}
+use Rattle.node.specs.Refines.{plain, left, startOf, freshHead, FreshPlaces, Refines, Begins}
+use Rattle.node.specs.InPlace.{said}
 use Rattle.node.proofs.Laws.{refined}
 use Rattle.node.proofs.Nodes.{watched-there, watched-nowhere, heard-stored, heard-nodes, each-nodes}
 
@@ -52,68 +51,62 @@ few ns k b e t = by (leb k 32) refl (sym e ∙ t)
     by false h w = absurd (false≢true (rw (long, h) at w))
 
 -- heard: numbers 3, 5 and 7
-module _ (w : declared.WatchedNodes) (n t : ℕ) where
+module _ (ns : List WatchedNode) (k n t : ℕ) where
   abbrev ws : List WatchedNode
-  ws = watchedList w
+  ws = watchedOf ns k
 
-  -- the contract
-  abbrev pub Heard : HeardAnswer → declared.WatchedNodes → Type 0
-  Heard a v =
-      ((h : Head) (q m : List ℕ) → Refines h q m (heard n t ws) (heardLeft h a) q m (watchedList v)) × (v ≡ heardNodes a n t w)
+  -- what heard owes of the plain head, where the first k nodes of l are left
+  abbrev pub HeardBy : CallAnswer → List WatchedNode → Type 0
+  HeardBy a l = (h : Head) (q m : List ℕ) → Refines h q m (heard n t ws) (left h (said a)) q m (watchedOf l k)
 
-  declines-heard : (x : Refusal) → ((p : Plain) → step p (heard n t ws) ≡ declines p ws x) → Heard (heard-answer.Refused x) w
+  declines-heard : (x : Refusal) → ((p : Plain) → step p (heard n t ws) ≡ declines p ws x) → HeardBy (answer.Refused x) ns
   declines-heard x e =
-      (λ h q m. refined h q m (heard n t ws) _ q m ws (declines (plain h q m) ws x) (e (plain h q m)) refl refl refl, refl)
+      λ h q m. refined h q m (heard n t ws) _ q m ws (declines (plain h q m) ws x) (e (plain h q m)) refl refl refl
 
-  pub heard-unformed : wellFormed ws ≡ false → Heard (heard-answer.Refused WatchedNodes) w
+  pub heard-unformed : wellFormed ws ≡ false → HeardBy (answer.Refused WatchedNodes) ns
   heard-unformed a = declines-heard WatchedNodes (λ p. rw a)
 
   module _ (a : wellFormed ws ≡ true) where
-    pub heard-late : inTime t ≡ false → Heard (heard-answer.Refused TimeLimit) w
+    pub heard-late : inTime t ≡ false → HeardBy (answer.Refused TimeLimit) ns
     heard-late b = declines-heard TimeLimit (λ p. rw (a, b))
 
-    module _ (b : inTime t ≡ true) (long : length (w .nodes) ≡ 32) (p : ℕ) (e : p ≡ placeOf n ws) where
-      below : w .count ≤ 32
-      below = few (w .nodes) (w .count) true (sym a) refl
+    module _ (b : inTime t ≡ true) (long : length ns ≡ 32) (p : ℕ) (e : p ≡ placeOf n ws) where
+      below : k ≤ 32
+      below = few ns k true (sym a) refl
 
-      pub heard-nowhere : w .count ≤ p → Heard (heard-answer.Refused NotWatched) w
+      pub heard-nowhere : k ≤ p → HeardBy (answer.Refused NotWatched) ns
       heard-nowhere c =
-          let d : isWatched n ws ≡ false = watched-nowhere (w .nodes) (w .count) long below n t p e c in
+          let d : isWatched n ws ≡ false = watched-nowhere ns k long below n t p e c in
           declines-heard NotWatched (λ p. rw (a, b, d))
 
-      pub heard-taken :
-          p < w .count →
-          (ns : List WatchedNode) →
-          ns ≡ set (w .nodes) p (heardNow t (getD (w .nodes) p noNode)) →
-          Heard heard-answer.Taken (withNodes w ns)
-      heard-taken c ns s =
-          let d : isWatched n ws ≡ true = watched-there (w .nodes) (w .count) long below n t p e c in
-          let stored : ns ≡ heardFirst n t (w .count) (w .nodes) =
-          s ∙ heard-stored (w .nodes) (w .count) long below n t p e noNode c in
-          let listed : watchedOf ns (w .count) ≡ heardAt n t ws =
-          ap (λ (l : List WatchedNode). watchedOf l (w .count)) stored ∙ heard-nodes (w .nodes) (w .count) long below n t in (
-            λ h q m.
-                refined h q m (heard n t ws) _ q m (watchedOf ns (w .count)) (answers (plain h q m) taken (heardAt n t ws)) (rw (a, b, d)) refl refl listed,
-            ap (withNodes w) stored,
-          )
+      pub heard-taken : p < k → (l : List WatchedNode) → l ≡ set ns p (heardNow t (getD ns p noNode)) → HeardBy answer.Taken l
+      heard-taken c l s =
+          let d : isWatched n ws ≡ true = watched-there ns k long below n t p e c in
+          let stored : l ≡ heardFirst n t k ns = s ∙ heard-stored ns k long below n t p e noNode c in
+          let listed : watchedOf l k ≡ heardAt n t ws =
+          ap (λ (l : List WatchedNode). watchedOf l k) stored ∙ heard-nodes ns k long below n t in
+          λ h q m.
+          refined h q m (heard n t ws) _ q m (watchedOf l k) (answers (plain h q m) taken (heardAt n t ws)) (rw (a, b, d)) refl refl listed
 
 -- start: number 1 by the reading of the node number, then 2 and 3
-module _ (n : ℕ) (f : FeatureFlags) (t c : ℕ) (o : Dictionary) (w : declared.WatchedNodes) where
+module _ (n : ℕ) (f : FeatureFlags) (t c : ℕ) (o : Dictionary) (ns : List WatchedNode) (k : ℕ) where
+  abbrev vs : List WatchedNode
+  vs = watchedOf ns k
+
   abbrev s : Start
-  s = startOf n f t c o (watchedList w)
+  s = startOf n f t c o vs
 
   abbrev freshWith : NodeId → Plain
   freshWith x = plainOf (Nmt.fresh x f t) NonCyclic newCounters (socWatch 0 false Nothing false) o c [] []
 
   abbrev no : Refusal → FirstStep
-  no r = record { begun = declined r; lent = watchedList w }
+  no r = record { begun = declined r; lent = vs }
 
   abbrev yes : NodeId → FirstStep
-  yes x = record { begun = begins (freshWith x); lent = unheard (watchedList w) }
+  yes x = record { begun = begins (freshWith x); lent = unheard vs }
 
   abbrev byNode : NodeIdRead → FirstStep
-  byNode (node-id.Taken x) =
-      pick (leb c 32) (pick (wellFormed (watchedList w)) (yes x) (no WatchedNodes)) (no QueueCapacity)
+  byNode (node-id.Taken x) = pick (leb c 32) (pick (wellFormed vs) (yes x) (no WatchedNodes)) (no QueueCapacity)
   byNode (node-id.Refused r) = no r
 
   started-by : started s ≡ byNode (readNode n)
@@ -122,61 +115,56 @@ module _ (n : ℕ) (f : FeatureFlags) (t c : ℕ) (o : Dictionary) (w : declared
     where
       by :
           (b : Bool) →
-          pick b (pick (leb c 32) (pick (wellFormed (watchedList w)) (yes (node n)) (no WatchedNodes)) (no QueueCapacity)) (no NodeNumber)
+          pick b (pick (leb c 32) (pick (wellFormed vs) (yes (node n)) (no WatchedNodes)) (no QueueCapacity)) (no NodeNumber)
           ≡ byNode (pick b (node-id.Taken (node n)) (node-id.Refused NodeNumber))
       by true = refl
       by false = refl
 
-  -- the contract
-  abbrev pub Start′ : Started → Type 0
-  Start′ r = Begins s (r .answer) (watchedList (r .watched)) × FreshPlaces (r .answer) c × (r .watched ≡ startedNodes (r .answer) w)
+  -- what start owes of the plain start, where the head h and the first k nodes of l are left
+  abbrev pub StartedBy : CallAnswer → Head → List WatchedNode → Type 0
+  StartedBy a h l = Begins s a h (watchedOf l k) × FreshPlaces a h c
 
-  abbrev pub declinedBy : Refusal → Started
-  declinedBy x = record { answer = head-answer.Refused x; watched = w }
+  module _ (i : NodeIdRead) (e : i ≡ readNode n) where
+    start-declined : (x : Refusal) (h : Head) → started s ≡ no x → StartedBy (answer.Refused x) h ns
+    start-declined x h g = (
+      record {
+        begun = λ q m. sym (ap (λ (b : FirstStep). b .begun) g);
+        lent = sym (ap (λ (b : FirstStep). b .lent) g);
+      },
+      tt,
+    )
 
-  start-declined : (x : Refusal) (r : Started) → r ≡ declinedBy x → started s ≡ no x → Start′ r
-  start-declined x r e g =
-      rw e (
-        record {
-          begun = λ q m. sym (ap (λ (b : FirstStep). b .begun) g);
-          lent = sym (ap (λ (b : FirstStep). b .lent) g);
-        },
-        tt,
-        refl,
-      )
-
-  module _ (i : NodeIdRead) (e : i ≡ readNode n) (r : Started) where
-    pub start-no-node : (x : Refusal) → i ≡ node-id.Refused x → r ≡ declinedBy x → Start′ r
-    start-no-node x g d = start-declined x r d (started-by ∙ ap byNode (sym e ∙ g))
+    pub start-no-node : (x : Refusal) (h : Head) → i ≡ node-id.Refused x → StartedBy (answer.Refused x) h ns
+    start-no-node x h g = start-declined x h (started-by ∙ ap byNode (sym e ∙ g))
 
     module _ (x : NodeId) (g : i ≡ node-id.Taken x) where
       after-node : started s ≡ byNode (node-id.Taken x)
       after-node = started-by ∙ ap byNode (sym e ∙ g)
 
-      pub start-no-room : 32 < c → r ≡ declinedBy QueueCapacity → Start′ r
-      start-no-room h d = start-declined QueueCapacity r d (after-node ∙ rw (lt-leb c 32 h))
+      pub start-no-room : (h : Head) → 32 < c → StartedBy (answer.Refused QueueCapacity) h ns
+      start-no-room h z = start-declined QueueCapacity h (after-node ∙ rw (lt-leb c 32 z))
 
-      module _ (h : c ≤ 32) where
-        pub start-unformed : wellFormed (watchedList w) ≡ false → r ≡ declinedBy WatchedNodes → Start′ r
-        start-unformed a d = start-declined WatchedNodes r d (after-node ∙ rw (le-leb c 32 h, a))
+      module _ (z : c ≤ 32) where
+        pub start-unformed : (h : Head) → wellFormed vs ≡ false → StartedBy (answer.Refused WatchedNodes) h ns
+        start-unformed h a = start-declined WatchedNodes h (after-node ∙ rw (le-leb c 32 z, a))
 
-  module _ (i : NodeIdRead) (e : i ≡ readNode n) (x : NodeId) (g : i ≡ node-id.Taken x) (h : c ≤ 32) (a : wellFormed (watchedList w) ≡ true) (long : length (w .nodes) ≡ 32) where
-    pub start-taken :
-        (k : Head) (ns : List WatchedNode) →
-        k ≡ freshHead x f t c o →
-        ns ≡ unheardFirst (w .count) (w .nodes) →
-        Start′ (record { answer = head-answer.Taken k; watched = withNodes w ns })
-    start-taken k ns b d =
-        let steps : started s ≡ yes x = started-by ∙ ap byNode (sym e ∙ g) ∙ rw (le-leb c 32 h, a) in
-        let all : min c 32 ≡ c = omega arith in
-        let below : w .count ≤ 32 = few (w .nodes) (w .count) true (sym a) refl in
-        let listed : watchedOf ns (w .count) ≡ unheard (watchedList w) =
-        ap (λ (l : List WatchedNode). watchedOf l (w .count)) d ∙ each-nodes (w .nodes) (w .count) long below (heardNow 0) in
-        let stands : (q m : List ℕ) → plain k q m ≡ freshWith x = λ q m. rw (b, all, waiting-new q c, history-new m) in (
-          record {
-            begun = λ q m. ap begins (stands q m) ∙ sym (ap (λ (b : FirstStep). b .begun) steps);
-            lent = listed ∙ sym (ap (λ (b : FirstStep). b .lent) steps);
-          },
-          (ap (λ (k : Head). k .queue) b, ap (λ (k : Head). k .history) b),
-          ap (withNodes w) d,
-        )
+        pub start-taken :
+            wellFormed vs ≡ true →
+            length ns ≡ 32 →
+            (h : Head) (l : List WatchedNode) →
+            h ≡ freshHead x f t c o →
+            l ≡ unheardFirst k ns →
+            StartedBy answer.Taken h l
+        start-taken a long h l b d =
+            let steps : started s ≡ yes x = after-node ∙ rw (le-leb c 32 z, a) in
+            let all : min c 32 ≡ c = omega arith in
+            let below : k ≤ 32 = few ns k true (sym a) refl in
+            let listed : watchedOf l k ≡ unheard vs =
+            ap (λ (l : List WatchedNode). watchedOf l k) d ∙ each-nodes ns k long below (heardNow 0) in
+            let stands : (q m : List ℕ) → plain h q m ≡ freshWith x = λ q m. rw (b, all, waiting-new q c, history-new m) in (
+              record {
+                begun = λ q m. ap begins (stands q m) ∙ sym (ap (λ (b : FirstStep). b .begun) steps);
+                lent = listed ∙ sym (ap (λ (b : FirstStep). b .lent) steps);
+              },
+              (ap (λ (h : Head). h .queue) b, ap (λ (h : Head). h .history) b),
+            )

@@ -1,6 +1,10 @@
-pub mod Laws
 pub mod Nodes
 pub mod Lent
-pub mod Fixed
+pub mod Laws
+pub mod Refining
+pub mod Watching
+pub mod Begun
+pub mod Loading
 pub mod Links
 pub mod Examples
+pub mod Fixed

@@ -1,27 +1,23 @@
 -- The watched nodes as an array and as a list: the test of number 3 node by node, the place of a node, and the times set.
 -- Assumes nothing.
-use Prim.Native.Nat.{ℕ, zero, suc, _+_, _≤_, _<_, min}
+use Prim.Native.Nat.{ℕ, zero, suc, _+_, _≤_, _<_}
 use mathlib.Core.Path.{_≡_, refl, sym, ap, ap₂, _∙_}
 use mathlib.Core.Bool.{Bool, true, false, not}
 use mathlib.Core.List.{List, [], _∷_, _++_, map}
 use native.Mathlib.Nat.{add-zero}
 use native.Mathlib.Omega.{arith}
 use native.Mathlib.Numerals.{add-one}
-use lib.Dec.{eqb, leb, ltb}
+use lib.Dec.{eqb, ltb}
 use lib.ListN.{length, getD, set, take, drop, take-append-drop, length-append, drop-of-length-le}
 use lib.Seq.{length-take-le, take-suc, drop-cons, append-snoc, set-append-left, getD-take, set-at, getD-at, take-at}
-use borrow.Author.Tests.{ltb-true, ltb-false, lt-ltb, le-ltb, le-leb, lt-leb, eq-eqb, ne-eqb}
+use borrow.Author.Tests.{ltb-false, le-leb, lt-leb}
 use Rattle.types.specs.Pick.{pick, both, either}
-use Rattle.types.specs.Types.{node, isNode, readNode}
-use Rattle.types.specs.declared.refusals.Refusal.{Refusal}
-use Rattle.types.specs.declared.refusals.Refusal.the-variants.{NodeNumber}
-use Rattle.types.specs.declared.types.NodeId.{NodeId}
-use Rattle.types.specs.declared.types.NodeIdRead.{NodeIdRead}
-use Rattle.types.specs.declared.types.NodeIdRead.the-variants.{Taken, Refused}
+use Rattle.types.specs.Types.{node, isNode}
 use Rattle.entries.specs.Ring.{listed}
 use Rattle.entries.proofs.Rings.{listed-long}
 use Rattle.node.specs.declared.watched.WatchedNode.{WatchedNode}
-use Rattle.node.specs.Watched.{inTime, allOf, ascending, fits, wellFormed, noNode, heardNow, isWatched, heardAt, placeOf, watchedOf, heardFirst}
+use Rattle.node.specs.Nodes.{rising}
+use Rattle.node.specs.Watched.{allOf, ascending, fits, wellFormed, noNode, heardNow, isWatched, heardAt, placeOf, watchedOf, heardFirst}
 
 -- what a test that is denied says
 pub not-true : (b : Bool) → not b ≡ true → b ≡ false
@@ -32,40 +28,6 @@ pub not-false : (b : Bool) → not b ≡ false → b ≡ true
 not-false true e = refl
 not-false false e = sym e
 
--- the limits of a node, by the reading of its number and the tests of its times
-abbrev accepted : NodeIdRead → Bool
-accepted (Taken n) = true
-accepted (Refused r) = false
-
-is-node : (n : ℕ) → accepted (readNode n) ≡ isNode n
-unfolding readNode
-is-node n = by (isNode n)
-  where
-    by : (b : Bool) → accepted (pick b (Taken (node n)) (Refused NodeNumber)) ≡ b
-    by true = refl
-    by false = refl
-
-module _ (w : WatchedNode) (r : NodeIdRead) (e : r ≡ readNode (w .node)) where
-  fits-read : fits w ≡ both (accepted r) (both (inTime (w .timeout)) (inTime (w .«last_heard»)))
-  fits-read =
-      ap (λ (b : Bool). both b (both (inTime (w .timeout)) (inTime (w .«last_heard»)))) (sym (ap accepted e ∙ is-node (w .node)))
-
-  pub fits-refused : (x : Refusal) → r ≡ Refused x → false ≡ fits w
-  fits-refused x t = sym (fits-read ∙ ap (λ (r : NodeIdRead). both (accepted r) (both (inTime (w .timeout)) (inTime (w .«last_heard»)))) t)
-
-  module _ (x : NodeId) (t : r ≡ Taken x) (b : Bool) (f : b ≡ inTime (w .timeout)) where
-    fits-taken : fits w ≡ both b (inTime (w .«last_heard»))
-    fits-taken =
-        fits-read
-        ∙ ap (λ (r : NodeIdRead). both (accepted r) (both (inTime (w .timeout)) (inTime (w .«last_heard»)))) t
-        ∙ ap (λ (b : Bool). both b (inTime (w .«last_heard»))) (sym f)
-
-    pub fits-late : b ≡ false → false ≡ fits w
-    fits-late h = sym (fits-taken ∙ ap (λ (b : Bool). both b (inTime (w .«last_heard»))) h)
-
-    pub fits-last : b ≡ true → (z : Bool) → z ≡ inTime (w .«last_heard») → z ≡ fits w
-    fits-last h z g = g ∙ sym (fits-taken ∙ ap (λ (b : Bool). both b (inTime (w .«last_heard»))) h)
-
 -- the first k nodes of an array that has as many
 pub watched-take : (ns : List WatchedNode) (k : ℕ) → k ≤ length ns → watchedOf ns k ≡ take k ns
 unfolding listed
@@ -73,11 +35,7 @@ watched-take ns zero h = refl
 watched-take [] (suc k) h = absurd (omega arith)
 watched-take (w ∷ ws) (suc k) h = ap (λ (l : List WatchedNode). w ∷ l) (watched-take ws k (omega arith))
 
--- number 3, node by node: each above the one before, and within its limits
-abbrev pub rising : ℕ → List WatchedNode → Bool
-rising n [] = true
-rising n (w ∷ ws) = both (ltb n (w .node)) (both (fits w) (rising (w .node) ws))
-
+-- number 3 is tried node by node
 abbrev above : ℕ → List WatchedNode → Bool
 above n [] = true
 above n (w ∷ ws) = both (ltb n (w .node)) (above (w .node) ws)
@@ -86,7 +44,7 @@ ascending-above : (w : WatchedNode) (ws : List WatchedNode) → ascending (w ∷
 ascending-above w [] = refl
 ascending-above w (v ∷ vs) = ap (both (ltb (w .node) (v .node))) (ascending-above v vs)
 
-swap : (a f u v : Bool) → both a (both f (both u v)) ≡ both (both a u) (both f v)
+swap : (a f u v : Bool) → both (both a f) (both u v) ≡ both (both a u) (both f v)
 swap true true true v = refl
 swap true true false v = refl
 swap true false true v = refl
@@ -96,7 +54,7 @@ swap false f u v = refl
 rising-above : (n : ℕ) (ws : List WatchedNode) → rising n ws ≡ both (above n ws) (allOf fits ws)
 rising-above n [] = refl
 rising-above n (w ∷ ws) =
-    ap (λ (b : Bool). both (ltb n (w .node)) (both (fits w) b)) (rising-above (w .node) ws)
+    ap (both (both (ltb n (w .node)) (fits w))) (rising-above (w .node) ws)
     ∙ swap (ltb n (w .node)) (fits w) (above (w .node) ws) (allOf fits ws)
 
 -- a node within its limits has a number above 0
@@ -142,40 +100,6 @@ module _ (ns : List WatchedNode) (k : ℕ) where
           let l : i < length (take k ns) = rw (length-take-le k ns within) inside in
           rw (add-one, ← getD-take k ns i d inside) (drop-cons (take k ns) i d l)
 
-      pub test-turn :
-          (n : ℕ) →
-          rising n (drop i (take k ns)) ≡
-          both (ltb n (getD ns i d .node)) (both (fits (getD ns i d)) (rising (getD ns i d .node) (drop (i + 1) (take k ns))))
-      test-turn n = ap (rising n) from-here
-
-      pub place-turn :
-          (n : ℕ) → placeOf n (drop i (take k ns)) ≡ pick (eqb (getD ns i d .node) n) 0 (suc (placeOf n (drop (i + 1) (take k ns))))
-      place-turn n = ap (placeOf n) from-here
-
-      module _ (n : ℕ) (e : placeOf n (watchedOf ns k) ≡ i + placeOf n (drop i (take k ns))) where
-        pub place-here : getD ns i d .node ≡ n → i ≡ placeOf n (watchedOf ns k)
-        place-here h =
-            sym (e ∙ ap (λ (p : ℕ). i + p) (place-turn n ∙ ap (λ (b : Bool). pick b 0 (suc (placeOf n (drop (i + 1) (take k ns))))) (eq-eqb (getD ns i d .node) n h)) ∙ add-zero i)
-
-        pub place-further : (getD ns i d .node ≡ n → ⊥) → placeOf n (watchedOf ns k) ≡ i + 1 + placeOf n (drop (i + 1) (take k ns))
-        place-further h =
-            e ∙ ap (λ (p : ℕ). i + p) (place-turn n ∙ ap (λ (b : Bool). pick b 0 (suc (placeOf n (drop (i + 1) (take k ns))))) (ne-eqb (getD ns i d .node) n h))
-            ∙ omega arith
-
-      module _ (n : ℕ) (b : Bool) (e : b ≡ rising n (drop i (take k ns))) where
-        pub test-below : getD ns i d .node ≤ n → b ≡ false
-        test-below h = e ∙ test-turn n ∙ ap (λ (b : Bool). both b (both (fits (getD ns i d)) (rising (getD ns i d .node) (drop (i + 1) (take k ns))))) (le-ltb n (getD ns i d .node) h)
-
-        module _ (h : n < getD ns i d .node) where
-          above-last : b ≡ both (fits (getD ns i d)) (rising (getD ns i d .node) (drop (i + 1) (take k ns)))
-          above-last = e ∙ test-turn n ∙ ap (λ (b : Bool). both b (both (fits (getD ns i d)) (rising (getD ns i d .node) (drop (i + 1) (take k ns))))) (lt-ltb n (getD ns i d .node) h)
-
-          pub test-outside : fits (getD ns i d) ≡ false → b ≡ false
-          test-outside g = above-last ∙ ap (λ (b : Bool). both b (rising (getD ns i d .node) (drop (i + 1) (take k ns)))) g
-
-          pub test-next : fits (getD ns i d) ≡ true → b ≡ rising (getD ns i d .node) (drop (i + 1) (take k ns))
-          test-next g = above-last ∙ ap (λ (b : Bool). both b (rising (getD ns i d .node) (drop (i + 1) (take k ns)))) g
-
     pub place-begins : (n : ℕ) → placeOf n (watchedOf ns k) ≡ 0 + placeOf n (drop 0 (take k ns))
     place-begins n = let e : placeOf n (watchedOf ns k) ≡ placeOf n (take k ns) = ap (placeOf n) (watched-take ns k within) in omega arith
 
@@ -184,9 +108,6 @@ module _ (ns : List WatchedNode) (k : ℕ) where
 
     pub place-end : (n i : ℕ) → placeOf n (watchedOf ns k) ≡ i + placeOf n (drop i (take k ns)) → i ≡ k → k ≡ placeOf n (watchedOf ns k)
     place-end n i e h = sym (e ∙ ap (λ (l : List WatchedNode). i + placeOf n l) (at-end i (omega arith)) ∙ add-zero i ∙ h)
-
-    pub test-end : (n i : ℕ) (b : Bool) → b ≡ rising n (drop i (take k ns)) → k ≤ i → b ≡ true
-    test-end n i b e h = e ∙ ap (rising n) (at-end i h)
 
 -- a node is watched exactly where its place is before the end
 place-inside : (n : ℕ) (ws : List WatchedNode) → placeOf n ws < length ws → isWatched n ws ≡ true

@@ -13,7 +13,6 @@ use Rattle.types.specs.declared.frame.error.types.DllError.the-variants as erro
 use Rattle.types.specs.declared.frame.error.types.NmtAction.the-variants as action
 use Rattle.nmt.specs.Resets.{Passed, range}
 use Rattle.nmt.specs.declared.cn_state_machine.CnNmtStateMachine.{CnNmtStateMachine}
-use Rattle.dll.specs.declared.cs_state_machine.DllCsState.{DllCsState}
 use Rattle.dll.specs.declared.cs_state_machine.DllCsState.the-variants.{NonCyclic, WaitSoc}
 use Rattle.counters.specs.Counters.{counterOf, incremented}
 use Rattle.counters.specs.Marks.{Mark, given, crossed, drained, E}
@@ -21,15 +20,14 @@ use Rattle.counters.specs.declared.counters.CounterKind.the-variants.{LossOfSoc
 use Rattle.counters.specs.declared.counters.CnErrorCounters.{CnErrorCounters}
 use Rattle.entries.specs.declared.status_response.ErrorEntry.{ErrorEntry}
 use Rattle.entries.specs.declared.status_response.ErrorEntryMode.the-variants.{EventOccurred}
-use Rattle.node.specs.declared.state.Deadline.{Deadline}
-use Rattle.node.specs.declared.state.Deadline.the-variants.{At, Nothing}
-use Rattle.node.specs.declared.state.ObjectValue.the-variants.{Unsigned32}
-use Rattle.node.specs.declared.state.SocWatch.{SocWatch}
-use Rattle.node.specs.declared.state.Dictionary.{Dictionary}
+use Rattle.head.specs.declared.state.Deadline.the-variants.{At, Nothing}
+use Rattle.head.specs.declared.state.ObjectValue.the-variants.{Unsigned32}
+use Rattle.head.specs.declared.state.Dictionary.{Dictionary}
 use Rattle.node.specs.declared.watched.WatchedNode.{WatchedNode}
 use Rattle.node.specs.Watched.{watchedNode}
 use Rattle.node.specs.Plain.{Plain, Call, nmtEvent, dllEvent, error, cycleComplete, withdraw, heard, tick, Start, Answer, taken, nmtAnswer, dllAnswer, errorAnswer, cycleAnswer, tickAnswer, Step}
-use Rattle.node.specs.Steps.{plainOf, socWatch, fresh}
+use Rattle.node.specs.Steps.{plainOf, fresh}
+use Rattle.head.specs.Head.{socWatch}
 use Rattle.node.specs.Run.{step}
 
 -- What comes of a call: its whole step, the number of the NMT state after it, and the level to which a lost SoC raised its
@@ -64,7 +62,7 @@ abbrev pub stated : Example → List Coming
 stated x = x .after
 
 -- Heads of node 1 with a basic timeout of 5, a queue of 1, cycle 1000 and tolerance 100,000 ns.
-abbrev machine : NmtState → Bool → Bool → CnNmtStateMachine
+abbrev pub machine : NmtState → Bool → Bool → CnNmtStateMachine
 machine s enabled ready =
     record {
       «current_state» = s;
@@ -76,7 +74,7 @@ machine s enabled ready =
     }
 
 -- the error register and the counters 1, 2, 3 and 5
-abbrev values : ℕ → ℕ → ℕ → ℕ → ℕ → Dictionary
+abbrev pub values : ℕ → ℕ → ℕ → ℕ → ℕ → Dictionary
 values r a b c e =
     record {
       «error_register» = r;
@@ -89,7 +87,7 @@ values r a b c e =
     }
 
 -- count and level of LossOfSoc, and of HeartbeatTimeout; those of the other kinds are 0
-abbrev countersOf : ℕ → ℕ → ℕ → ℕ → CnErrorCounters
+abbrev pub countersOf : ℕ → ℕ → ℕ → ℕ → CnErrorCounters
 countersOf socs soc beats beat =
     record {
       collision = counterOf 0 0 15;
@@ -103,17 +101,17 @@ countersOf socs soc beats beat =
     }
 
 -- without a cycle yet: DLL NonCyclic, levels and counts 0, check off
-abbrev resting : NmtState → Bool → Bool → Plain
+abbrev pub resting : NmtState → Bool → Bool → Plain
 resting s enabled ready =
     plainOf (machine s enabled ready) NonCyclic (countersOf 0 0 0 0) (socWatch 0 false Nothing false) (values 0 0 0 0 0) 1 [] []
 
 -- Operational, DLL NonCyclic, with these counters
-abbrev counting : CnErrorCounters → Plain
+abbrev pub counting : CnErrorCounters → Plain
 counting e =
     plainOf (machine NmtOperational false true) NonCyclic e (socWatch 0 false Nothing false) (values 0 0 0 0 0) 1 [] []
 
 -- Operational, WaitSoc, check on, last SoC 10,000, a deadline; the level of LossOfSoc, and counter 1
-abbrev cycling : ℕ → ℕ → ℕ → Plain
+abbrev pub cycling : ℕ → ℕ → ℕ → Plain
 cycling deadline level lost =
     plainOf (machine NmtOperational false true) WaitSoc (countersOf 0 level 0 0) (socWatch 10000 true (At deadline) false)
     (values 0 lost 0 0 0) 1 [] []
@@ -133,21 +131,21 @@ abbrev leaves : ℕ → Plain → Answer → List WatchedNode → List Mark → 
 leaves n p a ws ms =
     record { all = record { head = p; answer = a; lent = ws; marks = ms; crossings = [] }; state = n; raised = [] }
 
-abbrev nothingPassed : Passed
+abbrev pub nothingPassed : Passed
 nothingPassed = record { states = []; ranges = [] }
 
 -- "Fresh, SwReset: five states entered, NotActive."
-abbrev startsWith : Start
+abbrev pub startsWith : Start
 startsWith = record { node = 1; flags = 0; timeout = 5; capacity = 1; od = values 0 0 0 0 0; watched = [] }
 
-abbrev wholeReset : Passed
+abbrev pub wholeReset : Passed
 wholeReset =
     record {
       states = NmtGsInitialising ∷ NmtGsResetApplication ∷ NmtGsResetCommunication ∷ NmtGsResetConfiguration ∷ NmtNotActive ∷ [];
       ranges = range 0x2000 0x5FFF ∷ range 0x6000 0x9FFF ∷ range 0x1000 0x1FFF ∷ [];
     }
 
-abbrev swReset : Example
+abbrev pub swReset : Example
 swReset =
     record {
       before = fresh startsWith;
@@ -156,7 +154,7 @@ swReset =
     }
 
 -- "NotActive, Timeout: 0x1E."
-abbrev timeout : Example
+abbrev pub timeout : Example
 timeout =
     record {
       before = resting NmtNotActive false true;
@@ -165,7 +163,7 @@ timeout =
     }
 
 -- "PreOperational2, withdrawn, EnableReadyToOperate: stays, enabled; ready word: 0x6D."
-abbrev enable : Example
+abbrev pub enable : Example
 enable =
     record {
       before = resting NmtPreOperational2 false true;
@@ -178,7 +176,7 @@ enable =
     }
 
 -- "ReadyToOperate, EnterPreOperational2: stays, error (0x6D, 2)."
-abbrev noRow : Example
+abbrev pub noRow : Example
 noRow =
     record {
       before = resting NmtReadyToOperate true true;
@@ -190,7 +188,7 @@ noRow =
     }
 
 -- "Operational, NonCyclic, SocTimeout: error (0, 5)."
-abbrev noCycle : Example
+abbrev pub noCycle : Example
 noCycle =
     record {
       before = resting NmtOperational false true;
@@ -200,10 +198,10 @@ noCycle =
     }
 
 -- the answer to a loss that does not cross, and to one that does
-abbrev quiet : Answer
+abbrev pub quiet : Answer
 quiet = errorAnswer action.None false []
 
-abbrev asks : Answer
+abbrev pub asks : Answer
 asks = errorAnswer action.ResetCommunication true (error.LossOfSoc ∷ [])
 
 abbrev firstLoss : Coming
@@ -213,7 +211,7 @@ abbrev lowers : ℕ → Coming
 lowers level = counts 0xFD (counting (countersOf 0 level 0 0)) (cycleAnswer false) (drained LossOfSoc ∷ []) []
 
 -- "Two SoC losses, one cycle between: 15, crossing."
-abbrev oneBetween : Example
+abbrev pub oneBetween : Example
 oneBetween =
     record {
       before = counting (countersOf 0 0 0 0);
@@ -226,7 +224,7 @@ oneBetween =
     }
 
 -- "Two cycles between: 14, none."
-abbrev twoBetween : Example
+abbrev pub twoBetween : Example
 twoBetween =
     record {
       before = counting (countersOf 0 0 0 0);
@@ -241,7 +239,7 @@ twoBetween =
 
 -- "Operational, WaitSoc, levels and counts 0, queue of 1, check on, cycle 1000, tolerance 100,000 ns, last SoC 10,000,
 -- deadline 10,500, tick 10,500: deadline 11,100."
-abbrev early : Example
+abbrev pub early : Example
 early =
     record {
       before = cycling 10500 0 0;
@@ -250,7 +248,7 @@ early =
     }
 
 -- "Tick 11,100, deadline 11,100: no loss, deadline 12,100."
-abbrev atLimit : Example
+abbrev pub atLimit : Example
 atLimit =
     record {
       before = cycling 11100 0 0;
@@ -262,11 +260,11 @@ atLimit =
 abbrev loss : Coming
 loss = counts 0xFD (cycling 12100 8 1) (tickAnswer []) (given LossOfSoc ∷ []) (8 ∷ [])
 
-abbrev aboveLimit : Example
+abbrev pub aboveLimit : Example
 aboveLimit = record { before = cycling 11100 0 0; calls = tick 11101 [] ∷ []; after = loss ∷ [] }
 
 -- "Then 12,100: crossing; entry 0x8245, 0 s 12,100,000 ns; PreOperational1, check off, no deadline."
-abbrev entry : ErrorEntry
+abbrev pub entry : ErrorEntry
 entry =
     record {
       «entry_type» = record { «is_status_entry» = false; «send_to_queue» = true; mode = EventOccurred; profile = 2 };
@@ -275,7 +273,7 @@ entry =
       «additional_information» = 0;
     }
 
-abbrev crossing : Coming
+abbrev pub crossing : Coming
 crossing =
     record {
       all =
@@ -292,15 +290,15 @@ crossing =
       raised = 16 ∷ [];
     }
 
-abbrev thenCrossing : Example
+abbrev pub thenCrossing : Example
 thenCrossing =
     record { before = cycling 11100 0 0; calls = tick 11101 [] ∷ tick 12100 [] ∷ []; after = loss ∷ crossing ∷ [] }
 
 -- "Timeout 50, heard 100: 150 in time, 151 late."
-abbrev watching : ℕ → List WatchedNode
+abbrev pub watching : ℕ → List WatchedNode
 watching t = watchedNode 5 50 t ∷ []
 
-abbrev late : Example
+abbrev pub late : Example
 late =
     record {
       before = counting (countersOf 0 0 0 0);

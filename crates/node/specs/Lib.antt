@@ -5,3 +5,7 @@ pub mod Tick
 pub mod Run
 pub mod Examples
 pub mod Refines
+pub mod InPlace
+pub mod Nodes
+pub mod Started
+pub mod Loaded

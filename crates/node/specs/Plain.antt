@@ -1,9 +1,8 @@
 -- The plain head: what document 01 keeps of a node, in plain values. The queue is a list, oldest first, the history one, newest first.
 -- Assumes nothing.
 use Prim.Native.Nat.{ℕ}
-use mathlib.Core.Bool.{Bool, true, false}
-use mathlib.Core.List.{List, [], _∷_}
-use Rattle.types.specs.Pick.{pick}
+use mathlib.Core.Bool.{Bool}
+use mathlib.Core.List.{List}
 use Rattle.types.specs.declared.refusals.Refusal.{Refusal}
 use Rattle.types.specs.declared.frame.error.types.DllError.{DllError}
 use Rattle.types.specs.declared.frame.error.types.NmtAction.{NmtAction}
@@ -14,8 +13,8 @@ use Rattle.counters.specs.Marks.{Mark}
 use Rattle.counters.specs.declared.counters.CnErrorCounters.{CnErrorCounters}
 use Rattle.entries.specs.declared.status_response.ErrorEntry.{ErrorEntry}
 use Rattle.entries.specs.declared.status_response.FoundEntry.{FoundEntry}
-use Rattle.node.specs.declared.state.SocWatch.{SocWatch}
-use Rattle.node.specs.declared.state.Dictionary.{Dictionary}
+use Rattle.head.specs.declared.state.SocWatch.{SocWatch}
+use Rattle.head.specs.declared.state.Dictionary.{Dictionary}
 use Rattle.node.specs.declared.load.DictionaryUpdate.{DictionaryUpdate}
 use Rattle.node.specs.declared.watched.WatchedNode.{WatchedNode}
 

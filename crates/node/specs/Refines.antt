@@ -5,9 +5,7 @@ use mathlib.Core.Path.{_≡_}
 use mathlib.Core.Bool.{Bool, true, false}
 use mathlib.Core.List.{List, [], _∷_}
 use Rattle.types.specs.Pick.{pick}
-use Rattle.types.specs.Errors.{reported}
 use Rattle.types.specs.declared.types.NodeId.{NodeId}
-use Rattle.nmt.specs.Resets.{passed}
 use Rattle.nmt.specs.Nmt as Nmt
 use Rattle.dll.specs.Dll.{freshMachine}
 use Rattle.counters.specs.Counters.{newCounters}
@@ -17,26 +15,15 @@ use Rattle.entries.specs.History.{errorHistory, history, joined, joinedBytes, e
 use Rattle.entries.specs.declared.status_response.ErrorEntry.{ErrorEntry}
 use Rattle.entries.specs.declared.emergency_queue.EmergencyQueue.{EmergencyQueue}
 use Rattle.entries.specs.declared.error_history.ErrorHistory.{ErrorHistory}
-use Rattle.node.specs.declared.state.Deadline.the-variants.{Nothing}
-use Rattle.node.specs.declared.state.Dictionary.{Dictionary}
-use Rattle.node.specs.declared.state.Head.{Head}
+use Rattle.head.specs.declared.state.Deadline.the-variants.{Nothing}
+use Rattle.head.specs.declared.state.Dictionary.{Dictionary}
+use Rattle.head.specs.Head.{Head}
 use Rattle.node.specs.declared.watched.WatchedNode.{WatchedNode}
-use Rattle.node.specs.declared.watched.WatchedNodes.{WatchedNodes}
-use Rattle.node.specs.declared.calls.HeadAnswer.{HeadAnswer}
-use Rattle.node.specs.declared.calls.HeadAnswer.the-variants as head-answer
-use Rattle.node.specs.declared.calls.NmtEventAnswer.{NmtEventAnswer}
-use Rattle.node.specs.declared.calls.NmtEventAnswer.the-variants as nmt-answer
-use Rattle.node.specs.declared.calls.DllEventAnswer.{DllEventAnswer}
-use Rattle.node.specs.declared.calls.DllEventAnswer.the-variants as dll-answer
-use Rattle.node.specs.declared.calls.ErrorAnswer.{ErrorAnswer}
-use Rattle.node.specs.declared.calls.ErrorAnswer.the-variants as error-answer
-use Rattle.node.specs.declared.calls.CycleTaken.{CycleTaken}
-use Rattle.node.specs.declared.calls.HandOutTaken.{HandOutTaken}
-use Rattle.node.specs.declared.calls.HeardAnswer.{HeardAnswer}
-use Rattle.node.specs.declared.calls.HeardAnswer.the-variants as heard-answer
-use Rattle.node.specs.Watched.{withNodes, heardFirst, unheardFirst}
-use Rattle.node.specs.Plain.{Plain, HistoryUpdate, set, keep, Call, Answer, refused, taken, nmtAnswer, dllAnswer, errorAnswer, cycleAnswer, handOutAnswer, Start, Begun, begins, declined}
-use Rattle.node.specs.Steps.{socWatch, started}
+use Rattle.node.specs.declared.calls.CallAnswer.{CallAnswer}
+use Rattle.node.specs.declared.calls.CallAnswer.the-variants as answer
+use Rattle.node.specs.Plain.{Plain, HistoryUpdate, set, keep, Call, Answer, Start, Begun, begins, declined}
+use Rattle.node.specs.Steps.{started}
+use Rattle.head.specs.Head.{socWatch}
 use Rattle.node.specs.Run.{step}
 
 -- the plain head that a head, its queue's bytes q and its history's bytes m stand for
@@ -96,36 +83,6 @@ pub record Left : Type 0 where
 abbrev pub left : Head → Answer → Left
 left h a = record { head = h; answer = a }
 
--- of each kind of answer: a declined call leaves the head h that it was given
-abbrev pub headLeft : Head → HeadAnswer → Left
-headLeft h (head-answer.Taken g) = left g taken
-headLeft h (head-answer.Refused r) = left h (refused r)
-
-abbrev pub nmtLeft : Head → NmtEventAnswer → Left
-nmtLeft h (nmt-answer.Taken t) = left (t .head) (nmtAnswer (reported (t .errors)) (passed (t .reset)))
-nmtLeft h (nmt-answer.Refused r) = left h (refused r)
-
-abbrev pub dllLeft : Head → DllEventAnswer → Left
-dllLeft h (dll-answer.Taken t) = left (t .head) (dllAnswer (reported (t .errors)))
-dllLeft h (dll-answer.Refused r) = left h (refused r)
-
-abbrev pub errorLeft : Head → ErrorAnswer → Left
-errorLeft h (error-answer.Taken t) = left (t .head) (errorAnswer (t .action) (t .signal) (reported (t .logged)))
-errorLeft h (error-answer.Refused r) = left h (refused r)
-
-abbrev pub cycleLeft : CycleTaken → Left
-cycleLeft t = left (t .head) (cycleAnswer (t .cleared))
-
-abbrev pub handOutLeft : HandOutTaken → Left
-handOutLeft t = left (t .head) (handOutAnswer (t .entry))
-
-abbrev pub loadLeft : Head → Left
-loadLeft h = left h taken
-
-abbrev pub heardLeft : Head → HeardAnswer → Left
-heardLeft h heard-answer.Taken = left h taken
-heardLeft h (heard-answer.Refused r) = left h (refused r)
-
 -- the history that a load names, from the bytes of its entries
 abbrev pub historyUpdate : Bool → List ℕ → HistoryUpdate
 historyUpdate true s = set (entriesIn s)
@@ -149,15 +106,15 @@ pub record Refines (h : Head) (q m : List ℕ) (c : Call) (o : Left) (q′ m′ 
 abbrev pub startOf : ℕ → FeatureFlags → ℕ → ℕ → Dictionary → List WatchedNode → Start
 startOf n f t c o ws = record { node = n; flags = f .0; timeout = t; capacity = c; od = o; watched = ws }
 
--- what start answers
-abbrev pub begunBy : HeadAnswer → List ℕ → List ℕ → Begun
-begunBy (head-answer.Taken h) q m = begins (plain h q m)
-begunBy (head-answer.Refused r) q m = declined r
+-- what start answers, with the head that its words stand for
+abbrev pub begunBy : CallAnswer → Head → List ℕ → List ℕ → Begun
+begunBy answer.Taken h q m = begins (plain h q m)
+begunBy (answer.Refused r) h q m = declined r
 
 -- the places of a head that start gave: queue and history are empty
-abbrev pub FreshPlaces : HeadAnswer → ℕ → Type 0
-FreshPlaces (head-answer.Taken h) c = (h .queue ≡ queue 0 0 c) × (h .history ≡ errorHistory 0 0)
-FreshPlaces (head-answer.Refused r) c = Unit
+abbrev pub FreshPlaces : CallAnswer → Head → ℕ → Type 0
+FreshPlaces answer.Taken h c = (h .queue ≡ queue 0 0 c) × (h .history ≡ errorHistory 0 0)
+FreshPlaces (answer.Refused r) h c = Unit
 
 -- the head that start gives
 abbrev pub freshHead : NodeId → FeatureFlags → ℕ → ℕ → Dictionary → Head
@@ -172,16 +129,7 @@ freshHead n f t c o =
       history = errorHistory 0 0;
     }
 
--- the array of watched nodes after start, and after heard: that of a declined call is the one that was lent
-abbrev pub startedNodes : HeadAnswer → WatchedNodes → WatchedNodes
-startedNodes (head-answer.Taken h) w = withNodes w (unheardFirst (w .count) (w .nodes))
-startedNodes (head-answer.Refused r) w = w
-
-abbrev pub heardNodes : HeardAnswer → ℕ → ℕ → WatchedNodes → WatchedNodes
-heardNodes heard-answer.Taken n t w = withNodes w (heardFirst n t (w .count) (w .nodes))
-heardNodes (heard-answer.Refused r) n t w = w
-
 -- Of start, whatever stands in the memory that will be lent: the plain start's head or number, and watched nodes.
-pub record Begins (s : Start) (a : HeadAnswer) (l : List WatchedNode) : Type 0 where
-  pub begun : (q m : List ℕ) → begunBy a q m ≡ started s .begun
+pub record Begins (s : Start) (a : CallAnswer) (h : Head) (l : List WatchedNode) : Type 0 where
+  pub begun : (q m : List ℕ) → begunBy a h q m ≡ started s .begun
   pub lent : l ≡ started s .lent

@@ -9,9 +9,7 @@ use Rattle.types.specs.Pick.{pick}
 use Rattle.types.specs.Types.{node, isNode}
 use Rattle.types.specs.Flags.{flags}
 use Rattle.types.specs.States.{sameState}
-use Rattle.types.specs.Events.{readEvent}
-use Rattle.types.specs.CsEvents.{readCsEvent}
-use Rattle.types.specs.Errors.{readError, reported}
+use Rattle.types.specs.Errors.{reported}
 use Rattle.types.specs.declared.refusals.Refusal.{Refusal}
 use Rattle.types.specs.declared.refusals.Refusal.the-variants.{NodeNumber, QueueCapacity, WatchedNodes, TimeLimit, NotWatched, ReadyToOperate}
 use Rattle.types.specs.declared.nmt.states.NmtState.the-variants.{NmtReadyToOperate}
@@ -26,19 +24,19 @@ use Rattle.nmt.specs.declared.cn_state_machine.CnNmtStateMachine.{CnNmtStateMac
 use Rattle.dll.specs.Dll as Dll
 use Rattle.dll.specs.declared.cs_state_machine.DllCsState.{DllCsState}
 use Rattle.dll.specs.declared.cs_state_machine.DllCsState.the-variants.{NonCyclic}
-use Rattle.counters.specs.Counters.{newCounters, handled, completed}
-use Rattle.counters.specs.Marks.{Mark, errorMarks, cycleMarks}
+use Rattle.counters.specs.Counters.{newCounters, handled}
+use Rattle.counters.specs.Marks.{Mark, errorMarks}
 use Rattle.counters.specs.declared.counters.CnErrorCounters.{CnErrorCounters}
 use Rattle.counters.specs.declared.counters.HandledError.{HandledError}
 use Rattle.counters.specs.declared.counters.CompletedCycle.{CompletedCycle}
 use Rattle.entries.specs.Ring.{nth, rest}
 use Rattle.entries.specs.declared.status_response.ErrorEntry.{ErrorEntry}
-use Rattle.node.specs.declared.state.Deadline.{Deadline}
-use Rattle.node.specs.declared.state.Deadline.the-variants.{At, Nothing}
-use Rattle.node.specs.declared.state.ObjectValue.{ObjectValue}
-use Rattle.node.specs.declared.state.ObjectValue.the-variants.{Unsigned32, Missing}
-use Rattle.node.specs.declared.state.SocWatch.{SocWatch}
-use Rattle.node.specs.declared.state.Dictionary.{Dictionary}
+use Rattle.head.specs.declared.state.Deadline.the-variants.{At, Nothing}
+use Rattle.head.specs.declared.state.ObjectValue.{ObjectValue}
+use Rattle.head.specs.declared.state.ObjectValue.the-variants.{Unsigned32, Missing}
+use Rattle.head.specs.declared.state.SocWatch.{SocWatch}
+use Rattle.head.specs.declared.state.Dictionary.{Dictionary}
+use Rattle.head.specs.Head.{socWatch}
 use Rattle.node.specs.declared.load.ByteUpdate.{ByteUpdate}
 use Rattle.node.specs.declared.load.ByteUpdate.the-variants as byte
 use Rattle.node.specs.declared.load.CounterUpdate.{CounterUpdate}
@@ -47,8 +45,8 @@ use Rattle.node.specs.declared.load.ObjectUpdate.{ObjectUpdate}
 use Rattle.node.specs.declared.load.ObjectUpdate.the-variants as object
 use Rattle.node.specs.declared.load.DictionaryUpdate.{DictionaryUpdate}
 use Rattle.node.specs.declared.watched.WatchedNode.{WatchedNode}
-use Rattle.node.specs.Watched.{inTime, wellFormed, isWatched, heardAt, unheard}
-use Rattle.node.specs.Plain.{Plain, HistoryUpdate, set, keep, Call, nmtEvent, dllEvent, error, cycleComplete, withdraw, heard, handOut, load, arm, Start, Answer, refused, taken, nmtAnswer, dllAnswer, errorAnswer, cycleAnswer, handOutAnswer, Step, Begun, begins, declined, FirstStep}
+use Rattle.node.specs.Watched.{inTime, wellFormed, isWatched, unheard}
+use Rattle.node.specs.Plain.{Plain, HistoryUpdate, set, keep, Start, Answer, refused, nmtAnswer, dllAnswer, errorAnswer, cycleAnswer, handOutAnswer, Step, begins, declined, FirstStep}
 
 -- A test that a call makes, and the number that declines it otherwise.
 pub record Test : Type 0 where
@@ -97,15 +95,6 @@ declines p l r = answers p (refused r) l
 -- Start. "A fresh head is at GsInitialising, not enabled, ready, DLL NonCyclic, check off, no deadline, last SoC 0, all
 -- nodes last heard 0, levels and counts 0, error_status_changed off, queue empty." "Start gives these values, with an
 -- empty history."
-abbrev pub socWatch : ℕ → Bool → Deadline → Bool → SocWatch
-socWatch t on d changed =
-    record {
-      «last_soc_reception_time_us» = t;
-      «soc_timeout_check_active» = on;
-      «next_tick_us» = d;
-      «error_status_changed» = changed;
-    }
-
 unfoldable pub fresh : Start → Plain
 fresh s =
     plainOf (Nmt.fresh (node (s .node)) (flags (s .flags)) (s .timeout)) NonCyclic newCounters

@@ -26,14 +26,15 @@ use Rattle.counters.specs.Marks.{Mark, errorMarks}
 use Rattle.counters.specs.declared.counters.HandledError.{HandledError}
 use Rattle.entries.specs.Entry.{crossing}
 use Rattle.entries.specs.declared.status_response.ErrorEntry.{ErrorEntry}
-use Rattle.node.specs.declared.state.Deadline.{Deadline}
-use Rattle.node.specs.declared.state.Deadline.the-variants.{At, Nothing}
-use Rattle.node.specs.declared.state.SocWatch.{SocWatch}
-use Rattle.node.specs.declared.state.Dictionary.{Dictionary}
+use Rattle.head.specs.declared.state.Deadline.{Deadline}
+use Rattle.head.specs.declared.state.Deadline.the-variants.{At, Nothing}
+use Rattle.head.specs.declared.state.SocWatch.{SocWatch}
+use Rattle.head.specs.declared.state.Dictionary.{Dictionary}
 use Rattle.node.specs.declared.watched.WatchedNode.{WatchedNode}
 use Rattle.node.specs.Watched.{latest, inTime, allOf, wellFormed, heardNow}
-use Rattle.node.specs.Plain.{Plain, Answer, tickAnswer, Step}
-use Rattle.node.specs.Steps.{Test, must, tried, plainOf, withNmt, withDll, withErrors, withSoc, declines, socWatch, cycleOf, toleranceOf, limitOf}
+use Rattle.node.specs.Plain.{Plain, tickAnswer, Step}
+use Rattle.node.specs.Steps.{Test, must, tried, plainOf, withNmt, withDll, withErrors, withSoc, declines, cycleOf, toleranceOf, limitOf}
+use Rattle.head.specs.Head.{socWatch}
 
 -- What a tick has come to: the head, what was logged, what is counted of it, and whether it has ended.
 pub record Ticked : Type 0 where

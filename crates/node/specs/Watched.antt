@@ -9,7 +9,6 @@ use Rattle.types.specs.Pick.{pick, both, either}
 use Rattle.types.specs.Types.{isNode}
 use Rattle.entries.specs.Ring.{listed}
 use Rattle.node.specs.declared.watched.WatchedNode.{WatchedNode}
-use Rattle.node.specs.declared.watched.WatchedNodes.{WatchedNodes}
 
 -- "a time is above 2^62 − 1"
 abbrev pub latest : ℕ
@@ -72,15 +71,9 @@ noNode = watchedNode 0 0 0
 abbrev pub watchedOf : List WatchedNode → ℕ → List WatchedNode
 watchedOf ns k = listed (λ i. getD ns i noNode) k
 
-abbrev pub watchedList : WatchedNodes → List WatchedNode
-watchedList w = watchedOf (w .nodes) (w .count)
-
 -- the array itself: a node's time set among the first so many, all times of those set to 0; the nodes behind are kept
 abbrev pub heardFirst : ℕ → ℕ → ℕ → List WatchedNode → List WatchedNode
 heardFirst n t k ns = heardAt n t (take k ns) ++ drop k ns
 
 abbrev pub unheardFirst : ℕ → List WatchedNode → List WatchedNode
 unheardFirst k ns = unheard (take k ns) ++ drop k ns
-
-abbrev pub withNodes : WatchedNodes → List WatchedNode → WatchedNodes
-withNodes w ns = record { nodes = ns; count = w .count }

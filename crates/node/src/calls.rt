@@ -1,19 +1,43 @@
-// The calls on a head, but for start, load and the tick. A call that is declined answers its number and nothing else, and
-// whoever made it still has the head; nothing is written before the last test is passed.
+// The calls on a head in words, but for start, load and the tick. Nothing is written before the last test is passed.
 ghost use mathlib.Core.Path.{_≡_};
+ghost use mathlib.Core.Bool.{true, false};
 ghost use mathlib.Core.List.{List, []};
 ghost use Prim.Native.Nat.{ℕ};
-ghost use Rattle.node.specs.Watched.{watchedList};
-ghost use Rattle.node.specs.Plain.{Call};
-ghost use Rattle.node.specs.Refines.{Refines, SamePlaces, headLeft, nmtLeft, dllLeft, errorLeft, cycleLeft, handOutLeft, heardLeft, heardNodes};
-ghost use Rattle.entries.specs.Queue.{handedOut};
-use crate::state::Head;
-use crate::state::in_time;
-use crate::watched::WatchedNodes;
-use crate::watched::heard_at;
-use crate::watched::place_of;
-use crate::watched::well_formed;
+ghost use Rattle.types.specs.Events.{readEvent};
+ghost use Rattle.types.specs.CsEvents.{readCsEvent};
+ghost use Rattle.types.specs.Errors.{readError};
+ghost use Rattle.counters.specs.Counters.{afterError, counts, effect, handled};
+ghost use Rattle.node.specs.Plain.{Call, cycleAnswer, handOutAnswer};
+ghost use Rattle.node.specs.Refines.{Refines, left};
+ghost use Rattle.head.specs.Places as at;
+ghost use Rattle.head.specs.Words.{counterAt, errorsOf, headOf};
+ghost use Rattle.node.specs.InPlace.{InPlace, said, nmtSaid, dllSaid, errorSaid, replied, effectWords, withdrawWords, nmtWords, dllWords, errorWords, cycleWords, armWords, handOutWords};
+use crate::timing::armed;
+use crate::timing::in_time;
+use counters::counters::CounterKind;
+use counters::counters::ErrorEffect;
+use counters::counters::effect_of;
+use counters::counters::saturating_add;
 use entries::status_response::FoundEntry;
+use head::parts::counter_of;
+use head::parts::dll_of;
+use head::parts::errors_of;
+use head::parts::links_of;
+use head::parts::nmt_of;
+use head::parts::od_of;
+use head::parts::queue_of;
+use head::parts::set_counter;
+use head::parts::set_dll;
+use head::parts::set_levels;
+use head::parts::set_links;
+use head::parts::set_nmt;
+use head::parts::set_queue;
+use head::parts::set_ready;
+use head::parts::set_soc;
+use head::parts::soc_of;
+use head::parts::state_at;
+use head::parts::whole;
+use head::state::Head;
 use nmt::state_machine::ResetSequence;
 use types::frame::cs_state_machine::DllCsEvent;
 use types::frame::cs_state_machine::DllCsEventRead;
@@ -26,14 +50,13 @@ use types::nmt::events::NmtEventRead;
 use types::nmt::states::NmtState;
 use types::refusals::Refusal;
 
-// The head after a call, or why it was declined.
-pub enum HeadAnswer {
-    Taken(Head),
+// What a call answers: the head stands in the words.
+pub enum CallAnswer {
+    Taken,
     Refused(Refusal),
 }
 
 pub struct NmtTaken {
-    pub head: Head,
     pub errors: DllErrors,
     pub reset: ResetSequence,
 }
@@ -43,18 +66,12 @@ pub enum NmtEventAnswer {
     Refused(Refusal),
 }
 
-pub struct DllTaken {
-    pub head: Head,
-    pub errors: DllErrors,
-}
-
 pub enum DllEventAnswer {
-    Taken(DllTaken),
+    Taken(DllErrors),
     Refused(Refusal),
 }
 
 pub struct ErrorTaken {
-    pub head: Head,
     pub action: NmtAction,
     pub signal: bool,
     pub logged: DllErrors,
@@ -65,44 +82,36 @@ pub enum ErrorAnswer {
     Refused(Refusal),
 }
 
-pub struct CycleTaken {
-    pub head: Head,
-    pub cleared: bool,
-}
-
-pub struct HandOutTaken {
-    pub head: Head,
-    pub entry: FoundEntry,
-}
-
-pub enum HeardAnswer {
-    Taken,
-    Refused(Refusal),
-}
-
-// What heard answers, and the watched nodes as it leaves them.
-pub struct HeardWatched {
-    pub answer: HeardAnswer,
-    pub watched: WatchedNodes,
+// The application takes its ready word back.
+pub fn withdraw(head: &mut Head) -> CallAnswer
+    ensures { λ r. ⌜ InPlace (now (head .entry)) Call.withdraw (said r) (now (head .exit)) (withdrawWords (now (head .entry))) ⌝ }
+{
+    whole(head);
+    let state = state_at(head);
+    match state {
+        NmtState::NmtReadyToOperate => {
+            return CallAnswer::Refused(Refusal::ReadyToOperate);
+        }
+        _ => {
+            set_ready(head, false);
+            return CallAnswer::Taken;
+        }
+    }
 }
 
 // An NMT event, by its number.
-pub fn nmt_event(mut head: Head, event: u64) -> NmtEventAnswer
-    ensures { λ r. ⌜ ((q m : List ℕ) → Refines head q m (Call.nmtEvent event) (nmtLeft head r) q m []) × SamePlaces head (nmtLeft head r .head) ⌝ }
+pub fn nmt_event(head: &mut Head, event: u64) -> NmtEventAnswer
+    ensures { λ r. ⌜ InPlace (now (head .entry)) (Call.nmtEvent event) (nmtSaid r) (now (head .exit)) (nmtWords (now (head .entry)) (readEvent event)) ⌝ }
 {
+    whole(head);
     match NmtEvent::try_from(event) {
         NmtEventRead::Taken(event) => {
-            let machine = head.nmt;
-            let answer = machine.process_event(event);
-            let nmt = answer.machine;
+            let answer = nmt_of(head).process_event(event);
+            let machine = answer.machine;
             let errors = answer.errors;
             let reset = answer.reset;
-            head.nmt = nmt;
-            return NmtEventAnswer::Taken(NmtTaken {
-                head,
-                errors,
-                reset,
-            });
+            set_nmt(head, machine);
+            return NmtEventAnswer::Taken(NmtTaken { errors, reset });
         }
         NmtEventRead::Refused(refusal) => {
             return NmtEventAnswer::Refused(refusal);
@@ -111,19 +120,17 @@ pub fn nmt_event(mut head: Head, event: u64) -> NmtEventAnswer
 }
 
 // A DLL event, by its number, in the head's own NMT state.
-pub fn dll_event(mut head: Head, event: u64, expect_preq: bool) -> DllEventAnswer
-    ensures { λ r. ⌜ ((q m : List ℕ) → Refines head q m (Call.dllEvent event «expect_preq») (dllLeft head r) q m []) × SamePlaces head (dllLeft head r .head) ⌝ }
+pub fn dll_event(head: &mut Head, event: u64, expect_preq: bool) -> DllEventAnswer
+    ensures { λ r. ⌜ InPlace (now (head .entry)) (Call.dllEvent event «expect_preq») (dllSaid r) (now (head .exit)) (dllWords (now (head .entry)) «expect_preq» (readCsEvent event)) ⌝ }
 {
+    whole(head);
     match DllCsEvent::try_from(event) {
         DllCsEventRead::Taken(event) => {
-            let machine = head.dll;
-            let nmt = head.nmt;
-            let state = nmt.current_state;
-            let answer = machine.process_event(event, state, expect_preq);
-            let dll = answer.machine;
+            let answer = dll_of(head).process_event(event, state_at(head), expect_preq);
+            let machine = answer.machine;
             let errors = answer.errors;
-            head.dll = dll;
-            return DllEventAnswer::Taken(DllTaken { head, errors });
+            set_dll(head, machine);
+            return DllEventAnswer::Taken(errors);
         }
         DllCsEventRead::Refused(refusal) => {
             return DllEventAnswer::Refused(refusal);
@@ -131,25 +138,70 @@ pub fn dll_event(mut head: Head, event: u64, expect_preq: bool) -> DllEventAnswe
     }
 }
 
-// One error to the counters, by its kind; a is its node, or a and b are its state and event.
-pub fn handle_error(mut head: Head, kind: u64, a: u8, b: u8) -> ErrorAnswer
-    ensures { λ r. ⌜ ((q m : List ℕ) → Refines head q m (Call.error kind a b) (errorLeft head r) q m []) × SamePlaces head (errorLeft head r .head) ⌝ }
+// Whether an error that counts for a kind crosses: of the counters, only that kind's is read and written.
+fn count(head: &mut Head, kind: CounterKind) -> bool
+    ensures { λ r. ⌜ (r ≡ afterError (counterAt (now (head .entry)) (at.counter kind)) .reached) × (now (head .exit) ≡ effectWords (now (head .entry)) (counts kind)) ⌝ }
 {
+    let check = counter_of(head, kind).increment().check_and_reset();
+    let counter = check.counter;
+    set_counter(head, kind, counter);
+    check.reached
+}
+
+// Nothing is asked for, signalled or logged.
+fn unsignalled() -> ErrorTaken
+    ensures { λ r. ⌜ r ≡ record { action = NmtAction.None; signal = false; logged = DllErrors.None } ⌝ }
+{
+    ErrorTaken {
+        action: NmtAction::None,
+        signal: false,
+        logged: DllErrors::None,
+    }
+}
+
+// The error is logged and signals.
+fn signalled(action: NmtAction, error: DllError) -> ErrorTaken
+    ensures { λ r. ⌜ r ≡ record { action = action; signal = true; logged = DllErrors.One error } ⌝ }
+{
+    ErrorTaken {
+        action,
+        signal: true,
+        logged: DllErrors::One(error),
+    }
+}
+
+// One error to the counters.
+pub fn handled(head: &mut Head, error: DllError) -> ErrorTaken
+    ensures { λ r. ⌜ (r ≡ replied (handled (errorsOf (now (head .entry))) error)) × (now (head .exit) ≡ effectWords (now (head .entry)) (effect error)) ⌝ }
+{
+    match effect_of(error) {
+        ErrorEffect::Counts(kind) => {
+            if count(head, kind) {
+                return signalled(NmtAction::ResetCommunication, error);
+            }
+            return unsignalled();
+        }
+        ErrorEffect::LosesLink => {
+            set_links(head, saturating_add(links_of(head), 1));
+            return signalled(NmtAction::None, error);
+        }
+        ErrorEffect::IsLogged => {
+            return signalled(NmtAction::None, error);
+        }
+        ErrorEffect::Nothing => {
+            return unsignalled();
+        }
+    }
+}
+
+// One error to the counters, by its kind; a is its node, or a and b are its state and event.
+pub fn handle_error(head: &mut Head, kind: u64, a: u8, b: u8) -> ErrorAnswer
+    ensures { λ r. ⌜ InPlace (now (head .entry)) (Call.error kind a b) (errorSaid r) (now (head .exit)) (errorWords (now (head .entry)) (readError kind a b)) ⌝ }
+{
+    whole(head);
     match DllError::try_from(kind, a, b) {
         DllErrorRead::Taken(error) => {
-            let counters = head.errors;
-            let handled = counters.handle_error(error);
-            let errors = handled.counters;
-            let action = handled.action;
-            let signal = handled.signal;
-            let logged = handled.logged;
-            head.errors = errors;
-            return ErrorAnswer::Taken(ErrorTaken {
-                head,
-                action,
-                signal,
-                logged,
-            });
+            return ErrorAnswer::Taken(handled(head, error));
         }
         DllErrorRead::Refused(refusal) => {
             return ErrorAnswer::Refused(refusal);
@@ -157,92 +209,39 @@ pub fn handle_error(mut head: Head, kind: u64, a: u8, b: u8) -> ErrorAnswer
     }
 }
 
-pub fn on_cycle_complete(mut head: Head) -> CycleTaken
-    ensures { λ r. ⌜ ((q m : List ℕ) → Refines head q m (Call.cycleComplete) (cycleLeft r) q m []) × SamePlaces head (cycleLeft r .head) ⌝ }
+// Whether the last level reached 0.
+pub fn on_cycle_complete(head: &mut Head) -> bool
+    ensures { λ r. ⌜ InPlace (now (head .entry)) Call.cycleComplete (cycleAnswer r) (now (head .exit)) (cycleWords (now (head .entry))) ⌝ }
 {
-    let counters = head.errors;
-    let completed = counters.on_cycle_complete();
+    whole(head);
+    let completed = errors_of(head).on_cycle_complete();
     let errors = completed.counters;
-    head.errors = errors;
-    CycleTaken {
-        head,
-        cleared: completed.cleared,
-    }
-}
-
-// The application takes its ready word back.
-pub fn withdraw(mut head: Head) -> HeadAnswer
-    ensures { λ r. ⌜ ((q m : List ℕ) → Refines head q m (Call.withdraw) (headLeft head r) q m []) × SamePlaces head (headLeft head r .head) ⌝ }
-{
-    let mut nmt = head.nmt;
-    let state = nmt.current_state;
-    match state {
-        NmtState::NmtReadyToOperate => {
-            return HeadAnswer::Refused(Refusal::ReadyToOperate);
-        }
-        _ => {
-            nmt.app_ready = false;
-            head.nmt = nmt;
-            return HeadAnswer::Taken(head);
-        }
-    }
-}
-
-// A watched node was heard.
-pub fn heard(watched: WatchedNodes, node: u8, time: u64) -> HeardWatched
-    ensures { λ r. ⌜ ((h : Head) (q m : List ℕ) → Refines h q m (Call.heard node time (watchedList «watched»)) (heardLeft h (r .answer)) q m (watchedList (r .watched))) × (r .watched ≡ heardNodes (r .answer) node time «watched») ⌝ }
-{
-    let count = watched.count;
-    let nodes = watched.nodes;
-    if !well_formed(nodes, count) {
-        return HeardWatched {
-            answer: HeardAnswer::Refused(Refusal::WatchedNodes),
-            watched,
-        };
-    }
-    if !in_time(time) {
-        return HeardWatched {
-            answer: HeardAnswer::Refused(Refusal::TimeLimit),
-            watched,
-        };
-    }
-    let place = place_of(nodes, count, node);
-    if place < count {
-        let nodes = heard_at(nodes, place, time);
-        return HeardWatched {
-            answer: HeardAnswer::Taken,
-            watched: WatchedNodes { nodes, count },
-        };
-    }
-    HeardWatched {
-        answer: HeardAnswer::Refused(Refusal::NotWatched),
-        watched,
-    }
-}
-
-// The oldest entry leaves the queue; of an empty one, none does.
-pub fn hand_out(mut head: Head, memory: &[u8; 640]) -> HandOutTaken
-    ensures { λ r. ⌜ ((m : List ℕ) → Refines head (now (memory .entry)) m Call.handOut (handOutLeft r) (now (memory .entry)) m [])
-        × (r .head .queue ≡ handedOut (now (memory .entry)) (head .queue) .queue) × (r .head .history ≡ head .history) ⌝ }
-{
-    let queue = head.queue;
-    let handed = queue.hand_out(memory);
-    let queue = handed.queue;
-    let entry = handed.entry;
-    head.queue = queue;
-    HandOutTaken { head, entry }
+    set_levels(head, errors);
+    completed.cleared
 }
 
 // An SoC was received at a time: the check goes on where there is a cycle, with a deadline.
-pub fn arm(mut head: Head, time: u64) -> HeadAnswer
-    ensures { λ r. ⌜ ((q m : List ℕ) → Refines head q m (Call.arm time) (headLeft head r) q m []) × SamePlaces head (headLeft head r .head) ⌝ }
+pub fn arm(head: &mut Head, time: u64) -> CallAnswer
+    ensures { λ r. ⌜ InPlace (now (head .entry)) (Call.arm time) (said r) (now (head .exit)) (armWords (now (head .entry)) time) ⌝ }
 {
+    whole(head);
     if !in_time(time) {
-        return HeadAnswer::Refused(Refusal::TimeLimit);
+        return CallAnswer::Refused(Refusal::TimeLimit);
     }
-    let old = head.soc;
-    let od = head.od;
-    let soc = old.armed(od, time);
-    head.soc = soc;
-    HeadAnswer::Taken(head)
+    let soc = armed(soc_of(head), od_of(head), time);
+    set_soc(head, soc);
+    CallAnswer::Taken
+}
+
+// The oldest entry leaves the queue; of an empty one, none does.
+pub fn hand_out(head: &mut Head, memory: &[u8; 640]) -> FoundEntry
+    ensures { λ r. ⌜ ((m : List ℕ) → Refines (headOf (now (head .entry))) (now (memory .entry)) m Call.handOut (left (headOf (now (head .exit))) (handOutAnswer r)) (now (memory .entry)) m [])
+        × (now (head .exit) ≡ handOutWords (now (head .entry)) (now (memory .entry))) ⌝ }
+{
+    whole(head);
+    let handed = queue_of(head).hand_out(memory);
+    let queue = handed.queue;
+    let entry = handed.entry;
+    set_queue(head, queue);
+    entry
 }

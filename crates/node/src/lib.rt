@@ -1,7 +1,8 @@
-// The head: what a controlled node keeps (node/cn/state.rs), and the calls on it but for the tick. A head is a small value; the
-// bytes of its emergency queue and of its error history are lent, and the watched nodes stand beside it.
+// The calls on a head, but for the tick (crate `tick`), and in specs/ the plain head, which is document 01 in definitions. The head lies in words
+// that its owner lends, the watched nodes in others, the entries of its queue and its history in bytes; a call writes what it is
+// about and nothing else, and one that is declined writes nothing.
 pub mod calls;
 pub mod load;
 pub mod start;
-pub mod state;
+pub mod timing;
 pub mod watched;

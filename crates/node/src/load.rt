@@ -1,14 +1,21 @@
-// Load: the dictionary values that a load names, and the history.
+// Load: the words of the dictionary values that a load names, and the history.
 ghost use mathlib.Core.Path.{_≡_};
-ghost use mathlib.Core.List.{List, []};
-ghost use Prim.Native.Nat.{ℕ};
-ghost use Rattle.node.specs.Plain.{Call};
-ghost use Rattle.node.specs.Steps.{updatedByte, updatedCounter, updatedObject, updated};
-ghost use Rattle.node.specs.Refines.{Refines, loadLeft, historyUpdate, loadedPlaces, loadedMemory};
-use crate::state::Dictionary;
-use crate::state::Head;
-use crate::state::ObjectValue;
+ghost use Rattle.node.specs.Steps.{updated};
+ghost use Rattle.head.specs.Places as at;
+ghost use Rattle.head.specs.Words.{odOf, headOf};
+ghost use Rattle.node.specs.Loaded.{byteLoaded, counterLoaded, objectLoaded, ByteFits, valuesLoaded, LoadedIn};
+ghost use Rattle.head.specs.Head.{with-od};
 use entries::error_history::ErrorHistory;
+use head::parts::byte;
+use head::parts::set_history;
+use head::parts::set_object;
+use head::parts::set_register;
+use head::parts::set_statistic;
+use head::parts::whole;
+use head::state::Head;
+use head::state::Object;
+use head::state::ObjectValue;
+use head::state::Statistic;
 
 // A value that a load sets, or that it leaves.
 pub enum ByteUpdate {
@@ -36,78 +43,87 @@ pub struct DictionaryUpdate {
     pub counter_5: CounterUpdate,
 }
 
-fn updated_byte(old: u8, update: ByteUpdate) -> u8
-    ensures { λ r. ⌜ r ≡ updatedByte old update ⌝ }
+fn load_register(head: &mut Head, update: ByteUpdate)
+    ensures { λ _. ⌜ (now (head .exit) ≡ byteLoaded (now (head .entry)) at.register update) × ByteFits update ⌝ }
 {
     match update {
-        ByteUpdate::Set(n) => n,
-        ByteUpdate::Keep => old,
+        ByteUpdate::Set(n) => {
+            let n = byte(n);
+            set_register(head, n);
+            return;
+        }
+        ByteUpdate::Keep => {
+            return;
+        }
     }
 }
 
-fn updated_counter(old: u32, update: CounterUpdate) -> u32
-    ensures { λ r. ⌜ r ≡ updatedCounter old update ⌝ }
+fn load_object(head: &mut Head, object: Object, update: ObjectUpdate)
+    ensures { λ _. ⌜ now (head .exit) ≡ objectLoaded (now (head .entry)) (at.object object) update ⌝ }
 {
     match update {
-        CounterUpdate::Set(n) => n,
-        CounterUpdate::Keep => old,
+        ObjectUpdate::Set(value) => {
+            set_object(head, object, value);
+            return;
+        }
+        ObjectUpdate::Keep => {
+            return;
+        }
     }
 }
 
-fn updated_object(old: ObjectValue, update: ObjectUpdate) -> ObjectValue
-    ensures { λ r. ⌜ r ≡ updatedObject old update ⌝ }
+fn load_statistic(head: &mut Head, statistic: Statistic, update: CounterUpdate)
+    ensures { λ _. ⌜ now (head .exit) ≡ counterLoaded (now (head .entry)) (at.statistic statistic) update ⌝ }
 {
     match update {
-        ObjectUpdate::Set(value) => value,
-        ObjectUpdate::Keep => old,
+        CounterUpdate::Set(n) => {
+            set_statistic(head, statistic, n);
+            return;
+        }
+        CounterUpdate::Keep => {
+            return;
+        }
     }
 }
 
-fn updated(od: Dictionary, values: DictionaryUpdate) -> Dictionary
-    ensures { λ r. ⌜ r ≡ updated od values ⌝ }
+// The words of the values that are named, and no others.
+fn load_values(head: &mut Head, values: DictionaryUpdate)
+    ensures { λ _. ⌜ (headOf (now (head .exit)) ≡ with-od (headOf (now (head .entry))) (updated (odOf (now (head .entry))) values))
+        × (now (head .exit) ≡ valuesLoaded (now (head .entry)) values) ⌝ }
 {
     let register = values.error_register;
     let cycle = values.cycle_time;
-    let old_cycle = od.cycle_time;
     let tolerance = values.tolerance;
-    let old_tolerance = od.tolerance;
     let c1 = values.counter_1;
     let c2 = values.counter_2;
     let c3 = values.counter_3;
     let c5 = values.counter_5;
-    Dictionary {
-        error_register: updated_byte(od.error_register, register),
-        cycle_time: updated_object(old_cycle, cycle),
-        tolerance: updated_object(old_tolerance, tolerance),
-        counter_1: updated_counter(od.counter_1, c1),
-        counter_2: updated_counter(od.counter_2, c2),
-        counter_3: updated_counter(od.counter_3, c3),
-        counter_5: updated_counter(od.counter_5, c5),
-    }
+    whole(head);
+    load_register(head, register);
+    load_object(head, Object::CycleTime, cycle);
+    load_object(head, Object::Tolerance, tolerance);
+    load_statistic(head, Statistic::Counter1, c1);
+    load_statistic(head, Statistic::Counter2, c2);
+    load_statistic(head, Statistic::Counter3, c3);
+    load_statistic(head, Statistic::Counter5, c5);
 }
 
-// Sets the values that are named and, where `with_history` says so, the history from the bytes of its entries, newest
-// first: the newest 254 whole entries are taken.
+// Sets the values that are named and, where `with_history` says so, the history from the bytes of its entries, newest first: the newest 254
+// whole entries are taken.
 pub fn load(
-    head: Head,
+    head: &mut Head,
     memory: &mut [u8; 5080],
     values: DictionaryUpdate,
     with_history: bool,
     entries: &[u8],
-) -> Head
-    ensures { λ r. ⌜ ((q : List ℕ) → Refines head q (now (memory .entry)) (Call.load values (historyUpdate «with_history» (now (entries .entry)))) (loadLeft r) q (now (memory .exit)) [])
-        × (r .queue ≡ head .queue) × (r .history ≡ loadedPlaces «with_history» (now (entries .entry)) (head .history))
-        × (now (memory .exit) ≡ loadedMemory «with_history» (now (memory .entry)) (now (entries .entry))) ⌝ }
+)
+    ensures { λ _. ⌜ LoadedIn (now (head .entry)) (now (memory .entry)) values «with_history» (now (entries .entry)) (now (head .exit)) (now (memory .exit)) ⌝ }
 {
-    let old = head.od;
-    let od = updated(old, values);
+    load_values(head, values);
     if with_history {
+        whole(head);
         let history = ErrorHistory::load(memory, entries);
-        return Head {
-            od,
-            history,
-            ..head
-        };
+        set_history(head, history);
+        return;
     }
-    Head { od, ..head }
 }

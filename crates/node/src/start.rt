@@ -1,103 +1,103 @@
-// Start: a fresh head with its dictionary values.
+// Start: every word of a fresh head, from the arguments.
 ghost use mathlib.Core.Path.{_≡_};
-ghost use mathlib.Core.List.{List};
-ghost use Prim.Native.Nat.{ℕ};
-ghost use Rattle.node.specs.Watched.{watchedList};
-ghost use Rattle.node.specs.Refines.{Begins, FreshPlaces, startOf, freshHead, startedNodes};
-use crate::calls::HeadAnswer;
-use crate::state::Deadline;
-use crate::state::Dictionary;
-use crate::state::Head;
-use crate::state::SocWatch;
-use crate::watched::WatchedNodes;
-use crate::watched::unheard;
+ghost use Prim.Native.Nat.{_≤_};
+ghost use Rattle.node.specs.Watched.{unheardFirst};
+ghost use Rattle.node.specs.Refines.{freshHead};
+ghost use Rattle.head.specs.Words.{headOf};
+ghost use Rattle.node.specs.Nodes.{nodesOf};
+ghost use Rattle.node.specs.Started.{freshWords, unheardWords, StartedIn};
+use crate::calls::CallAnswer;
+use crate::watched::NodeWords;
+use crate::watched::all_places;
 use crate::watched::well_formed;
 use counters::counters::CnErrorCounters;
-use dll::cs_state_machine::DllCsStateMachine;
-use entries::emergency_queue::EmergencyQueue;
-use entries::error_history::ErrorHistory;
+use head::parts::byte;
+use head::parts::clear;
+use head::parts::set_capacity;
+use head::parts::set_identity;
+use head::parts::set_nmt;
+use head::parts::set_od;
+use head::parts::set_thresholds;
+use head::state::Dictionary;
+use head::state::Head;
 use nmt::cn_state_machine::CnNmtStateMachine;
 use types::nmt::flags::FeatureFlags;
 use types::refusals::Refusal;
 use types::types::NodeId;
 use types::types::NodeIdRead;
 
-// The head or why it was declined, and the watched nodes as start leaves them.
-pub struct Started {
-    pub answer: HeadAnswer,
-    pub watched: WatchedNodes,
-}
-
+// The words of a fresh head: whatever stood there before is gone.
 fn fresh_head(
+    head: &mut Head,
     node_id: NodeId,
     feature_flags: FeatureFlags,
     basic_ethernet_timeout: u32,
     queue_capacity: u8,
     od: Dictionary,
-) -> Head
-    ensures { λ r. ⌜ r ≡ freshHead «node_id» «feature_flags» «basic_ethernet_timeout» «queue_capacity» od ⌝ }
+)
+    ensures { λ _. ⌜ (headOf (now (head .exit)) ≡ freshHead «node_id» «feature_flags» «basic_ethernet_timeout» «queue_capacity» od)
+        × (now (head .exit) ≡ freshWords «node_id» «feature_flags» «basic_ethernet_timeout» «queue_capacity» od) ⌝ }
 {
+    let number = byte(node_id.0);
+    let register = byte(od.error_register);
     let nmt = CnNmtStateMachine::new(node_id, feature_flags, basic_ethernet_timeout);
-    let dll = DllCsStateMachine::new();
     let errors = CnErrorCounters::new();
-    let soc = SocWatch {
-        last_soc_reception_time_us: 0,
-        soc_timeout_check_active: false,
-        next_tick_us: Deadline::Nothing,
-        error_status_changed: false,
-    };
-    let queue = EmergencyQueue::new(queue_capacity);
-    let history = ErrorHistory::new();
-    Head {
-        nmt,
-        dll,
-        errors,
-        soc,
-        od,
-        queue,
-        history,
+    clear(head);
+    set_nmt(head, nmt);
+    set_identity(head, nmt);
+    set_thresholds(head, errors);
+    set_od(head, od);
+    set_capacity(head, queue_capacity);
+}
+
+// No watched node was heard yet.
+fn unheard(nodes: &mut NodeWords, count: usize)
+    requires { ⌜ count ≤ 32 ⌝ }
+    ensures { λ _. ⌜ (now (nodes .exit) ≡ unheardWords count (now (nodes .entry))) × (nodesOf (now (nodes .exit)) ≡ unheardFirst count (nodesOf (now (nodes .entry)))) ⌝ }
+{
+    all_places(nodes);
+    let mut i: usize = 0;
+    while i < count {
+        nodes[3 * i + 2] = 0;
+        i += 1;
     }
 }
 
 // A fresh head, with an empty queue and an empty history; no watched node was heard yet.
 pub fn start(
+    head: &mut Head,
+    nodes: &mut NodeWords,
+    count: usize,
     node: u8,
     feature_flags: FeatureFlags,
     basic_ethernet_timeout: u32,
     queue_capacity: u64,
     od: Dictionary,
-    watched: WatchedNodes,
-) -> Started
-    ensures { λ r. ⌜ Begins (startOf node «feature_flags» «basic_ethernet_timeout» «queue_capacity» od (watchedList watched)) (r .answer) (watchedList (r .watched))
-        × FreshPlaces (r .answer) «queue_capacity» × (r .watched ≡ startedNodes (r .answer) watched) ⌝ }
+) -> CallAnswer
+    ensures { λ r. ⌜ StartedIn (now (head .entry)) (now (nodes .entry)) count node «feature_flags» «basic_ethernet_timeout» «queue_capacity» od r (now (head .exit)) (now (nodes .exit)) ⌝ }
 {
     match NodeId::try_from(node) {
         NodeIdRead::Taken(node_id) => {
             if 32 < queue_capacity {
-                return declined(Refusal::QueueCapacity, watched);
+                return CallAnswer::Refused(Refusal::QueueCapacity);
             }
-            let count = watched.count;
-            let nodes = watched.nodes;
             if !well_formed(nodes, count) {
-                return declined(Refusal::WatchedNodes, watched);
+                return CallAnswer::Refused(Refusal::WatchedNodes);
             }
             let capacity = queue_capacity as u8;
-            let head = fresh_head(node_id, feature_flags, basic_ethernet_timeout, capacity, od);
-            let nodes = unheard(nodes, count);
-            Started {
-                answer: HeadAnswer::Taken(head),
-                watched: WatchedNodes { nodes, count },
-            }
+            fresh_head(
+                head,
+                node_id,
+                feature_flags,
+                basic_ethernet_timeout,
+                capacity,
+                od,
+            );
+            unheard(nodes, count);
+            return CallAnswer::Taken;
         }
-        NodeIdRead::Refused(refusal) => declined(refusal, watched),
-    }
-}
-
-fn declined(refusal: Refusal, watched: WatchedNodes) -> Started
-    ensures { λ r. ⌜ r ≡ record { answer = HeadAnswer.Refused refusal; watched = watched } ⌝ }
-{
-    Started {
-        answer: HeadAnswer::Refused(refusal),
-        watched,
+        NodeIdRead::Refused(refusal) => {
+            return CallAnswer::Refused(refusal);
+        }
     }
 }

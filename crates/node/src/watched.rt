@@ -1,14 +1,20 @@
-// The watched nodes (CnContext's heartbeat consumers): at most 32, ascending, each with its timeout and when it was last
-// heard.
+// The watched nodes in lent words, three a node: its number, its timeout, when it was last heard. 32 places, of which the first so many are
+// watched.
 ghost use mathlib.Core.Path.{_≡_};
-ghost use mathlib.Core.List.{List};
-ghost use Prim.Native.Nat.{ℕ, _≤_, _<_};
-ghost use Rattle.node.specs.Watched.{fits, wellFormed, watchedOf, placeOf, noNode, heardNow, unheardFirst};
-ghost use lib.ListN.{length, getD, set};
-use crate::state::in_time;
-use types::types::NodeId;
-use types::types::NodeIdRead;
+ghost use Prim.Native.Nat.{_+_, _*_, _<_, _≤_};
+ghost use lib.Dec.{ltb};
+ghost use lib.ListN.{length, set, take, drop};
+ghost use Rattle.types.specs.Pick.{both};
+ghost use Rattle.types.specs.Types.{isNode};
+ghost use Rattle.node.specs.Watched.{fits, wellFormed, watchedNode, watchedOf};
+ghost use Rattle.node.specs.Nodes.{rising, rests, foundOf, seenOf, nodesOf, Heard};
+use crate::calls::CallAnswer;
+use crate::timing::in_time;
+use types::refusals::Refusal;
 
+pub type NodeWords = [u64; 96];
+
+// What three words of a node stand for.
 pub struct WatchedNode {
     pub node: u8,
     // In microseconds; 0 never fires.
@@ -17,89 +23,186 @@ pub struct WatchedNode {
     pub last_heard: u64,
 }
 
-// The first `count` nodes of the array are watched.
-pub struct WatchedNodes {
-    pub nodes: [WatchedNode; 32],
-    pub count: usize,
-}
+// Lent as a slice, the words say how many they are.
+fn counted(words: &[u64])
+    requires { ⌜ length (now words) ≡ 96 ⌝ }
+    ensures { λ _. ⌜ length (now (words .entry)) ≡ 96 ⌝ }
+{}
 
-impl WatchedNode {
-    // Its number and its two times are within their limits.
-    fn fits(self) -> bool
-        ensures { λ r. ⌜ r ≡ fits self ⌝ }
-    {
-        match NodeId::try_from(self.node) {
-            NodeIdRead::Taken(_) => {
-                if in_time(self.timeout) {
-                    return in_time(self.last_heard);
-                }
-                false
-            }
-            NodeIdRead::Refused(_) => false,
-        }
-    }
-}
-
-// Whether the first nodes of the array are few enough, ascending, and each within its limits.
-pub fn well_formed(nodes: [WatchedNode; 32], count: usize) -> bool
-    ensures { λ r. ⌜ (r ≡ wellFormed (watchedOf nodes count)) × (length nodes ≡ 32) ⌝ }
+// What the proof of a caller that writes needs: 32 places have 96 words. No instruction is made of it.
+pub fn all_places(nodes: &NodeWords)
+    ensures { λ _. ⌜ length (now (nodes .entry)) ≡ 96 ⌝ }
 {
-    if 32 < count {
+    counted(nodes);
+}
+
+fn is_node(n: u64) -> bool
+    ensures { λ r. ⌜ r ≡ isNode n ⌝ }
+{
+    if n < 1 {
         return false;
     }
-    let mut last: u8 = 0;
-    let mut i: usize = 0;
+    if n <= 240 {
+        return true;
+    }
+    if n < 253 {
+        return false;
+    }
+    n <= 255
+}
+
+// Above the number before it, and within its limits.
+fn follows(last: u64, node: u64, timeout: u64, last_heard: u64) -> bool
+    ensures { λ r. ⌜ r ≡ both (ltb last node) (fits (watchedNode node timeout «last_heard»)) ⌝ }
+{
+    if node <= last {
+        return false;
+    }
+    if !is_node(node) {
+        return false;
+    }
+    if !in_time(timeout) {
+        return false;
+    }
+    in_time(last_heard)
+}
+
+// The nodes from a place on, where `last` is the number before them: ascending, and each within its limits.
+fn formed_from(nodes: &NodeWords, count: usize, place: usize, last: u64) -> bool
+    requires { ⌜ count ≤ 32 ⌝ }
+    ensures { λ r. ⌜ r ≡ rising last (drop place (take count (nodesOf (now (nodes .entry))))) ⌝ }
+{
+    let mut above = last;
+    let mut i = place;
     while i < count {
-        let w = nodes[i];
-        if w.node <= last {
+        let at = 3 * i;
+        let number = nodes[at];
+        if !follows(above, number, nodes[at + 1], nodes[at + 2]) {
             return false;
         }
-        if !w.fits() {
-            return false;
-        }
-        last = w.node;
+        above = number;
         i += 1;
     }
     true
 }
 
-// The place of a node among the first nodes, or their number where it is not watched.
-pub(crate) fn place_of(nodes: [WatchedNode; 32], count: usize, node: u8) -> usize
-    requires { ⌜ count ≤ 32 ⌝ }
-    ensures { λ r. ⌜ r ≡ placeOf node (watchedOf nodes count) ⌝ }
+// Whether the first nodes are few enough, ascending, and each within its limits.
+pub fn well_formed(nodes: &NodeWords, count: usize) -> bool
+    ensures { λ r. ⌜ r ≡ wellFormed (watchedOf (nodesOf (now (nodes .entry))) count) ⌝ }
 {
+    if 32 < count {
+        return false;
+    }
+    formed_from(nodes, count, 0, 0)
+}
+
+// The place of a node among well formed ones; their number where it is not watched.
+pub enum Found {
+    Unformed,
+    Formed(usize),
+}
+
+// Each node is read once: up to the one sought here, from there on by formed_from.
+fn find(nodes: &NodeWords, count: usize, node: u64) -> Found
+    ensures { λ r. ⌜ r ≡ foundOf node (watchedOf (nodesOf (now (nodes .entry))) count) ⌝ }
+{
+    if 32 < count {
+        return Found::Unformed;
+    }
+    let mut last: u64 = 0;
     let mut i: usize = 0;
     while i < count {
-        if nodes[i].node == node {
-            return i;
+        let at = 3 * i;
+        let number = nodes[at];
+        if number == node {
+            if formed_from(nodes, count, i, last) {
+                return Found::Formed(i);
+            }
+            return Found::Unformed;
         }
+        if !follows(last, number, nodes[at + 1], nodes[at + 2]) {
+            return Found::Unformed;
+        }
+        last = number;
         i += 1;
     }
-    count
+    Found::Formed(count)
 }
 
-// The nodes with the time of the one at a place set.
-pub(crate) fn heard_at(mut nodes: [WatchedNode; 32], place: usize, time: u64) -> [WatchedNode; 32]
-    requires { ⌜ place < 32 ⌝ }
-    ensures { λ r. ⌜ r ≡ set nodes place (heardNow time (getD nodes place noNode)) ⌝ }
+// A node that was heard, not after now, and is not late.
+fn rests(timeout: u64, last_heard: u64, time: u64) -> bool
+    ensures { λ r. ⌜ r ≡ rests time (watchedNode 0 timeout «last_heard») ⌝ }
 {
-    let mut w = nodes[place];
-    w.last_heard = time;
-    nodes[place] = w;
-    nodes
+    if last_heard == 0 {
+        return false;
+    }
+    if timeout == 0 {
+        return true;
+    }
+    if time < last_heard {
+        return false;
+    }
+    time - last_heard <= timeout
 }
 
-// The nodes with the times of the first ones 0.
-pub(crate) fn unheard(mut nodes: [WatchedNode; 32], count: usize) -> [WatchedNode; 32]
-    requires { ⌜ count ≤ 32 ⌝ }
-    ensures { λ r. ⌜ r ≡ unheardFirst count nodes ⌝ }
+// Whether some of well formed nodes does not rest, so that a tick is to look at them.
+pub enum Seen {
+    Unformed,
+    Formed(bool),
+}
+
+// Each node is read once: up to one that does not rest here, from there on by formed_from.
+pub fn look(nodes: &NodeWords, count: usize, time: u64) -> Seen
+    ensures { λ r. ⌜ r ≡ seenOf time (watchedOf (nodesOf (now (nodes .entry))) count) ⌝ }
 {
+    if 32 < count {
+        return Seen::Unformed;
+    }
+    let mut last: u64 = 0;
     let mut i: usize = 0;
     while i < count {
-        let mut w = nodes[i];
-        w.last_heard = 0;
-        nodes[i] = w;
+        let at = 3 * i;
+        let number = nodes[at];
+        let timeout = nodes[at + 1];
+        let last_heard = nodes[at + 2];
+        if !rests(timeout, last_heard, time) {
+            if formed_from(nodes, count, i, last) {
+                return Seen::Formed(true);
+            }
+            return Seen::Unformed;
+        }
+        if !follows(last, number, timeout, last_heard) {
+            return Seen::Unformed;
+        }
+        last = number;
         i += 1;
     }
-    nodes
+    Seen::Formed(false)
+}
+
+// The time of the node at a place is set.
+fn set_heard(nodes: &mut NodeWords, place: usize, time: u64)
+    requires { ⌜ place < 32 ⌝ }
+    ensures { λ _. ⌜ now (nodes .exit) ≡ set (now (nodes .entry)) (3 * place + 2) time ⌝ }
+{
+    nodes[3 * place + 2] = time;
+}
+
+// A watched node was heard.
+pub fn heard(nodes: &mut NodeWords, count: usize, node: u8, time: u64) -> CallAnswer
+    ensures { λ r. ⌜ Heard (now (nodes .entry)) count node time r (now (nodes .exit)) ⌝ }
+{
+    all_places(nodes);
+    let found = find(nodes, count, node as u64);
+    let Found::Formed(place) = found else {
+        return CallAnswer::Refused(Refusal::WatchedNodes);
+    };
+    if !in_time(time) {
+        return CallAnswer::Refused(Refusal::TimeLimit);
+    }
+    if place < count {
+        set_heard(nodes, place, time);
+        return CallAnswer::Taken;
+    }
+    CallAnswer::Refused(Refusal::NotWatched)
 }

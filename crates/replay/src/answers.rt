@@ -1,15 +1,24 @@
-// The parts of answers: errors, states, ranges, entries.
+// What is printed of the answers of calls. Errors and entered states are large types, which cost the check for each statement
+// beside them: a function that has one does little, and most of the text stands elsewhere.
 use crate::print::Buffer;
+use crate::print::NOTHING;
 use crate::print::put;
 use crate::print::say;
 use crate::print::say_bytes;
 use crate::print::say_form;
 use crate::print::say_one;
-use entries::status_response::ErrorEntry;
 use entries::status_response::FoundEntry;
 use nmt::state_machine::EnteredStates;
 use nmt::state_machine::IndexRange;
+use nmt::state_machine::ResetSequence;
 use nmt::state_machine::RestoredRanges;
+use node::calls::CallAnswer;
+use node::calls::DllEventAnswer;
+use node::calls::ErrorAnswer;
+use node::calls::ErrorTaken;
+use node::calls::NmtEventAnswer;
+use node::calls::NmtTaken;
+use tick::tick::TickAnswer;
 use types::frame::error::types::DllError;
 use types::frame::error::types::DllErrors;
 use types::frame::error::types::NmtAction;
@@ -18,13 +27,6 @@ use types::nmt::events::NmtStateCommandRead;
 use types::nmt::states::NmtState;
 use types::nmt::states::NmtStateRead;
 use types::refusals::Refusal;
-
-// What an error carries beside its kind.
-enum Carried {
-    Nothing,
-    Node(u8),
-    StateAndEvent(u8, u8),
-}
 
 pub fn say_unreadable(out: &mut Buffer, line: u64) {
     say_one(out, b"(unreadable #)\n", line)
@@ -36,6 +38,14 @@ pub fn say_refused(out: &mut Buffer, refusal: Refusal) {
 
 pub fn say_taken(out: &mut Buffer) {
     say(out, b"(taken)\n")
+}
+
+// What a call led to that answers nothing else.
+pub fn say_answer(out: &mut Buffer, answer: CallAnswer) {
+    match answer {
+        CallAnswer::Taken => return say_taken(out),
+        CallAnswer::Refused(refusal) => return say_refused(out, refusal),
+    }
 }
 
 fn say_read(out: &mut Buffer, n: u8) {
@@ -58,57 +68,86 @@ pub fn say_command_read(out: &mut Buffer, n: u64) {
     }
 }
 
-fn carried_by(error: DllError) -> Carried {
+// What an error carries beside its kind: its node or its event.
+fn node_or_event(error: DllError) -> u64 {
     match error {
-        DllError::LossOfPres { node_id } => Carried::Node(node_id.0),
-        DllError::LossOfStatusRes { node_id } => Carried::Node(node_id.0),
-        DllError::LatePres { node_id } => Carried::Node(node_id.0),
-        DllError::UnexpectedEventInState { state, event } => Carried::StateAndEvent(state, event),
-        DllError::PdoMapVersion { node_id } => Carried::Node(node_id.0),
-        DllError::PdoPayloadShort { node_id } => Carried::Node(node_id.0),
-        DllError::HeartbeatTimeout { node_id } => Carried::Node(node_id.0),
-        _ => Carried::Nothing,
+        DllError::LossOfPres { node_id } => node_id.0 as u64,
+        DllError::LossOfStatusRes { node_id } => node_id.0 as u64,
+        DllError::LatePres { node_id } => node_id.0 as u64,
+        DllError::UnexpectedEventInState { event, .. } => event as u64,
+        DllError::PdoMapVersion { node_id } => node_id.0 as u64,
+        DllError::PdoPayloadShort { node_id } => node_id.0 as u64,
+        DllError::HeartbeatTimeout { node_id } => node_id.0 as u64,
+        _ => NOTHING,
+    }
+}
+
+// The state that an unexpected event met.
+fn state_met(error: DllError) -> u64 {
+    match error {
+        DllError::UnexpectedEventInState { state, .. } => state as u64,
+        _ => NOTHING,
     }
 }
 
 fn say_error(out: &mut Buffer, error: DllError) {
-    let kind = error.kind() as u64;
-    match carried_by(error) {
-        Carried::Nothing => say_one(out, b" (#)", kind),
-        Carried::Node(node) => say_form(out, b" (# #)", &[kind, node as u64]),
-        Carried::StateAndEvent(state, event) => {
-            say_form(out, b" (# % #)", &[kind, state as u64, event as u64])
-        }
-    }
+    say_form(
+        out,
+        b" (#^?)",
+        &[error.kind() as u64, state_met(error), node_or_event(error)],
+    )
 }
 
-// Each behind a space.
-fn say_errors(out: &mut Buffer, errors: DllErrors) {
-    match errors {
-        DllErrors::None => {}
-        DllErrors::One(a) => say_error(out, a),
-        DllErrors::Two(a, b) => {
-            say_error(out, a);
-            say_error(out, b)
-        }
-    }
-}
-
-// Errors, and the answer's end; `before` is what stands before them.
-fn say_with_errors(out: &mut Buffer, before: &[u8], errors: DllErrors) {
-    say(out, before);
-    say_errors(out, errors);
+// The end of an answer with something in it.
+fn say_end(out: &mut Buffer) {
     say(out, b"))\n")
 }
 
-// The errors that an event reports.
-pub fn say_reported(out: &mut Buffer, errors: DllErrors) {
-    say_with_errors(out, b"(taken (errors", errors)
+// The last error, and the answer's end.
+fn say_last_error(out: &mut Buffer, error: DllError) {
+    say_error(out, error);
+    say_end(out)
 }
 
-// What a tick logged.
-pub fn say_ticked(out: &mut Buffer, logged: DllErrors) {
-    say_with_errors(out, b"(taken (logged", logged)
+fn say_two_errors(out: &mut Buffer, a: DllError, b: DllError) {
+    say_error(out, a);
+    say_last_error(out, b)
+}
+
+// Errors, each behind a space, and the answer's end.
+fn say_errors(out: &mut Buffer, errors: DllErrors) {
+    match errors {
+        DllErrors::None => return say_end(out),
+        DllErrors::One(a) => return say_last_error(out, a),
+        DllErrors::Two(a, b) => return say_two_errors(out, a, b),
+    }
+}
+
+// The errors that an event reports.
+fn say_reported(out: &mut Buffer, errors: DllErrors) {
+    say(out, b"(taken (errors");
+    say_errors(out, errors)
+}
+
+// What a DLL event led to.
+pub fn say_dll(out: &mut Buffer, answer: DllEventAnswer) {
+    match answer {
+        DllEventAnswer::Taken(errors) => return say_reported(out, errors),
+        DllEventAnswer::Refused(refusal) => return say_refused(out, refusal),
+    }
+}
+
+fn say_logged(out: &mut Buffer, logged: DllErrors) {
+    say(out, b"(taken (logged");
+    say_errors(out, logged)
+}
+
+// What a tick led to.
+pub fn say_ticked(out: &mut Buffer, answer: TickAnswer) {
+    match answer {
+        TickAnswer::Taken(logged) => return say_logged(out, logged),
+        TickAnswer::Refused(refusal) => return say_refused(out, refusal),
+    }
 }
 
 fn action_number(action: NmtAction) -> u64 {
@@ -119,42 +158,41 @@ fn action_number(action: NmtAction) -> u64 {
     }
 }
 
-// What an error led to.
-pub fn say_handled(out: &mut Buffer, action: NmtAction, signal: bool, logged: DllErrors) {
+fn say_action(out: &mut Buffer, action: u64, signal: u64) {
     say_form(
         out,
-        b"(taken (action #) (signal #)",
-        &[action_number(action), signal as u64],
-    );
-    say_with_errors(out, b" (logged", logged)
+        b"(taken (action #) (signal #) (logged",
+        &[action, signal],
+    )
 }
 
-fn say_state(out: &mut Buffer, state: NmtState) {
-    say_one(out, b" %", state.as_u8() as u64)
+fn say_effect(out: &mut Buffer, taken: ErrorTaken) {
+    let action = taken.action;
+    let logged = taken.logged;
+    say_action(out, action_number(action), taken.signal as u64);
+    say_errors(out, logged)
 }
 
-fn say_two_states(out: &mut Buffer, a: NmtState, b: NmtState) {
-    say_form(out, b" % %", &[a.as_u8() as u64, b.as_u8() as u64])
+// What an error led to.
+pub fn say_handled(out: &mut Buffer, answer: ErrorAnswer) {
+    match answer {
+        ErrorAnswer::Taken(taken) => return say_effect(out, taken),
+        ErrorAnswer::Refused(refusal) => return say_refused(out, refusal),
+    }
 }
 
-// Each behind a space.
-fn say_entered(out: &mut Buffer, entered: EnteredStates) {
+fn shown(state: NmtState) -> u64 {
+    state.as_u8() as u64
+}
+
+// The numbers of the states that a reset enters, at most five.
+fn states(entered: EnteredStates) -> [u64; 5] {
     match entered {
-        EnteredStates::None => {}
-        EnteredStates::Two(a, b) => say_two_states(out, a, b),
-        EnteredStates::Three(a, b, c) => {
-            say_two_states(out, a, b);
-            say_state(out, c)
-        }
-        EnteredStates::Four(a, b, c, d) => {
-            say_two_states(out, a, b);
-            say_two_states(out, c, d)
-        }
-        EnteredStates::Five(a, b, c, d, e) => {
-            say_two_states(out, a, b);
-            say_two_states(out, c, d);
-            say_state(out, e)
-        }
+        EnteredStates::None => [NOTHING; 5],
+        EnteredStates::Two(a, b) => [shown(a), shown(b), NOTHING, NOTHING, NOTHING],
+        EnteredStates::Three(a, b, c) => [shown(a), shown(b), shown(c), NOTHING, NOTHING],
+        EnteredStates::Four(a, b, c, d) => [shown(a), shown(b), shown(c), shown(d), NOTHING],
+        EnteredStates::Five(a, b, c, d, e) => [shown(a), shown(b), shown(c), shown(d), shown(e)],
     }
 }
 
@@ -162,37 +200,58 @@ fn say_range(out: &mut Buffer, range: IndexRange) {
     say_form(out, b" (@ @)", &[range.first as u64, range.last as u64])
 }
 
-// Each behind a space.
+fn say_last_range(out: &mut Buffer, range: IndexRange) {
+    say_range(out, range);
+    say_end(out)
+}
+
+// Each behind a space, and the answer's end.
 fn say_ranges(out: &mut Buffer, ranges: RestoredRanges) {
     match ranges {
-        RestoredRanges::None => {}
-        RestoredRanges::One(a) => say_range(out, a),
+        RestoredRanges::None => return say_end(out),
+        RestoredRanges::One(a) => return say_last_range(out, a),
         RestoredRanges::Three(a, b, c) => {
             say_range(out, a);
             say_range(out, b);
-            say_range(out, c)
+            return say_last_range(out, c);
         }
     }
 }
 
-fn say_reset(out: &mut Buffer, entered: EnteredStates, restored: RestoredRanges) {
-    say(out, b"(taken (entered");
-    say_entered(out, entered);
-    say(out, b") (restore");
-    say_ranges(out, restored);
-    say(out, b"))\n")
+// The answer up to the ranges.
+fn say_entered(out: &mut Buffer, states: &[u64; 5]) {
+    say_form(out, b"(taken (entered^^^^^) (restore", states)
 }
 
-// An NMT event: a reset enters states; of another the errors are printed.
-pub fn say_event(
-    out: &mut Buffer,
-    errors: DllErrors,
-    entered: EnteredStates,
-    restored: RestoredRanges,
-) {
+fn say_reset(out: &mut Buffer, reset: ResetSequence) {
+    let entered = reset.entered;
+    let restored = reset.restored;
+    say_entered(out, &states(entered));
+    say_ranges(out, restored)
+}
+
+fn enters(reset: ResetSequence) -> bool {
+    let entered = reset.entered;
     match entered {
-        EnteredStates::None => say_reported(out, errors),
-        _ => say_reset(out, entered, restored),
+        EnteredStates::None => false,
+        _ => true,
+    }
+}
+
+// A reset enters states; of another event the errors are printed.
+fn say_event(out: &mut Buffer, taken: NmtTaken) {
+    if enters(taken.reset) {
+        return say_reset(out, taken.reset);
+    }
+    let errors = taken.errors;
+    say_reported(out, errors)
+}
+
+// What an NMT event led to.
+pub fn say_nmt(out: &mut Buffer, answer: NmtEventAnswer) {
+    match answer {
+        NmtEventAnswer::Taken(taken) => return say_event(out, taken),
+        NmtEventAnswer::Refused(refusal) => return say_refused(out, refusal),
     }
 }
 
@@ -201,19 +260,33 @@ pub fn say_cleared(out: &mut Buffer, cleared: bool) {
     say_one(out, b"(taken (cleared #))\n", cleared as u64)
 }
 
-// Behind a space.
-pub fn say_entry(out: &mut Buffer, entry: ErrorEntry) {
+// The bytes of an entry, behind a space.
+fn say_entry(out: &mut Buffer, bytes: &[u8]) {
     put(out, b' ');
-    say_bytes(out, &entry.serialize())
+    say_bytes(out, bytes)
+}
+
+// Whether there was an entry, which is printed behind a space.
+pub fn say_found(out: &mut Buffer, found: FoundEntry) -> bool {
+    match found {
+        FoundEntry::Entry(entry) => {
+            say_entry(out, &entry.serialize());
+            return true;
+        }
+        FoundEntry::None => return false,
+    }
+}
+
+fn say_taken_entry(out: &mut Buffer, bytes: &[u8]) {
+    say(out, b"(taken (entry");
+    say_entry(out, bytes);
+    say_end(out)
 }
 
 // An entry that was handed out.
 pub fn say_handed(out: &mut Buffer, found: FoundEntry) {
-    let FoundEntry::Entry(entry) = found else {
-        say(out, b"(taken none)\n");
-        return;
-    };
-    say(out, b"(taken (entry");
-    say_entry(out, entry);
-    say(out, b"))\n")
+    match found {
+        FoundEntry::Entry(entry) => return say_taken_entry(out, &entry.serialize()),
+        FoundEntry::None => return say(out, b"(taken none)\n"),
+    }
 }

@@ -3,13 +3,16 @@ ghost use Prim.Native.Nat.{_≤_};
 use crate::history::EntryBuffer;
 use crate::print::Buffer;
 use crate::print::flush;
+use crate::run::Rest;
 use crate::script::Line;
 use crate::script::read;
 use crate::session::Session;
 use crate::values::Numbers;
 use crate::words::Behind;
 use crate::words::text_at;
+use head::state::Head;
 use libc::STDIN_FILENO;
+use node::watched::NodeWords;
 
 // The longest line; the longest call, a load of everything, has some 12,500 characters.
 pub type LineBuffer = [u8; 16384];
@@ -119,8 +122,11 @@ pub fn play_all(
     text: &mut LineBuffer,
     numbers: &mut Numbers,
     bytes: &mut EntryBuffer,
+    head: &mut Head,
     queue: &mut [u8; 640],
     history: &mut [u8; 5080],
+    nodes: &mut NodeWords,
+    rest: &mut Rest,
     out: &mut Buffer,
 ) {
     let mut session = Session::new();
@@ -133,7 +139,18 @@ pub fn play_all(
     'script: for number in 1..u64::MAX {
         next = next_line(next, part, text, out);
         let line = read_line(text, next.length, numbers, bytes);
-        session = session.play(line, number, numbers, bytes, queue, history, out);
+        session = session.play(
+            line,
+            number,
+            numbers,
+            bytes,
+            head,
+            queue,
+            history,
+            nodes,
+            rest,
+            out,
+        );
         if !next.whole {
             break 'script;
         }

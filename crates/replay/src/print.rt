@@ -8,6 +8,9 @@ use libc::STDOUT_FILENO;
 // bytes, the low one first.
 pub type Buffer = [u8; 65538];
 
+// In place of a number that is not there.
+pub const NOTHING: u64 = u64::MAX;
+
 fn place_of(low: u8, high: u8) -> u16 {
     low as u16 + 256 * (high as u16)
 }
@@ -66,15 +69,33 @@ fn say_object(out: &mut Buffer, n: u64) {
     say_number(out, n)
 }
 
-// A character of a form. The marks stand for a number: # decimal, % and @ in two and in four hexadecimal digits, ! an
-// object's value.
-fn say_part(out: &mut Buffer, part: u8, n: u64) {
-    match part {
+// A number by its mark: # decimal, % and @ in two and in four hexadecimal digits, ! an object's value. Any other character is
+// printed as it is.
+fn say_mark(out: &mut Buffer, mark: u8, n: u64) {
+    match mark {
         b'#' => say_number(out, n),
         b'%' => say(out, &forms::hex2(n)),
         b'@' => say(out, &forms::hex4(n)),
         b'!' => say_object(out, n),
-        _ => put(out, part),
+        _ => put(out, mark),
+    }
+}
+
+// Behind a space, where the number is there.
+fn say_if_there(out: &mut Buffer, mark: u8, n: u64) {
+    if n == NOTHING {
+        return;
+    }
+    put(out, b' ');
+    say_mark(out, mark, n)
+}
+
+// A character of a form. Two more marks stand for a space and a number, or for nothing: ? for #, ^ for %.
+fn say_part(out: &mut Buffer, part: u8, n: u64) {
+    match part {
+        b'?' => say_if_there(out, b'#', n),
+        b'^' => say_if_there(out, b'%', n),
+        _ => say_mark(out, part, n),
     }
 }
 
@@ -83,7 +104,7 @@ fn numbers_in(part: u8) -> usize
     ensures { λ r. ⌜ r ≤ 1 ⌝ }
 {
     match part {
-        b'#' | b'%' | b'@' | b'!' => 1,
+        b'#' | b'%' | b'@' | b'!' | b'?' | b'^' => 1,
         _ => 0,
     }
 }

@@ -1,72 +1,26 @@
-// The run of watched nodes that the watch lines built. It may be longer than a head can watch, so that such a run can be
-// tried; the first 32 records and the count are lent.
-use node::watched::WatchedNode;
-use node::watched::WatchedNodes;
+// The run of watched nodes that the watch lines built, three words a record. It may be longer than a head can watch, so that
+// such a run can be tried: the first 32 records stand in the node words that a call is lent, with the count of all.
+use crate::values::Numbers;
+use node::watched::NodeWords;
 
-pub struct Run {
-    pub nodes: [WatchedNode; 32],
-    // What stands behind the first 32.
-    pub rest: [WatchedNode; 8],
-    pub count: usize,
-}
+// What stands behind the first 32 records.
+pub type Rest = [u64; 24];
 
-impl Run {
-    pub fn empty() -> Self {
-        let none = WatchedNode {
-            node: 0,
-            timeout: 0,
-            last_heard: 0,
-        };
-        let nodes = [none; 32];
-        let rest = [none; 8];
-        Run {
-            nodes,
-            rest,
-            count: 0,
-        }
+// Puts the record of a watch behind the last one, where there is room; how many there are then.
+pub fn join(nodes: &mut NodeWords, rest: &mut Rest, count: usize, numbers: &Numbers) -> usize {
+    if count < 32 {
+        let at = 3 * count;
+        nodes[at] = numbers[0];
+        nodes[at + 1] = numbers[1];
+        nodes[at + 2] = numbers[2];
+        return count + 1;
     }
-
-    // The run with a record behind the last one, where there is room.
-    pub fn joined_by(mut self, record: WatchedNode) -> Self {
-        let count = self.count;
-        if count < 32 {
-            let mut nodes = self.nodes;
-            nodes[count] = record;
-            self.nodes = nodes;
-            self.count = count + 1;
-            return self;
-        }
-        if count < 40 {
-            let mut rest = self.rest;
-            rest[count - 32] = record;
-            self.rest = rest;
-            self.count = count + 1;
-        }
-        self
+    if count < 40 {
+        let at = 3 * (count - 32);
+        rest[at] = numbers[0];
+        rest[at + 1] = numbers[1];
+        rest[at + 2] = numbers[2];
+        return count + 1;
     }
-
-    // The record at a place below the count.
-    pub fn record(self, place: usize) -> WatchedNode {
-        let nodes = self.nodes;
-        let rest = self.rest;
-        if place < 32 {
-            return nodes[place];
-        }
-        rest[place % 8]
-    }
-
-    pub fn lent(self) -> WatchedNodes {
-        let nodes = self.nodes;
-        WatchedNodes {
-            nodes,
-            count: self.count,
-        }
-    }
-
-    // The run after a call that took it.
-    pub fn after(mut self, watched: WatchedNodes) -> Self {
-        let nodes = watched.nodes;
-        self.nodes = nodes;
-        self
-    }
+    count
 }

@@ -1,27 +1,28 @@
 // The forms of a head and of the lent run.
-use crate::answers::say_entry;
+ghost use Prim.Native.Nat.{_+_, _≤_};
+ghost use lib.ListN.{length};
+use crate::answers::say_found;
 use crate::print::Buffer;
 use crate::print::say;
 use crate::print::say_form;
 use crate::print::say_one;
-use crate::run::Run;
+use crate::run::Rest;
 use crate::values::object_number;
-use counters::counters::CnErrorCounters;
-use dll::cs_state_machine::DllCsStateMachine;
-use entries::emergency_queue::EmergencyQueue;
-use entries::error_history::ErrorHistory;
-use entries::status_response::FoundEntry;
-use nmt::cn_state_machine::CnNmtStateMachine;
-use node::state::Deadline;
-use node::state::Dictionary;
-use node::state::Head;
-use node::state::SocWatch;
-use node::watched::WatchedNode;
+use head::parts::dll_of;
+use head::parts::errors_of;
+use head::parts::history_of;
+use head::parts::nmt_of;
+use head::parts::od_of;
+use head::parts::queue_of;
+use head::parts::soc_of;
+use head::state::Deadline;
+use head::state::Head;
+use node::watched::NodeWords;
 
-fn show_machines(out: &mut Buffer, nmt: CnNmtStateMachine, dll: DllCsStateMachine) {
+fn show_machines(out: &mut Buffer, head: &Head) {
+    let nmt = nmt_of(head);
     let state = nmt.current_state;
-    let flags = nmt.feature_flags;
-    let dll_state = dll.current_state();
+    let dll = dll_of(head).current_state();
     say_form(
         out,
         b"(nmt (state %) (enabled #) (ready #) (node #) (flags #) (timeout #))\n\
@@ -31,9 +32,9 @@ fn show_machines(out: &mut Buffer, nmt: CnNmtStateMachine, dll: DllCsStateMachin
             nmt.ready_to_operate_enabled as u64,
             nmt.app_ready as u64,
             nmt.node_id.0 as u64,
-            flags.bits() as u64,
+            nmt.feature_flags.0 as u64,
             nmt.basic_ethernet_timeout as u64,
-            dll_state.as_u8() as u64,
+            dll.as_u8() as u64,
         ],
     )
 }
@@ -42,7 +43,8 @@ fn wide(n: u32) -> u64 {
     n as u64
 }
 
-fn show_counters(out: &mut Buffer, counters: CnErrorCounters) {
+fn show_counters(out: &mut Buffer, head: &Head) {
+    let counters = errors_of(head);
     say_form(
         out,
         b"(collision (level #) (cumulative #))\n\
@@ -73,7 +75,8 @@ fn show_counters(out: &mut Buffer, counters: CnErrorCounters) {
     )
 }
 
-fn show_soc(out: &mut Buffer, soc: SocWatch) {
+fn show_soc(out: &mut Buffer, head: &Head) {
+    let soc = soc_of(head);
     let last = soc.last_soc_reception_time_us;
     let check = soc.soc_timeout_check_active as u64;
     let changed = soc.error_status_changed as u64;
@@ -92,7 +95,8 @@ fn show_soc(out: &mut Buffer, soc: SocWatch) {
     }
 }
 
-fn show_dictionary(out: &mut Buffer, od: Dictionary) {
+fn show_dictionary(out: &mut Buffer, head: &Head) {
+    let od = od_of(head);
     let cycle = od.cycle_time;
     let tolerance = od.tolerance;
     say_form(
@@ -111,51 +115,68 @@ fn show_dictionary(out: &mut Buffer, od: Dictionary) {
 }
 
 // The entries that wait, oldest first: at most 32.
-fn show_queue(out: &mut Buffer, queue: EmergencyQueue, memory: &[u8; 640]) {
+fn show_queue(out: &mut Buffer, head: &Head, memory: &[u8; 640]) {
+    let queue = queue_of(head);
     say_one(out, b"(queue (capacity #)", queue.capacity as u64);
     'waiting: for i in 0..32usize {
-        let FoundEntry::Entry(entry) = queue.get(memory, i) else {
+        if !say_found(out, queue.get(memory, i)) {
             break 'waiting;
-        };
-        say_entry(out, entry);
+        }
     }
     say(out, b")\n")
 }
 
 // The history's entries, newest first: at most 254.
-fn show_history(out: &mut Buffer, history: ErrorHistory, memory: &[u8; 5080]) {
+fn show_history(out: &mut Buffer, head: &Head, memory: &[u8; 5080]) {
+    let history = history_of(head);
     say(out, b"(history");
     'past: for i in 0..254usize {
-        let FoundEntry::Entry(entry) = history.get(memory, i) else {
+        if !say_found(out, history.get(memory, i)) {
             break 'past;
-        };
-        say_entry(out, entry);
+        }
     }
     say(out, b")\n")
 }
 
-fn say_record(out: &mut Buffer, record: WatchedNode) {
-    say_form(
-        out,
-        b" (# # #)",
-        &[record.node as u64, record.timeout, record.last_heard],
-    )
+// A record, whose words stand from a place on.
+fn say_record(out: &mut Buffer, words: &[u64], at: usize)
+    requires { ⌜ at + 3 ≤ length (now words) ⌝ }
+{
+    say_form(out, b" (# # #)", &words[at..at + 3])
 }
 
-fn show_watched(out: &mut Buffer, run: Run) {
+// The record at a place of the run.
+fn show_record(out: &mut Buffer, nodes: &NodeWords, rest: &Rest, place: usize) {
+    if place < 32 {
+        return say_record(out, nodes, 3 * place);
+    }
+    if place < 40 {
+        return say_record(out, rest, 3 * (place - 32));
+    }
+}
+
+fn show_watched(out: &mut Buffer, nodes: &NodeWords, rest: &Rest, count: usize) {
     say(out, b"(watched");
-    for i in 0..run.count {
-        say_record(out, run.record(i));
+    for i in 0..count {
+        show_record(out, nodes, rest, i);
     }
     say(out, b")\n")
 }
 
-pub fn show(out: &mut Buffer, head: Head, queue: &[u8; 640], history: &[u8; 5080], run: Run) {
-    show_machines(out, head.nmt, head.dll);
-    show_counters(out, head.errors);
-    show_soc(out, head.soc);
-    show_dictionary(out, head.od);
-    show_queue(out, head.queue, queue);
-    show_history(out, head.history, history);
-    show_watched(out, run)
+pub fn show(
+    out: &mut Buffer,
+    head: &Head,
+    queue: &[u8; 640],
+    history: &[u8; 5080],
+    nodes: &NodeWords,
+    rest: &Rest,
+    count: usize,
+) {
+    show_machines(out, head);
+    show_counters(out, head);
+    show_soc(out, head);
+    show_dictionary(out, head);
+    show_queue(out, head, queue);
+    show_history(out, head, history);
+    show_watched(out, nodes, rest, count)
 }

@@ -1,12 +1,11 @@
 // The numbers of a line as the values that its call takes, each by its place.
 ghost use Prim.Native.Nat.{_≤_};
+use head::state::Dictionary;
+use head::state::ObjectValue;
 use node::load::ByteUpdate;
 use node::load::CounterUpdate;
 use node::load::DictionaryUpdate;
 use node::load::ObjectUpdate;
-use node::state::Dictionary;
-use node::state::ObjectValue;
-use node::watched::WatchedNode;
 
 // As many as a start has. Those of a load are its seven values, and how many bytes the entries of its history have.
 pub type Numbers = [u64; 11];
@@ -50,15 +49,6 @@ pub fn object_number(value: ObjectValue) -> u64 {
     match value {
         ObjectValue::Unsigned32(n) => n as u64,
         ObjectValue::Missing => MISSING,
-    }
-}
-
-// The record of a watch.
-pub fn record(numbers: &Numbers) -> WatchedNode {
-    WatchedNode {
-        node: byte(numbers, 0),
-        timeout: number(numbers, 1),
-        last_heard: number(numbers, 2),
     }
 }
 

@@ -1,15 +1,13 @@
 -- The heartbeats of the tick, over plain variables: the look at the watched nodes, and the walk over the late ones.
 -- Assumes nothing.
-use Prim.Native.Nat.{ℕ, suc, _+_, _-_, _≤_, _<_}
+use Prim.Native.Nat.{ℕ, _+_, _-_, _≤_, _<_}
 use mathlib.Core.Path.{_≡_, refl, sym, ap, ap₂, _∙_}
 use mathlib.Core.Bool.{Bool, true, false}
-use mathlib.Core.List.{List, [], _∷_, _++_, map}
+use mathlib.Core.List.{List, [], _∷_, _++_}
 use native.Mathlib.Omega.{arith}
-use native.Mathlib.Numerals.{add-one}
 use lib.Dec.{leb, ltb}
-use lib.ListN.{length, getD, set, take, drop}
-use lib.Seq.{length-take-le, take-suc, drop-cons, append-snoc, set-at, getD-at}
-use borrow.Author.Tests.{lt-ltb, le-ltb, eq-eqb, ne-eqb}
+use lib.ListN.{length, getD, take, drop}
+use borrow.Author.Tests.{lt-ltb, le-ltb}
 use Rattle.types.specs.Pick.{pick, both}
 use Rattle.types.specs.Errors.{reported}
 use Rattle.types.specs.declared.nmt.events.NmtEvent.the-variants.{Error}
@@ -19,16 +17,15 @@ use Rattle.counters.specs.Counters.{handled}
 use Rattle.counters.specs.Marks.{errorMarks}
 use Rattle.counters.specs.declared.counters.HandledError.{HandledError}
 use Rattle.entries.specs.declared.status_response.ErrorEntry.{ErrorEntry}
-use Rattle.node.specs.declared.state.Head.{Head}
-use Rattle.tick.specs.declared.dealt.Dealt.{Dealt}
+use Rattle.head.specs.Head.{Head}
 use Rattle.node.specs.declared.watched.WatchedNode.{WatchedNode}
-use Rattle.node.specs.Watched.{allOf, heardNow, watchedOf}
+use Rattle.node.specs.Watched.{allOf, watchedOf}
 use Rattle.node.specs.Plain.{Plain}
-use Rattle.node.specs.Tick.{Ticked, goesOn, behind, notBefore, isLate, looked, lateOnes, acts, signalled, eventInTick, dealt, beatBy, timeoutOf, beat, beatAll}
+use Rattle.node.specs.Tick.{Ticked, goesOn, behind, notBefore, isLate, lateOnes, acts, signalled, eventInTick, dealt, beatBy, timeoutOf, beat, beatAll}
 use Rattle.node.specs.Refines.{plain, SamePlaces, Becomes, Rings, rings, joinsAll}
-use Rattle.tick.specs.Ticks.{Finishes, Ticks, lookedFirst}
-use Rattle.node.proofs.Laws.{with-errors}
-use Rattle.node.proofs.Nodes.{from-here, at-end, front, taken-long, whole}
+use Rattle.tick.specs.Ticks.{PartLeft, Finishes, Ticks}
+use Rattle.head.specs.Head.{with-errors}
+use Rattle.node.proofs.Nodes.{from-here, at-end, whole}
 use Rattle.tick.proofs.TickLaws.{handled-quiet, Alike}
 
 -- the tests of one node, by whether its times are above 0
@@ -42,24 +39,12 @@ module _ (t : ℕ) (w : WatchedNode) where
   pub before-idle : w .timeout ≡ 0 → true ≡ notBefore t w
   before-idle h = rw (le-ltb 0 (w .timeout) (omega arith))
 
-  pub look-unheard : w .«last_heard» ≡ 0 → heardNow t w ≡ looked t w
-  look-unheard h = rw (eq-eqb (w .«last_heard») 0 h)
-
   module _ (heard : w .«last_heard» ≡ 0 → ⊥) where
     pub late-idle : w .timeout ≡ 0 → false ≡ isLate t w
     late-idle h = rw (above (w .«last_heard») heard, le-ltb 0 (w .timeout) (omega arith))
 
     pub late-tested : (w .timeout ≡ 0 → ⊥) → (e : ℕ) → e ≡ t - w .«last_heard» → ltb (w .timeout) e ≡ isLate t w
     late-tested h e d = rw (above (w .«last_heard») heard, above (w .timeout) h, d)
-
-    look-heard : (b : Bool) → b ≡ isLate t w → looked t w ≡ pick b (heardNow t w) w
-    look-heard b e = rw (ne-eqb (w .«last_heard») 0 heard, ← e)
-
-    pub look-late : (b : Bool) → b ≡ isLate t w → b ≡ true → heardNow t w ≡ looked t w
-    look-late b e h = sym (look-heard b e ∙ ap (λ (b : Bool). pick b (heardNow t w) w) h)
-
-    pub look-kept : (b : Bool) → b ≡ isLate t w → b ≡ false → w ≡ looked t w
-    look-kept b e h = sym (look-heard b e ∙ ap (λ (b : Bool). pick b (heardNow t w) w) h)
 
   module _ (timed : w .timeout ≡ 0 → ⊥) where
     pub before-unheard : w .«last_heard» ≡ 0 → true ≡ notBefore t w
@@ -90,7 +75,7 @@ module _ (ns : List WatchedNode) (k : ℕ) (long : length ns ≡ 32) (few : k �
       before-next h = before-turn ∙ ap (λ (b : Bool). both b (allOf (notBefore t) (drop (i + 1) (take k ns)))) h
 
 -- the error of one late node, from what its parts left
-module _ (h : Head) (w : WatchedNode) (r : HandledError) (e : r ≡ handled (h .errors) (timeoutOf w)) (a : Bool) (n : a ≡ acts (r .action)) (f : Dealt) where
+module _ (h : Head) (w : WatchedNode) (r : HandledError) (e : r ≡ handled (h .errors) (timeoutOf w)) (a : Bool) (n : a ≡ acts (r .action)) (f : PartLeft) where
   abbrev counted : Head
   counted = with-errors h (r .counters)
 
@@ -165,7 +150,7 @@ beats-end p w ws n = ap (λ (b : Bool). pick b (beat p w) (behind (beat p w) (be
 
 -- What the walk keeps, whatever stands in the memory: the late ones among the nodes vs that are left give what those of
 -- all the nodes ws give, and nothing has joined, been logged or ended.
-pub record Beating (t : ℕ) (ws : List WatchedNode) (h₀ : Head) (d : Dealt) (vs : List WatchedNode) : Type 0 where
+pub record Beating (t : ℕ) (ws : List WatchedNode) (h₀ : Head) (d : PartLeft) (vs : List WatchedNode) : Type 0 where
   pub alike : (q m : List ℕ) → Alike (beatAll (plain h₀ q m) (lateOnes t ws)) (beatAll (plain (d .head) q m) (lateOnes t vs))
   pub joined : (q m : List ℕ) → rings (d .head) q m ≡ rings h₀ q m
   pub logged : reported (d .logged) ≡ []
@@ -192,7 +177,7 @@ same-alike a b e =
 
 -- a part of the tick, read as one that is alike
 alike-ticks :
-    (h : Head) (q m : List ℕ) (a b : Ticked) (r : Dealt) → Alike a b → Ticks h q m b r q m → Ticks h q m a r q m
+    (h : Head) (q m : List ℕ) (a b : Ticked) (r : PartLeft) → Alike a b → Ticks h q m b r q m → Ticks h q m a r q m
 alike-ticks h q m a b r x k =
     record {
       head = k .head ∙ sym (x .head);
@@ -201,7 +186,7 @@ alike-ticks h q m a b r x k =
       joined = k .joined ∙ sym (ap (joinsAll (rings h q m)) (x .crossings));
     }
 
-module _ (ns : List WatchedNode) (k : ℕ) (long : length ns ≡ 32) (few : k ≤ 32) (t : ℕ) (h₀ : Head) (d : Dealt) where
+module _ (ns : List WatchedNode) (k : ℕ) (long : length ns ≡ 32) (few : k ≤ 32) (t : ℕ) (h₀ : Head) (d : PartLeft) where
   pub beats-begin :
       d ≡ record { head = h₀; logged = errors.None; ended = false } → Beating t (watchedOf ns k) h₀ d (drop 0 (take k ns))
   beats-begin e =
@@ -245,7 +230,7 @@ module _ (ns : List WatchedNode) (k : ℕ) (long : length ns ≡ 32) (few : k �
       pub beats-pass : z ≡ false → Beating t (watchedOf ns k) h₀ d left
       beats-pass e = record { alike = turned false e; joined = b .joined; logged = b .logged; ended = b .ended }
 
-      module _ (late : z ≡ true) (r : Dealt) (y : (q m : List ℕ) → Ticks (d .head) q m (beat (plain (d .head) q m) w) r q m) where
+      module _ (late : z ≡ true) (r : PartLeft) (y : (q m : List ℕ) → Ticks (d .head) q m (beat (plain (d .head) q m) w) r q m) where
         pub beats-stop : r .ended ≡ true → (q m : List ℕ) → Ticks h₀ q m (beatAll (plain h₀ q m) (lateOnes t (watchedOf ns k))) r q m
         beats-stop e q m =
             let p = plain (d .head) q m in

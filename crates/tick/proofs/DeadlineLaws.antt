@@ -3,10 +3,10 @@
 use Prim.Native.Nat.{ℕ, _+_, _-_, _*_, _/_, _<_, _≤_, min}
 use mathlib.Core.Path.{_≡_, refl, sym, ap, ap₂, _∙_}
 use mathlib.Core.Bool.{Bool, true, false}
-use mathlib.Core.List.{List, [], _∷_, _++_, append-nil}
+use mathlib.Core.List.{List, [], append-nil}
 use native.Mathlib.Nat.{div-mul-le-self, add-mul}
 use native.Mathlib.Omega.{arith}
-use lib.Dec.{ltb, leb}
+use lib.Dec.{ltb}
 use borrow.Author.Tests.{lt-ltb, le-ltb, le-leb, lt-leb}
 use Rattle.types.specs.Pick.{pick, both}
 use Rattle.types.specs.Errors.{reported}
@@ -22,16 +22,14 @@ use Rattle.entries.specs.Queue.{capacityOf, waiting}
 use Rattle.entries.specs.History.{history}
 use Rattle.node.specs.Watched.{allOf}
 use Rattle.types.specs.declared.frame.cs_state_machine.DllCsEvent.the-variants.{SocTimeout}
-use Rattle.node.specs.declared.state.Deadline.{Deadline}
-use Rattle.node.specs.declared.state.Deadline.the-variants.{At, Nothing}
-use Rattle.node.specs.declared.state.Head.{Head}
-use Rattle.tick.specs.declared.dealt.Dealt.{Dealt}
+use Rattle.head.specs.declared.state.Deadline.the-variants.{At, Nothing}
+use Rattle.head.specs.Head.{Head}
 use Rattle.node.specs.Plain.{Plain}
 use Rattle.node.specs.Steps.{plainOf, withSoc, withDll, cycleOf, toleranceOf, limitOf}
 use Rattle.node.specs.Tick.{Ticked, goesOn, behind, checkOff, withDeadline, nextDeadline, rescheduled, withinLimit, socTimeout, dealAll, lost, socCheck, atNotActive, setsBasic, timesOut, eventInTick, passed, byDeadline}
-use Rattle.node.specs.Refines.{plain, Becomes, Rings, rings, joinsAll}
-use Rattle.tick.specs.Ticks.{Ticks, Loses, isQuiet}
-use Rattle.node.proofs.Laws.{with-dll}
+use Rattle.node.specs.Refines.{plain, Becomes, rings, joinsAll}
+use Rattle.tick.specs.Ticks.{PartLeft, Ticks, Loses, isQuiet}
+use Rattle.head.specs.Head.{with-dll}
 
 -- the cycles that have begun end at most one cycle after now
 pub ahead : (e k : ℕ) → (e / k + 1) * k ≤ e + k
@@ -111,7 +109,7 @@ becomes-rings : {h g : Head} (f : Plain → Plain) (q m : List ℕ) → Becomes 
 becomes-rings f q m b = λ i. record { queue = b .1 .queue i; queueBytes = q; history = b .1 .history i; historyBytes = m }
 
 pub ticks-as :
-    {h : Head} {q m q′ m′ : List ℕ} {r : Dealt} (k k′ : Ticked) → k′ ≡ k → Ticks h q m k r q′ m′ → Ticks h q m k′ r q′ m′
+    {h : Head} {q m q′ m′ : List ℕ} {r : PartLeft} (k k′ : Ticked) → k′ ≡ k → Ticks h q m k r q′ m′ → Ticks h q m k′ r q′ m′
 ticks-as {h} {q} {m} k k′ e w =
     record {
       head = w .head ∙ sym (ap (λ (k : Ticked). k .head) e);
@@ -121,7 +119,7 @@ ticks-as {h} {q} {m} k k′ e w =
     }
 
 pub ticks-from :
-    {h u : Head} {q m q′ m′ : List ℕ} {r : Dealt} (f : Plain → Plain) (k : Plain → Ticked) →
+    {h u : Head} {q m q′ m′ : List ℕ} {r : PartLeft} (f : Plain → Plain) (k : Plain → Ticked) →
     Becomes h f u →
     Ticks u q m (k (plain u q m)) r q′ m′ →
     Ticks h q m (k (f (plain h q m))) r q′ m′
@@ -137,7 +135,7 @@ ticks-from {h} {u} {q} {m} f k b w =
     }
 
 pub on-ticks :
-    {h g : Head} {q m : List ℕ} {r : Dealt} (f : Plain → Plain) →
+    {h g : Head} {q m : List ℕ} {r : PartLeft} (f : Plain → Plain) →
     Becomes h f g →
     r ≡ record { head = g; logged = errors.None; ended = false } →
     Ticks h q m (goesOn (f (plain h q m))) r q m
@@ -178,7 +176,7 @@ pub loses-quiet : (h g : Head) (es : DllErrors) → Loses h g es → allOf isQui
 loses-quiet h g es l = ap (allOf isQuiet) (l .errors [] []) ∙ timeouts-quiet (h .dll .state) (h .nmt .«current_state»)
 
 -- a lost SoC: its errors are dealt with, and where none ends the tick the check goes on
-module _ (h : Head) (q m : List ℕ) (t : ℕ) (g : Head) (es : DllErrors) (l : Loses h g es) (d : Dealt) (q′ m′ : List ℕ) (w : Ticks g q m (dealAll t (plain g q m) (reported es)) d q′ m′) where
+module _ (h : Head) (q m : List ℕ) (t : ℕ) (g : Head) (es : DllErrors) (l : Loses h g es) (d : PartLeft) (q′ m′ : List ℕ) (w : Ticks g q m (dealAll t (plain g q m) (reported es)) d q′ m′) where
   abbrev dealtWith : Ticked
   dealtWith = dealAll t (withDll (plain h q m) (socTimeout (plain h q m) .state)) (socTimeout (plain h q m) .errors)
 
@@ -221,11 +219,11 @@ module _ (h : Head) (q m : List ℕ) (t : ℕ) where
   abbrev late : Bool
   late = ltb (limitOf (h .od)) (t - min (h .soc .«last_soc_reception_time_us») latest)
 
-  pub check-none : h .soc .«soc_timeout_check_active» ≡ false → (r : Dealt) → r ≡ record { head = h; logged = errors.None; ended = false } → Ticks h q m (socCheck p t) r q m
+  pub check-none : h .soc .«soc_timeout_check_active» ≡ false → (r : PartLeft) → r ≡ record { head = h; logged = errors.None; ended = false } → Ticks h q m (socCheck p t) r q m
   unfolding socCheck
   check-none z r e = ticks-as (goesOn p) (socCheck p t) (ap (λ (b : Bool). byCheck b late) z) (on-ticks (λ p. p) (itself h) e)
 
-  module _ (z : h .soc .«soc_timeout_check_active» ≡ true) (l x n : ℕ) (a : l ≡ min (h .soc .«last_soc_reception_time_us») latest) (b : x ≡ t - l) (c : n ≡ limitOf (h .od)) (r : Dealt) where
+  module _ (z : h .soc .«soc_timeout_check_active» ≡ true) (l x n : ℕ) (a : l ≡ min (h .soc .«last_soc_reception_time_us») latest) (b : x ≡ t - l) (c : n ≡ limitOf (h .od)) (r : PartLeft) where
     is-late : (y : Bool) → ltb n x ≡ y → late ≡ y
     is-late y e = ap₂ ltb (sym c) (ap (λ (l : ℕ). t - l) (sym a) ∙ sym b) ∙ e
 
@@ -273,7 +271,7 @@ module _ (h g : Head) (t n : ℕ) (e : n ≡ h .nmt .«basic_ethernet_timeout»)
   )
 
 -- what stands after the heartbeats
-module _ (h : Head) (q m : List ℕ) (t : ℕ) (r : Dealt) where
+module _ (h : Head) (q m : List ℕ) (t : ℕ) (r : PartLeft) where
   abbrev p₀ : Plain
   p₀ = plain h q m
 

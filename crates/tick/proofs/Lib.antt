@@ -1,6 +1,11 @@
-pub mod TickLaws
 pub mod Beats
+pub mod TickLaws
 pub mod DeadlineLaws
 pub mod TickRefines
-pub mod Fixed
+pub mod Turning
+pub mod Beatings
+pub mod Dealings
+pub mod Passings
+pub mod Tickings
 pub mod Links
+pub mod Fixed

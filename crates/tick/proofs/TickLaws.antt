@@ -1,13 +1,12 @@
 -- The parts of the tick, over plain variables: what each makes of a head is what its rule makes of the plain head.
 -- Assumes nothing.
-use Prim.Native.Nat.{ℕ, zero, suc, _+_, _-_, _*_, _/_, _%_, _<_, _≤_, min}
+use Prim.Native.Nat.{ℕ, zero, suc, _+_, _-_, _%_, _≤_, min}
 use mathlib.Core.Path.{_≡_, refl, sym, ap, ap₂, _∙_}
 use mathlib.Core.Bool.{Bool, true, false, true≢false, false≢true}
 use mathlib.Core.List.{List, [], _∷_, _++_}
-use lib.Dec.{eqb, ltb}
+use lib.Dec.{ltb}
 use native.Mathlib.Omega.{arith}
 use native.Mathlib.Numerals.{add-one}
-use borrow.Author.Tests.{eq-eqb, ne-eqb, lt-ltb, le-ltb}
 use Rattle.types.specs.Pick.{pick, both}
 use Rattle.types.specs.Errors.{reported}
 use Rattle.types.specs.declared.nmt.events.NmtEvent.{NmtEvent}
@@ -33,71 +32,26 @@ use Rattle.entries.specs.declared.emergency_queue.EmergencyQueue.{EmergencyQueu
 use Rattle.entries.specs.declared.emergency_queue.Pushed.{Pushed}
 use Rattle.entries.specs.declared.error_history.ErrorHistory.{ErrorHistory}
 use Rattle.entries.proofs.Lists.{kept-exactly, waiting-pushed, pushed-capacity, history-joined}
-use Rattle.node.specs.declared.state.Dictionary.{Dictionary}
-use Rattle.node.specs.declared.state.Head.{Head}
+use Rattle.head.specs.Head.{Head}
 use Rattle.node.specs.Plain.{Plain}
 use Rattle.node.specs.Steps.{plainOf, withErrors}
-use Rattle.node.specs.Tick.{Ticked, acts, dealt, dealBy, deal, dealAll, goesOn, behind, oneMore, isEven, registered, changed, checkOff, signalled, eventInTick, statistics, counter1, kept, droppedOne, queued}
-use Rattle.node.specs.Refines.{plain, SamePlaces, Becomes, Rings, rings, joins, joinsAll}
-use Rattle.tick.specs.Ticks.{Finishes, Ticks, quietEffect, isQuiet, errorAt}
-use Rattle.tick.specs.declared.dealt.Dealt.{Dealt}
+use Rattle.node.specs.Tick.{Ticked, acts, dealt, dealBy, deal, dealAll, goesOn, behind, oneMore, checkOff, signalled, eventInTick, statistics, counter1, kept, droppedOne, queued}
+use Rattle.node.specs.Refines.{plain, Becomes, Rings, rings, joins, joinsAll}
+use Rattle.tick.specs.Ticks.{PartLeft, Finishes, Ticks, quietEffect, isQuiet, errorAt}
 use Rattle.tick.specs.declared.soc.NextError.{NextError}
 use Rattle.tick.specs.declared.soc.NextError.the-variants as next
 use Rattle.node.specs.Watched.{allOf}
-use Rattle.node.proofs.Laws.{headOf}
-
--- the error register, and counter 5
-module _ (o : Dictionary) where
-  abbrev registers : ℕ → ℕ → Dictionary
-  registers r c =
-      record {
-        «error_register» = r;
-        «cycle_time» = o .«cycle_time»;
-        tolerance = o .tolerance;
-        «counter_1» = o .«counter_1»;
-        «counter_2» = o .«counter_2»;
-        «counter_3» = o .«counter_3»;
-        «counter_5» = c;
-      }
-
-  pub register-changes :
-      o .«error_register» % 2 ≡ 0 → (c : ℕ) → c ≡ oneMore (o .«counter_5») → registers (o .«error_register» + 1) c ≡ registered o
-  register-changes h c e = rw (eq-eqb (o .«error_register» % 2) 0 h, e)
-
-  pub register-stays : (o .«error_register» % 2 ≡ 0 → ⊥) → o ≡ registered o
-  register-stays h = rw (ne-eqb (o .«error_register» % 2) 0 h)
+use Rattle.head.specs.Head.{ofParts}
 
 module _ (h : Head) where
   -- a head with these parts replaced stands for a plain head with them replaced
-  pub signal-becomes :
-      (o : Dictionary) →
-      o ≡ registered (h .od) →
-      Becomes h signalled (headOf (h .nmt) (h .dll) (h .errors) (changed (h .soc)) o (h .queue) (h .history))
-  signal-becomes o e = (
-    λ q m i.
-        plainOf (h .nmt) (h .dll .state) (h .errors) (changed (h .soc)) (e i) (capacityOf (h .queue)) (waiting q (h .queue)) (history m (h .history)),
-    record { queue = refl; history = refl },
-  )
-
   pub event-becomes :
       (event : NmtEvent) (a : NmtAnswer) →
       Nmt.outcome a ≡ Nmt.processed (h .nmt) event →
-      Becomes h (λ p. eventInTick p event) (headOf (a .machine) (h .dll) (h .errors) (checkOff (h .soc)) (h .od) (h .queue) (h .history))
+      Becomes h (λ p. eventInTick p event) (ofParts (a .machine) (h .dll) (h .errors) (checkOff (h .soc)) (h .od) (h .queue) (h .history))
   event-becomes event a e = (
     λ q m i.
         plainOf (e i .machine) (h .dll .state) (h .errors) (checkOff (h .soc)) (h .od) (capacityOf (h .queue)) (waiting q (h .queue)) (history m (h .history)),
-    record { queue = refl; history = refl },
-  )
-
-  pub count-becomes :
-      (errors : CnErrorCounters) (c : ℕ) →
-      c ≡ oneMore (h .od .«counter_1») →
-      Becomes h (λ p. withErrors (counter1 p) errors)
-      (headOf (h .nmt) (h .dll) errors (h .soc) (statistics (h .od) c (h .od .«counter_2») (h .od .«counter_3»)) (h .queue) (h .history))
-  count-becomes errors c e = (
-    λ q m i.
-        plainOf (h .nmt) (h .dll .state) errors (h .soc) (statistics (h .od) (e i) (h .od .«counter_2») (h .od .«counter_3»)) (capacityOf (h .queue))
-        (waiting q (h .queue)) (history m (h .history)),
     record { queue = refl; history = refl },
   )
 
@@ -135,7 +89,7 @@ module _ (h : Head) (q m q′ : List ℕ) (e : ErrorEntry) (p : Pushed) (a : p �
       (c : ℕ) →
       c ≡ oneMore (h .od .«counter_2») →
       Queues
-      (headOf (h .nmt) (h .dll) (h .errors) (h .soc) (statistics (h .od) (h .od .«counter_1») c (h .od .«counter_3»)) (p .queue) k) m′
+      (ofParts (h .nmt) (h .dll) (h .errors) (h .soc) (statistics (h .od) (h .od .«counter_1») c (h .od .«counter_3»)) (p .queue) k) m′
   unfolding queued joins
   entry-kept lq lm f y k m′ j c d =
       let t : pushed (h .queue) .kept ≡ true = sym (ap (λ (p : Pushed). p .kept) a) ∙ y in
@@ -159,7 +113,7 @@ module _ (h : Head) (q m q′ : List ℕ) (e : ErrorEntry) (p : Pushed) (a : p �
       (c : ℕ) →
       c ≡ oneMore (h .od .«counter_3») →
       Queues
-      (headOf (h .nmt) (h .dll) (h .errors) (h .soc) (statistics (h .od) (h .od .«counter_1») (h .od .«counter_2») c) (h .queue) (h .history)) m
+      (ofParts (h .nmt) (h .dll) (h .errors) (h .soc) (statistics (h .od) (h .od .«counter_1») (h .od .«counter_2») c) (h .queue) (h .history)) m
   unfolding queued joins
   entry-dropped lq y c d =
       let t : pushed (h .queue) .kept ≡ false = sym (ap (λ (p : Pushed). p .kept) a) ∙ y in
@@ -206,7 +160,7 @@ module _ (h : Head) (q m : List ℕ) (e : DllError) (t : ℕ) (r : HandledError)
   by-handled = ap (dealBy p₀ ms (crossing e t)) (sym e₁)
 
   module _ (g : Head) (q′ m′ : List ℕ) (b : Bool) (cs : List ErrorEntry) (p : Plain) (s : dealBy p₀ ms (crossing e t) r ≡ dealt r ms cs p) (x : plain g q′ m′ ≡ p) (j : rings g q′ m′ ≡ joinsAll (rings h q m) cs) where
-    deal-ends : (a : Bool) → a ≡ acts (r .action) → (f : Dealt) → Finishes g (r .logged) a f → Ticks h q m (deal t p₀ e) f q′ m′
+    deal-ends : (a : Bool) → a ≡ acts (r .action) → (f : PartLeft) → Finishes g (r .logged) a f → Ticks h q m (deal t p₀ e) f q′ m′
     deal-ends a d f k =
         let k′ : deal t p₀ e ≡ dealt r ms cs p = by-handled ∙ s in
         record {
@@ -222,7 +176,7 @@ module _ (h : Head) (q m : List ℕ) (e : DllError) (t : ℕ) (r : HandledError)
               ∙ sym (ap (λ (k : Ticked). joinsAll (rings h q m) (k .crossings)) k′);
         }
 
-  module _ (c : Head) (d : Becomes h (λ p. withErrors (counter1 p) (r .counters)) c) (a : Bool) (n : a ≡ acts (r .action)) (f : Dealt) where
+  module _ (c : Head) (d : Becomes h (λ p. withErrors (counter1 p) (r .counters)) c) (a : Bool) (n : a ≡ acts (r .action)) (f : PartLeft) where
     pub deal-unsignalled : r .signal ≡ false → Finishes c (r .logged) a f → Ticks h q m (deal t p₀ e) f q m
     deal-unsignalled z k =
         deal-ends c q m a [] (withErrors (counter1 p₀) (r .counters))
@@ -385,20 +339,20 @@ two-over (errors.One e) i h = drop-of-length-le (e ∷ []) {i = i} (omega arith)
 two-over (errors.Two e f) i h = drop-of-length-le (e ∷ f ∷ []) {i = i} h
 
 -- What the walk keeps: what is left gives what the whole gives, and nothing has joined, been logged or ended.
-pub record Walking (t : ℕ) (es : List DllError) (h₀ : Head) (q₀ m₀ q m : List ℕ) (d : Dealt) (i : ℕ) : Type 0 where
+pub record Walking (t : ℕ) (es : List DllError) (h₀ : Head) (q₀ m₀ q m : List ℕ) (d : PartLeft) (i : ℕ) : Type 0 where
   pub alike : Alike (dealAll t (plain h₀ q₀ m₀) es) (dealAll t (plain (d .head) q m) (drop i es))
   pub joined : rings (d .head) q m ≡ rings h₀ q₀ m₀
   pub logged : reported (d .logged) ≡ []
   pub ended : d .ended ≡ false
 
 pub walk-begins :
-    (t : ℕ) (es : List DllError) (h : Head) (q m : List ℕ) (d : Dealt) →
+    (t : ℕ) (es : List DllError) (h : Head) (q m : List ℕ) (d : PartLeft) →
     d ≡ record { head = h; logged = errors.None; ended = false } →
     Walking t es h q m q m d 0
 walk-begins t es h q m d e =
     rw e (record { alike = record { head = refl; logged = refl; crossings = refl; ended = refl }; joined = refl; logged = refl; ended = refl })
 
-module _ (t : ℕ) (es : List DllError) (h₀ : Head) (q₀ m₀ q m : List ℕ) (d : Dealt) (i : ℕ) (w : Walking t es h₀ q₀ m₀ q m d i) where
+module _ (t : ℕ) (es : List DllError) (h₀ : Head) (q₀ m₀ q m : List ℕ) (d : PartLeft) (i : ℕ) (w : Walking t es h₀ q₀ m₀ q m d i) where
   -- no error is left
   pub walk-over : drop i es ≡ [] → Ticks h₀ q₀ m₀ (dealAll t (plain h₀ q₀ m₀) es) d q m
   unfolding dealAll
@@ -411,7 +365,7 @@ module _ (t : ℕ) (es : List DllError) (h₀ : Head) (q₀ m₀ q m : List ℕ)
         joined = w .joined ∙ sym (ap (joinsAll (rings h₀ q₀ m₀)) (w .alike .crossings ∙ ap (λ (k : Ticked). k .crossings) s));
       }
 
-  module _ (e : DllError) (here : errorAt es i ≡ next.Error e) (r : Dealt) (q′ m′ : List ℕ) (k : Ticks (d .head) q m (deal t (plain (d .head) q m) e) r q′ m′) where
+  module _ (e : DllError) (here : errorAt es i ≡ next.Error e) (r : PartLeft) (q′ m′ : List ℕ) (k : Ticks (d .head) q m (deal t (plain (d .head) q m) e) r q′ m′) where
     front : drop i es ≡ e ∷ drop (i + 1) es
     front = rw add-one (from-index es i ∙ ap (λ (n : NextError). listOf n ++ drop (suc i) es) here)
 

@@ -1,10 +1,9 @@
 -- The tick's refinement of the plain tick, over plain variables: its phases together, and its refusals.
 -- Assumes nothing.
-use Prim.Native.Nat.{ℕ, _≤_}
+use Prim.Native.Nat.{ℕ}
 use mathlib.Core.Path.{_≡_, refl, sym, ap, ap₂, _∙_}
 use mathlib.Core.Bool.{Bool, true, false, true≢false}
 use mathlib.Core.List.{List, [], _∷_, _++_, map}
-use lib.Dec.{leb}
 use lib.ListN.{length}
 use Rattle.types.specs.Pick.{pick}
 use Rattle.types.specs.Errors.{reported}
@@ -12,19 +11,15 @@ use Rattle.types.specs.declared.refusals.Refusal.{Refusal}
 use Rattle.types.specs.declared.refusals.Refusal.the-variants.{WatchedNodes, TimeLimit, BeforeHeard}
 use Rattle.types.specs.declared.frame.error.types.DllError.{DllError}
 use Rattle.entries.specs.declared.status_response.ErrorEntry.{ErrorEntry}
-use Rattle.node.specs.declared.state.Head.{Head}
+use Rattle.head.specs.Head.{Head}
 use Rattle.node.specs.declared.watched.WatchedNode.{WatchedNode}
-use Rattle.node.specs.declared.watched.WatchedNodes as declared
-use Rattle.tick.specs.declared.dealt.Dealt.{Dealt}
-use Rattle.tick.specs.declared.tick.TickWatched.{TickWatched}
-use Rattle.tick.specs.declared.tick.TickAnswer.the-variants as answer
-use Rattle.node.specs.Watched.{inTime, allOf, wellFormed, watchedOf, watchedList, withNodes}
-use Rattle.node.specs.Plain.{Plain, tick, tickAnswer, Step}
+use Rattle.node.specs.Watched.{inTime, allOf, wellFormed, watchedOf}
+use Rattle.node.specs.Plain.{Plain, tick, Answer, refused, tickAnswer, Step}
 use Rattle.node.specs.Steps.{declines}
 use Rattle.node.specs.Tick.{Ticked, goesOn, behind, checksHeartbeats, notBefore, looked, lateOnes, beat, beatAll, timeoutOf, byDeadline, tickTaken, tickAnswered, lookedAt}
 use Rattle.node.specs.Run.{step}
-use Rattle.node.specs.Refines.{plain, Rings, rings, joinsAll, Refines}
-use Rattle.tick.specs.Ticks.{Ticks, tickLeft, tickedNodes, lookedFirst}
+use Rattle.node.specs.Refines.{plain, left, rings, joinsAll, Refines}
+use Rattle.tick.specs.Ticks.{PartLeft, Ticks, lookedFirst}
 use Rattle.node.proofs.Laws.{refined}
 use Rattle.node.proofs.Lent.{few}
 use Rattle.tick.proofs.TickLaws.{handled-quiet}
@@ -76,13 +71,13 @@ module _ (h : Head) (q m : List ℕ) (t : ℕ) (ws : List WatchedNode) where
 
   pub tick-idle :
       checksHeartbeats (h .nmt .«current_state») ≡ false →
-      (d : Dealt) (q′ m′ : List ℕ) →
+      (d : PartLeft) (q′ m′ : List ℕ) →
       Ticks h q m (byDeadline p t (h .soc .«next_tick_us»)) d q′ m′ →
       Ticks h q m (tickTaken p t ws) d q′ m′
   unfolding tickTaken
   tick-idle z d q′ m′ w = ticks-as (byDeadline p t (h .soc .«next_tick_us»)) (tickTaken p t ws) (ap byState z) w
 
-  module _ (z : checksHeartbeats (h .nmt .«current_state») ≡ true) (d : Dealt) (w : Ticks h q m (beatAll p late) d q m) where
+  module _ (z : checksHeartbeats (h .nmt .«current_state») ≡ true) (d : PartLeft) (w : Ticks h q m (beatAll p late) d q m) where
     pub tick-ended : d .ended ≡ true → Ticks h q m (tickTaken p t ws) d q m
     unfolding tickTaken
     tick-ended y =
@@ -91,7 +86,7 @@ module _ (h : Head) (q m : List ℕ) (t : ℕ) (ws : List WatchedNode) where
         ∙ ap (λ (b : Bool). pick b (beatAll p late) (behind (beatAll p late) (byDeadline (beatAll p late .head) t (beatAll p late .head .soc .«next_tick_us»)))) (sym (w .ended) ∙ y))
         w
 
-    module _ (y : d .ended ≡ false) (r : Dealt) (q′ m′ : List ℕ) where
+    module _ (y : d .ended ≡ false) (r : PartLeft) (q′ m′ : List ℕ) where
       abbrev b₀ : Ticked
       b₀ = beatAll p late
 
@@ -120,75 +115,54 @@ module _ (h : Head) (q m : List ℕ) (t : ℕ) (ws : List WatchedNode) where
           })
 
 -- the tick as a call: numbers 3, 5 and 6, and what is taken
-module _ (h : Head) (q m : List ℕ) (w : declared.WatchedNodes) (t : ℕ) where
+module _ (h : Head) (q m : List ℕ) (ns : List WatchedNode) (k t : ℕ) where
   abbrev p₀ : Plain
   p₀ = plain h q m
 
   abbrev ws₀ : List WatchedNode
-  ws₀ = watchedList w
+  ws₀ = watchedOf ns k
 
-  -- the contract
-  abbrev pub TickLeft : TickWatched → List ℕ → List ℕ → Type 0
-  TickLeft r q′ m′ =
-      Refines h q m (tick t ws₀) (tickLeft h (r .answer)) q′ m′ (watchedList (r .watched))
-      × (rings (tickLeft h (r .answer) .head) q′ m′ ≡ joinsAll (rings h q m) (step p₀ (tick t ws₀) .crossings))
-      × (r .watched ≡ tickedNodes (r .answer) (h .nmt .«current_state») t w)
+  -- what a tick owes of the plain tick, where it answered a and left the head g, its memory, and the first k nodes of l
+  abbrev pub TickLeft : Answer → Head → List ℕ → List ℕ → List WatchedNode → Type 0
+  TickLeft a g q′ m′ l =
+      Refines h q m (tick t ws₀) (left g a) q′ m′ (watchedOf l k)
+      × (rings g q′ m′ ≡ joinsAll (rings h q m) (step p₀ (tick t ws₀) .crossings))
 
-  abbrev pub declinedBy : Refusal → TickWatched
-  declinedBy x = record { answer = answer.Refused x; watched = w }
+  tick-declined : (x : Refusal) → step p₀ (tick t ws₀) ≡ declines p₀ ws₀ x → TickLeft (refused x) h q m ns
+  tick-declined x s = (
+    refined h q m (tick t ws₀) _ q m ws₀ (declines p₀ ws₀ x) s refl refl refl,
+    sym (ap (λ (k : Step). joinsAll (rings h q m) (k .crossings)) s),
+  )
 
-  tick-declined : (x : Refusal) (r : TickWatched) → r ≡ declinedBy x → step p₀ (tick t ws₀) ≡ declines p₀ ws₀ x → TickLeft r q m
-  tick-declined x r e s =
-      rw e (
-        refined h q m (tick t ws₀) _ q m ws₀ (declines p₀ ws₀ x) s refl refl refl,
-        sym (ap (λ (k : Step). joinsAll (rings h q m) (k .crossings)) s),
-        refl,
-      )
+  pub tick-unformed : wellFormed ws₀ ≡ false → TickLeft (refused WatchedNodes) h q m ns
+  tick-unformed a = tick-declined WatchedNodes (rw a)
 
-  module _ (r : TickWatched) where
-    pub tick-unformed : wellFormed ws₀ ≡ false → r ≡ declinedBy WatchedNodes → TickLeft r q m
-    tick-unformed a e = tick-declined WatchedNodes r e (rw a)
+  pub tick-late : wellFormed ws₀ ≡ true → inTime t ≡ false → TickLeft (refused TimeLimit) h q m ns
+  tick-late a b = tick-declined TimeLimit (rw (a, b))
 
-    pub tick-late : wellFormed ws₀ ≡ true → inTime t ≡ false → r ≡ declinedBy TimeLimit → TickLeft r q m
-    tick-late a b e = tick-declined TimeLimit r e (rw (a, b))
+  module _ (a : wellFormed ws₀ ≡ true) (b : inTime t ≡ true) where
+    abbrev checks : Bool
+    checks = checksHeartbeats (h .nmt .«current_state»)
 
-    module _ (a : wellFormed ws₀ ≡ true) (b : inTime t ≡ true) where
-      -- from the phases, and the nodes that were looked at
-      accepts : (d : Dealt) (q′ m′ : List ℕ) (v : declared.WatchedNodes) →
-          step p₀ (tick t ws₀) ≡ tickAnswered (tickTaken p₀ t ws₀) (lookedAt p₀ t ws₀) →
-          Ticks h q m (tickTaken p₀ t ws₀) d q′ m′ →
-          watchedList v ≡ lookedAt p₀ t ws₀ →
-          v ≡ tickedNodes (answer.Taken (record { head = d .head; logged = d .logged })) (h .nmt .«current_state») t w →
-          r ≡ record { answer = answer.Taken (record { head = d .head; logged = d .logged }); watched = v } →
-          TickLeft r q′ m′
-      accepts d q′ m′ v s k l n e =
-          rw e (
-            refined h q m (tick t ws₀) _ q′ m′ (watchedList v) (tickAnswered (tickTaken p₀ t ws₀) (lookedAt p₀ t ws₀)) s (k .head)
-                (ap tickAnswer (k .logged)) l,
-            k .joined ∙ sym (ap (λ (k : Step). joinsAll (rings h q m) (k .crossings)) s),
-            n,
-          )
+    pub tick-before : pick checks (allOf (notBefore t) ws₀) true ≡ false → TickLeft (refused BeforeHeard) h q m ns
+    tick-before d = tick-declined BeforeHeard (rw (a, b, d))
 
-      module _ (checks : Bool) (c : checks ≡ checksHeartbeats (h .nmt .«current_state»)) where
-        pub tick-before : pick checks (allOf (notBefore t) ws₀) true ≡ false → r ≡ declinedBy BeforeHeard → TickLeft r q m
-        tick-before d e =
-            tick-declined BeforeHeard r e (rw (a, b, ap (λ (k : Bool). pick k (allOf (notBefore t) ws₀) true) (sym c) ∙ d))
-
-        -- the look at the nodes
-        looks : length (w .nodes) ≡ 32 → (k : Bool) → watchedList (pick k (withNodes w (lookedFirst t (w .count) (w .nodes))) w) ≡ pick k (map (looked t) ws₀) ws₀
-        looks long true = each-nodes (w .nodes) (w .count) long (few (w .nodes) (w .count) true (sym a) refl) (looked t)
-        looks long false = refl
-
-        pub tick-accepted :
-            pick checks (allOf (notBefore t) ws₀) true ≡ true →
-            length (w .nodes) ≡ 32 →
-            (d : Dealt) (q′ m′ : List ℕ) →
-            Ticks h q m (tickTaken p₀ t ws₀) d q′ m′ →
-            (v : declared.WatchedNodes) →
-            v ≡ pick checks (withNodes w (lookedFirst t (w .count) (w .nodes))) w →
-            r ≡ record { answer = answer.Taken (record { head = d .head; logged = d .logged }); watched = v } →
-            TickLeft r q′ m′
-        tick-accepted f long d q′ m′ k v n e =
-            let s = ap (λ (k : Bool). pick k (allOf (notBefore t) ws₀) true) (sym c) ∙ f in
-            let g = n ∙ ap (λ (k : Bool). pick k (withNodes w (lookedFirst t (w .count) (w .nodes))) w) c in
-            accepts d q′ m′ v (rw (a, b, s)) k (ap watchedList g ∙ looks long (checksHeartbeats (h .nmt .«current_state»))) g e
+    -- from the phases, and the look at the nodes
+    pub tick-accepted :
+        pick checks (allOf (notBefore t) ws₀) true ≡ true →
+        length ns ≡ 32 →
+        (d : PartLeft) (q′ m′ : List ℕ) →
+        Ticks h q m (tickTaken p₀ t ws₀) d q′ m′ →
+        (l : List WatchedNode) →
+        l ≡ pick checks (lookedFirst t k ns) ns →
+        TickLeft (tickAnswer (reported (d .logged))) (d .head) q′ m′ l
+    tick-accepted f long d q′ m′ w l n =
+        let s : step p₀ (tick t ws₀) ≡ tickAnswered (tickTaken p₀ t ws₀) (lookedAt p₀ t ws₀) = rw (a, b, f) in (
+          refined h q m (tick t ws₀) _ q′ m′ (watchedOf l k) (tickAnswered (tickTaken p₀ t ws₀) (lookedAt p₀ t ws₀)) s (w .head)
+              (ap tickAnswer (w .logged)) (ap (λ (l : List WatchedNode). watchedOf l k) n ∙ looks checks),
+          w .joined ∙ sym (ap (λ (k : Step). joinsAll (rings h q m) (k .crossings)) s),
+        )
+      where
+        looks : (c : Bool) → watchedOf (pick c (lookedFirst t k ns) ns) k ≡ pick c (map (looked t) ws₀) ws₀
+        looks true = each-nodes ns k long (few ns k true (sym a) refl) (looked t)
+        looks false = refl

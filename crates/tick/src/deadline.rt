@@ -1,216 +1,202 @@
 // The deadlines of the tick: what a passed one leads to, and the next one.
 ghost use mathlib.Core.Path.{_≡_};
 ghost use mathlib.Core.Bool.{false};
-ghost use mathlib.Core.List.{List, []};
-ghost use Prim.Native.Nat.{ℕ, _-_, _≤_, _<_};
-ghost use Rattle.types.specs.Errors.{reported};
-ghost use Rattle.node.specs.Steps.{cycleOf, withSoc, withDll};
-ghost use Rattle.node.specs.Tick.{checkOff, withDeadline, nextDeadline, rescheduled, withinLimit, socTimeout, lost, socCheck, atNotActive, setsBasic, timesOut, passed, byDeadline};
-ghost use Rattle.node.specs.Refines.{Becomes, plain};
-ghost use Rattle.tick.specs.Ticks.{Ticks, Loses};
+ghost use Prim.Native.Nat.{_≤_, _<_};
+ghost use Rattle.node.specs.Steps.{cycleOf};
+ghost use Rattle.node.specs.Tick.{withDeadline, nextDeadline, rescheduled, withinLimit, lost, socCheck, atNotActive, setsBasic, timesOut, byDeadline};
+ghost use Rattle.node.specs.Refines.{plain};
+ghost use Rattle.head.specs.Words.{odOf, socOf, headOf};
+ghost use Rattle.head.specs.Written.{deadlineWritten};
+ghost use Rattle.tick.specs.TickWords.{bare, rescheduledWords, withinWords, lostWords, checkWords, basicWords, timeoutWords, deadlineWords};
+ghost use Rattle.tick.specs.TickIn.{Turns, TicksIn, LosesIn};
 use crate::dealt::Dealt;
 use crate::dealt::event_in_tick;
 use crate::soc::deal_all;
-use node::state::Deadline;
-use node::state::Head;
-use node::state::SocWatch;
-use node::state::time_since;
+use head::parts::check_of;
+use head::parts::check_off;
+use head::parts::deadline_at;
+use head::parts::dll_of;
+use head::parts::od_of;
+use head::parts::set_deadline;
+use head::parts::set_dll;
+use head::parts::soc_of;
+use head::parts::state_at;
+use head::parts::timeout_of;
+use head::parts::whole;
+use head::state::Deadline;
+use head::state::Head;
+use node::timing::cycle;
+use node::timing::last_soc;
+use node::timing::limit;
+use node::timing::time_since;
+use node::timing::tolerance_us;
 use types::frame::cs_state_machine::DllCsEvent;
 use types::frame::error::types::DllErrors;
 use types::nmt::events::NmtEvent;
 use types::nmt::states::NmtState;
 
-fn with_deadline(mut head: Head, deadline: Deadline) -> Head
-    ensures { λ r. ⌜ Becomes head (λ p. withDeadline p deadline) r ⌝ }
+fn with_deadline(head: &mut Head, deadline: Deadline)
+    ensures { λ _. ⌜ Turns (now (head .entry)) (λ p. withDeadline p deadline) (now (head .exit)) (deadlineWritten (now (head .entry)) deadline) ⌝ }
 {
-    let old = head.soc;
-    let soc = SocWatch {
-        last_soc_reception_time_us: old.last_soc_reception_time_us,
-        soc_timeout_check_active: old.soc_timeout_check_active,
-        next_tick_us: deadline,
-        error_status_changed: old.error_status_changed,
-    };
-    head.soc = soc;
-    head
-}
-
-fn check_off(mut head: Head) -> Head
-    ensures { λ r. ⌜ Becomes head (λ p. withSoc p (checkOff (p .soc))) r ⌝ }
-{
-    let mut soc = head.soc;
-    soc.soc_timeout_check_active = false;
-    head.soc = soc;
-    head
+    whole(head);
+    set_deadline(head, deadline);
 }
 
 // The end of the cycle that runs now, with the tolerance.
-fn next_deadline(head: Head, time: u64) -> u64
-    requires { ⌜ (time ≤ 4611686018427387903) × (0 < cycleOf (head .od)) ⌝ }
-    ensures { λ r. ⌜ r ≡ nextDeadline (plain head [] []) time ⌝ }
+fn next_deadline(head: &Head, time: u64) -> u64
+    requires { ⌜ (time ≤ 4611686018427387903) × (0 < cycleOf (odOf (now head))) ⌝ }
+    ensures { λ r. ⌜ r ≡ nextDeadline (bare (now (head .entry))) time ⌝ }
 {
-    let soc = head.soc;
-    let od = head.od;
-    let last = soc.last_soc();
-    let cycle = od.cycle();
+    let last = last_soc(soc_of(head));
+    let od = od_of(head);
+    let cycle_us = cycle(od);
     let elapsed = time_since(time, last);
-    last + (elapsed / cycle + 1) * cycle + od.tolerance_us()
+    last + (elapsed / cycle_us + 1) * cycle_us + tolerance_us(od)
 }
 
 // The check goes on in the next cycle, or off where there is no cycle.
-fn reschedule(head: Head, time: u64) -> Head
+fn reschedule(head: &mut Head, time: u64)
     requires { ⌜ time ≤ 4611686018427387903 ⌝ }
-    ensures { λ r. ⌜ Becomes head (λ p. rescheduled p time) r ⌝ }
+    ensures { λ _. ⌜ Turns (now (head .entry)) (λ p. rescheduled p time) (now (head .exit)) (rescheduledWords (now (head .entry)) time) ⌝ }
 {
-    let od = head.od;
-    if 0 < od.cycle() {
-        return with_deadline(head, Deadline::At(next_deadline(head, time)));
+    whole(head);
+    if 0 < cycle(od_of(head)) {
+        with_deadline(head, Deadline::At(next_deadline(head, time)));
+        return;
     }
-    check_off(head)
+    check_off(head);
 }
 
 // Within the limit: the check stands at the limit, where that is still ahead.
-fn within_limit(head: Head, time: u64) -> Head
+fn within_limit(head: &mut Head, time: u64)
     requires { ⌜ time ≤ 4611686018427387903 ⌝ }
-    ensures { λ r. ⌜ Becomes head (λ p. withinLimit p time) r ⌝ }
+    ensures { λ _. ⌜ Turns (now (head .entry)) (λ p. withinLimit p time) (now (head .exit)) (withinWords (now (head .entry)) time) ⌝ }
 {
-    let soc = head.soc;
-    let od = head.od;
-    let limit = soc.last_soc() + od.limit();
-    if 0 < od.cycle() {
-        if time < limit {
-            return with_deadline(head, Deadline::At(limit));
+    let od = od_of(head);
+    let last = last_soc(soc_of(head));
+    let at = last + limit(od);
+    if 0 < cycle(od) {
+        if time < at {
+            with_deadline(head, Deadline::At(at));
+            return;
         }
-        return reschedule(head, time);
+        reschedule(head, time);
+        return;
     }
-    reschedule(head, time)
+    reschedule(head, time);
 }
 
-// The head after a SocTimeout, and the errors that it reports.
-struct Lost {
-    head: Head,
-    errors: DllErrors,
-}
-
-fn soc_timeout(mut head: Head) -> Lost
-    ensures { λ r. ⌜ Loses head (r .head) (r .errors) ⌝ }
+// The errors that a SocTimeout reports.
+fn soc_timeout(head: &mut Head) -> DllErrors
+    ensures { λ r. ⌜ LosesIn (now (head .entry)) r (now (head .exit)) ⌝ }
 {
-    let machine = head.dll;
-    let nmt = head.nmt;
-    let state = nmt.current_state;
-    let answer = machine.process_event(DllCsEvent::SocTimeout, state, true);
-    let dll = answer.machine;
+    whole(head);
+    let answer = dll_of(head).process_event(DllCsEvent::SocTimeout, state_at(head), true);
+    let machine = answer.machine;
     let errors = answer.errors;
-    head.dll = dll;
-    Lost { head, errors }
+    set_dll(head, machine);
+    errors
 }
 
 // The errors of a lost SoC; where none brings an action, the check goes on.
-fn lose(mut head: Head, queue: &mut [u8; 640], history: &mut [u8; 5080], time: u64) -> Dealt
+fn lose(head: &mut Head, queue: &mut [u8; 640], history: &mut [u8; 5080], time: u64) -> Dealt
     requires { ⌜ time ≤ 4611686018427387903 ⌝ }
-    ensures { λ r. ⌜ Ticks head (now (queue .entry)) (now (history .entry)) (lost (plain head (now (queue .entry)) (now (history .entry))) time) r (now (queue .exit)) (now (history .exit)) ⌝ }
+    ensures { λ r. ⌜ TicksIn (now (head .entry)) (now (queue .entry)) (now (history .entry)) (lost (plain (headOf (now (head .entry))) (now (queue .entry)) (now (history .entry))) time) r (now (head .exit)) (now (queue .exit)) (now (history .exit)) (lostWords (now (head .entry)) (now (queue .entry)) (now (history .entry)) time) ⌝ }
 {
-    let loss = soc_timeout(head);
-    head = loss.head;
-    let errors = loss.errors;
+    let errors = soc_timeout(head);
     let dealt = deal_all(head, queue, history, errors, time);
     if dealt.ended {
         return dealt;
     }
-    head = dealt.head;
-    head = reschedule(head, time);
+    reschedule(head, time);
     let logged = dealt.logged;
     Dealt {
-        head,
         logged,
         ended: false,
     }
 }
 
-fn soc_check(mut head: Head, queue: &mut [u8; 640], history: &mut [u8; 5080], time: u64) -> Dealt
-    requires { ⌜ time ≤ 4611686018427387903 ⌝ }
-    ensures { λ r. ⌜ Ticks head (now (queue .entry)) (now (history .entry)) (socCheck (plain head (now (queue .entry)) (now (history .entry))) time) r (now (queue .exit)) (now (history .exit)) ⌝ }
-{
-    let soc = head.soc;
-    let od = head.od;
-    if soc.soc_timeout_check_active {
-        let elapsed = time_since(time, soc.last_soc());
-        if od.limit() < elapsed {
-            return lose(head, queue, history, time);
-        }
-        head = within_limit(head, time);
-        return go_on(head);
-    }
-    go_on(head)
-}
-
 // The tick goes on, or is over, with nothing logged.
-fn go_on(head: Head) -> Dealt
-    ensures { λ r. ⌜ r ≡ record { head = head; logged = DllErrors.None; ended = false } ⌝ }
+fn go_on() -> Dealt
+    ensures { λ r. ⌜ r ≡ record { logged = DllErrors.None; ended = false } ⌝ }
 {
     Dealt {
-        head,
         logged: DllErrors::None,
         ended: false,
     }
 }
 
-fn at_not_active(head: Head) -> bool
-    ensures { λ r. ⌜ r ≡ atNotActive (plain head [] []) ⌝ }
+fn soc_check(head: &mut Head, queue: &mut [u8; 640], history: &mut [u8; 5080], time: u64) -> Dealt
+    requires { ⌜ time ≤ 4611686018427387903 ⌝ }
+    ensures { λ r. ⌜ TicksIn (now (head .entry)) (now (queue .entry)) (now (history .entry)) (socCheck (plain (headOf (now (head .entry))) (now (queue .entry)) (now (history .entry))) time) r (now (head .exit)) (now (queue .exit)) (now (history .exit)) (checkWords (now (head .entry)) (now (queue .entry)) (now (history .entry)) time) ⌝ }
 {
-    let nmt = head.nmt;
-    let state = nmt.current_state;
+    if check_of(head) {
+        let last = last_soc(soc_of(head));
+        let elapsed = time_since(time, last);
+        if limit(od_of(head)) < elapsed {
+            return lose(head, queue, history, time);
+        }
+        within_limit(head, time);
+        return go_on();
+    }
+    go_on()
+}
+
+fn at_not_active(head: &Head) -> bool
+    ensures { λ r. ⌜ r ≡ atNotActive (bare (now (head .entry))) ⌝ }
+{
+    let state = state_at(head);
     match state {
         NmtState::NmtNotActive => true,
         _ => false,
     }
 }
 
-fn set_basic(head: Head, time: u64) -> Head
+fn set_basic(head: &mut Head, time: u64)
     requires { ⌜ time ≤ 4611686018427387903 ⌝ }
-    ensures { λ r. ⌜ Becomes head (λ p. setsBasic p time) r ⌝ }
+    ensures { λ _. ⌜ Turns (now (head .entry)) (λ p. setsBasic p time) (now (head .exit)) (basicWords (now (head .entry)) time) ⌝ }
 {
-    let timeout = head.nmt.basic_ethernet_timeout as u64;
+    let timeout = timeout_of(head) as u64;
     if 0 < timeout {
-        return with_deadline(head, Deadline::At(time + timeout));
+        with_deadline(head, Deadline::At(time + timeout));
+        return;
     }
-    head
 }
 
-fn time_out(head: Head) -> Head
-    ensures { λ r. ⌜ Becomes head timesOut r ⌝ }
+fn time_out(head: &mut Head)
+    ensures { λ _. ⌜ Turns (now (head .entry)) timesOut (now (head .exit)) (timeoutWords (now (head .entry))) ⌝ }
 {
-    if 0 < head.nmt.basic_ethernet_timeout {
-        return event_in_tick(head, NmtEvent::Timeout);
+    if 0 < timeout_of(head) {
+        event_in_tick(head, NmtEvent::Timeout);
+        return;
     }
-    head
 }
 
 // What stands after the heartbeats: a deadline is opened before it is compared with now.
 pub(crate) fn by_deadline(
-    mut head: Head,
+    head: &mut Head,
     queue: &mut [u8; 640],
     history: &mut [u8; 5080],
     time: u64,
 ) -> Dealt
     requires { ⌜ time ≤ 4611686018427387903 ⌝ }
-    ensures { λ r. ⌜ Ticks head (now (queue .entry)) (now (history .entry)) (byDeadline (plain head (now (queue .entry)) (now (history .entry))) time (head .soc .«next_tick_us»)) r (now (queue .exit)) (now (history .exit)) ⌝ }
+    ensures { λ r. ⌜ TicksIn (now (head .entry)) (now (queue .entry)) (now (history .entry)) (byDeadline (plain (headOf (now (head .entry))) (now (queue .entry)) (now (history .entry))) time (socOf (now (head .entry)) .«next_tick_us»)) r (now (head .exit)) (now (queue .exit)) (now (history .exit)) (deadlineWords (now (head .entry)) (now (queue .entry)) (now (history .entry)) time (socOf (now (head .entry)) .«next_tick_us»)) ⌝ }
 {
-    let soc = head.soc;
-    let deadline = soc.next_tick_us;
+    let deadline = deadline_at(head);
     let Deadline::At(at) = deadline else {
         if at_not_active(head) {
-            head = set_basic(head, time);
-            return go_on(head);
+            set_basic(head, time);
+            return go_on();
         }
-        return go_on(head);
+        return go_on();
     };
     if time < at {
-        return go_on(head);
+        return go_on();
     }
-    head = with_deadline(head, Deadline::Nothing);
+    with_deadline(head, Deadline::Nothing);
     if at_not_active(head) {
-        head = time_out(head);
-        return go_on(head);
+        time_out(head);
+        return go_on();
     }
     soc_check(head, queue, history, time)
 }

@@ -1,13 +1,20 @@
-// What the handling of an error in a tick leaves: a signal with the error register, and, where an action is asked for, the
-// event that ends the tick.
+// What the handling of an error in a tick leaves: a signal with the error register, and, where an action is asked for, the event
+// that ends the tick.
 ghost use mathlib.Core.Path.{_≡_};
-ghost use mathlib.Core.List.{List};
-ghost use Prim.Native.Nat.{ℕ};
-ghost use Rattle.node.specs.Tick.{acts, oneMore, registered, signalled, eventInTick};
-ghost use Rattle.node.specs.Refines.{Becomes};
-ghost use Rattle.tick.specs.Ticks.{Finishes};
-use node::state::Dictionary;
-use node::state::Head;
+ghost use Rattle.node.specs.Tick.{acts, signalled, eventInTick};
+ghost use Rattle.tick.specs.TickWords.{signalWords, eventWords};
+ghost use Rattle.tick.specs.TickIn.{Turns, FinishesIn};
+use head::parts::check_off;
+use head::parts::nmt_of;
+use head::parts::register_of;
+use head::parts::set_changed;
+use head::parts::set_nmt;
+use head::parts::set_register;
+use head::parts::set_statistic;
+use head::parts::statistic_of;
+use head::parts::whole;
+use head::state::Head;
+use head::state::Statistic;
 use types::frame::error::types::DllErrors;
 use types::frame::error::types::NmtAction;
 use types::nmt::events::NmtEvent;
@@ -23,72 +30,50 @@ pub(crate) fn acts(action: NmtAction) -> bool
     }
 }
 
-// One more, from the 32-bit top to 0.
-pub(crate) fn increment_counter(counter: u32) -> u32
-    ensures { λ r. ⌜ r ≡ oneMore counter ⌝ }
+// A signal sets error_status_changed and the register's lowest bit; counter 5 rises where that changes it.
+pub(crate) fn signal(head: &mut Head)
+    ensures { λ _. ⌜ Turns (now (head .entry)) signalled (now (head .exit)) (signalWords (now (head .entry))) ⌝ }
 {
-    std::num::wrapping_add_u32(counter, 1)
-}
-
-// The lowest bit of the error register is set, and counter 5 counts where that changes it.
-fn register_error(mut od: Dictionary) -> Dictionary
-    ensures { λ r. ⌜ r ≡ registered od ⌝ }
-{
-    if od.error_register % 2 == 0 {
-        od.error_register += 1;
-        od.counter_5 = increment_counter(od.counter_5);
+    whole(head);
+    let register = register_of(head);
+    let counter = statistic_of(head, Statistic::Counter5);
+    if register % 2 == 0 {
+        set_changed(head);
+        set_register(head, register + 1);
+        set_statistic(
+            head,
+            Statistic::Counter5,
+            std::num::wrapping_add_u32(counter, 1),
+        );
+        return;
     }
-    od
-}
-
-pub(crate) fn signal(mut head: Head) -> Head
-    ensures { λ r. ⌜ Becomes head signalled r ⌝ }
-{
-    let old = head.od;
-    let od = register_error(old);
-    let mut soc = head.soc;
-    soc.error_status_changed = true;
-    head.od = od;
-    head.soc = soc;
-    head
+    set_changed(head);
 }
 
 // An NMT event in a tick; the check goes off.
-pub(crate) fn event_in_tick(mut head: Head, event: NmtEvent) -> Head
-    ensures { λ r. ⌜ Becomes head (λ p. eventInTick p event) r ⌝ }
+pub(crate) fn event_in_tick(head: &mut Head, event: NmtEvent)
+    ensures { λ _. ⌜ Turns (now (head .entry)) (λ p. eventInTick p event) (now (head .exit)) (eventWords (now (head .entry)) event) ⌝ }
 {
-    let machine = head.nmt;
-    let answer = machine.process_event(event);
-    let nmt = answer.machine;
-    let mut soc = head.soc;
-    soc.soc_timeout_check_active = false;
-    head.nmt = nmt;
-    head.soc = soc;
-    head
+    whole(head);
+    let answer = nmt_of(head).process_event(event);
+    let machine = answer.machine;
+    set_nmt(head, machine);
+    check_off(head);
 }
 
-// What a part of the tick leaves: the head, what was logged, and whether the tick has ended.
+// What a part of the tick leaves beside the words: what was logged, and whether the tick has ended.
 pub(crate) struct Dealt {
-    pub(crate) head: Head,
     pub(crate) logged: DllErrors,
     pub(crate) ended: bool,
 }
 
 // An action ends the tick with event Error.
-pub(crate) fn finish(mut head: Head, logged: DllErrors, ended: bool) -> Dealt
-    ensures { λ r. ⌜ Finishes head logged ended r ⌝ }
+pub(crate) fn finish(head: &mut Head, logged: DllErrors, ended: bool) -> Dealt
+    ensures { λ r. ⌜ FinishesIn (now (head .entry)) logged ended r (now (head .exit)) ⌝ }
 {
     if ended {
-        head = event_in_tick(head, NmtEvent::Error);
-        return Dealt {
-            head,
-            logged,
-            ended,
-        };
+        event_in_tick(head, NmtEvent::Error);
+        return Dealt { logged, ended };
     }
-    Dealt {
-        head,
-        logged,
-        ended,
-    }
+    Dealt { logged, ended }
 }

@@ -1,84 +1,91 @@
 // The heartbeats of a tick: the look at the watched nodes, and the errors of the late ones.
 ghost use mathlib.Core.Path.{_≡_};
+ghost use mathlib.Core.Bool.{true};
 ghost use mathlib.Core.List.{List};
-ghost use Prim.Native.Nat.{ℕ, _-_, _≤_};
-ghost use Rattle.node.specs.Watched.{allOf, watchedOf};
-ghost use Rattle.node.specs.Tick.{notBefore, isLate, looked, lateOnes, beat, beatAll};
+ghost use Prim.Native.Nat.{ℕ, _≤_};
+ghost use Rattle.node.specs.declared.watched.WatchedNode.{WatchedNode};
+ghost use Rattle.node.specs.Watched.{allOf, wellFormed, watchedNode, watchedOf};
+ghost use Rattle.node.specs.Tick.{notBefore, isLate, lateOnes, beat, beatAll};
 ghost use Rattle.node.specs.Refines.{plain};
-ghost use Rattle.tick.specs.Ticks.{Ticks, lookedFirst};
+ghost use Rattle.tick.specs.Ticks.{lookedFirst};
+ghost use Rattle.head.specs.Words.{headOf};
+ghost use Rattle.node.specs.Nodes.{nodesOf};
+ghost use Rattle.tick.specs.TickWords.{lookedTime, lookedWords, beatWords, beatAllWords};
+ghost use Rattle.tick.specs.TickIn.{TicksIn};
 use crate::dealt::Dealt;
 use crate::dealt::acts;
 use crate::dealt::finish;
 use crate::dealt::signal;
-use node::state::Head;
-use node::state::time_since;
-use node::watched::WatchedNode;
+use head::parts::whole;
+use head::state::Head;
+use node::calls::handled;
+use node::timing::time_since;
+use node::watched::NodeWords;
+use node::watched::all_places;
 use types::frame::error::types::DllError;
 use types::frame::error::types::DllErrors;
 use types::types::NodeId;
 
 // A node that was heard once, and then not for longer than its timeout.
-fn is_late(w: WatchedNode, time: u64) -> bool
-    ensures { λ r. ⌜ r ≡ isLate time w ⌝ }
+fn is_late(timeout: u64, last_heard: u64, time: u64) -> bool
+    ensures { λ r. ⌜ r ≡ isLate time (watchedNode 0 timeout «last_heard») ⌝ }
 {
-    if w.last_heard == 0 {
+    if last_heard == 0 {
         return false;
     }
-    if w.timeout == 0 {
+    if timeout == 0 {
         return false;
     }
-    w.timeout < time_since(time, w.last_heard)
+    timeout < time_since(time, last_heard)
 }
 
 // A node that was never heard, or is late, counts as heard now.
-fn look(mut w: WatchedNode, time: u64) -> WatchedNode
-    ensures { λ r. ⌜ r ≡ looked time w ⌝ }
+fn looked(timeout: u64, last_heard: u64, time: u64) -> u64
+    ensures { λ r. ⌜ r ≡ lookedTime time timeout «last_heard» ⌝ }
 {
-    if w.last_heard == 0 {
-        w.last_heard = time;
-        return w;
+    if last_heard == 0 {
+        return time;
     }
-    if is_late(w, time) {
-        w.last_heard = time;
-        return w;
+    if is_late(timeout, last_heard, time) {
+        return time;
     }
-    w
+    last_heard
 }
 
-pub(crate) fn look_all(mut nodes: [WatchedNode; 32], count: usize, time: u64) -> [WatchedNode; 32]
+pub(crate) fn look_all(nodes: &mut NodeWords, count: usize, time: u64)
     requires { ⌜ count ≤ 32 ⌝ }
-    ensures { λ r. ⌜ r ≡ lookedFirst time count nodes ⌝ }
+    ensures { λ _. ⌜ (now (nodes .exit) ≡ lookedWords time count (now (nodes .entry))) × (nodesOf (now (nodes .exit)) ≡ lookedFirst time count (nodesOf (now (nodes .entry)))) ⌝ }
 {
+    all_places(nodes);
     let mut i: usize = 0;
     while i < count {
-        let w = nodes[i];
-        nodes[i] = look(w, time);
+        let at = 3 * i;
+        nodes[at + 2] = looked(nodes[at + 1], nodes[at + 2], time);
         i += 1;
     }
-    nodes
 }
 
 // Where a node has a timeout and was heard, the time is not before that.
-fn heard_by(w: WatchedNode, time: u64) -> bool
-    ensures { λ r. ⌜ r ≡ notBefore time w ⌝ }
+fn heard_by(timeout: u64, last_heard: u64, time: u64) -> bool
+    ensures { λ r. ⌜ r ≡ notBefore time (watchedNode 0 timeout «last_heard») ⌝ }
 {
-    if w.timeout == 0 {
+    if timeout == 0 {
         return true;
     }
-    if w.last_heard == 0 {
+    if last_heard == 0 {
         return true;
     }
-    w.last_heard <= time
+    last_heard <= time
 }
 
-pub(crate) fn not_before(nodes: [WatchedNode; 32], count: usize, time: u64) -> bool
+pub(crate) fn not_before(nodes: &NodeWords, count: usize, time: u64) -> bool
     requires { ⌜ count ≤ 32 ⌝ }
-    ensures { λ r. ⌜ r ≡ allOf (notBefore time) (watchedOf nodes count) ⌝ }
+    ensures { λ r. ⌜ r ≡ allOf (notBefore time) (watchedOf (nodesOf (now (nodes .entry))) count) ⌝ }
 {
     let mut i: usize = 0;
     while i < count {
-        let w = nodes[i];
-        if !heard_by(w, time) {
+        let at = 3 * i;
+        if !heard_by(nodes[at + 1], nodes[at + 2], time) {
             return false;
         }
         i += 1;
@@ -87,41 +94,38 @@ pub(crate) fn not_before(nodes: [WatchedNode; 32], count: usize, time: u64) -> b
 }
 
 // The error of a late node: neither counter 1 nor an entry follows from it.
-fn beat(mut head: Head, w: WatchedNode) -> Dealt
-    ensures { λ r. ⌜ ((q m : List ℕ) → Ticks head q m (beat (plain head q m) w) r q m) ⌝ }
+fn beat(head: &mut Head, node: u64) -> Dealt
+    requires { ⌜ node ≤ 255 ⌝ }
+    ensures { λ r. ⌜ ((w : WatchedNode) → w .node ≡ node → (q m : List ℕ) → TicksIn (now (head .entry)) q m (beat (plain (headOf (now (head .entry))) q m) w) r (now (head .exit)) q m (beatWords (now (head .entry)) w)) ⌝ }
 {
-    let counters = head.errors;
-    let node_id = NodeId(w.node);
-    let handled = counters.handle_error(DllError::HeartbeatTimeout { node_id });
-    let errors = handled.counters;
-    head.errors = errors;
-    let action = handled.action;
+    whole(head);
+    let node_id = NodeId(node as u8);
+    let answer = handled(head, DllError::HeartbeatTimeout { node_id });
+    let action = answer.action;
     let ended = acts(action);
-    let logged = handled.logged;
-    if handled.signal {
-        head = signal(head);
+    let logged = answer.logged;
+    if answer.signal {
+        signal(head);
         return finish(head, logged, ended);
     }
     finish(head, logged, ended)
 }
 
-// The errors of the late nodes, ascending: the first whose handling brings an action ends the walk. The nodes are those
-// before the look.
-pub(crate) fn beat_all(mut head: Head, nodes: [WatchedNode; 32], count: usize, time: u64) -> Dealt
-    requires { ⌜ count ≤ 32 ⌝ }
-    ensures { λ r. ⌜ ((q m : List ℕ) → Ticks head q m (beatAll (plain head q m) (lateOnes time (watchedOf nodes count))) r q m) ⌝ }
+// The errors of the late nodes, ascending: the first whose handling brings an action ends the walk. The nodes are those before the look.
+pub(crate) fn beat_all(head: &mut Head, nodes: &NodeWords, count: usize, time: u64) -> Dealt
+    requires { ⌜ wellFormed (watchedOf (nodesOf (now nodes)) count) ≡ true ⌝ }
+    ensures { λ r. ⌜ ((q m : List ℕ) → TicksIn (now (head .entry)) q m (beatAll (plain (headOf (now (head .entry))) q m) (lateOnes time (watchedOf (nodesOf (now (nodes .entry))) count))) r (now (head .exit)) q m
+        (beatAllWords (now (head .entry)) (lateOnes time (watchedOf (nodesOf (now (nodes .entry))) count)))) ⌝ }
 {
     let mut dealt = Dealt {
-        head,
         logged: DllErrors::None,
         ended: false,
     };
     let mut i: usize = 0;
     'walk: while i < count {
-        let w = nodes[i];
-        if is_late(w, time) {
-            head = dealt.head;
-            dealt = beat(head, w);
+        let at = 3 * i;
+        if is_late(nodes[at + 1], nodes[at + 2], time) {
+            dealt = beat(head, nodes[at]);
             if dealt.ended {
                 break 'walk;
             }

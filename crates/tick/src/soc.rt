@@ -1,38 +1,33 @@
 // The errors of the SoC check.
 ghost use mathlib.Core.Path.{_≡_};
 ghost use mathlib.Core.Bool.{true};
-ghost use mathlib.Core.List.{List};
-ghost use Prim.Native.Nat.{ℕ};
 ghost use lib.ListN.{length};
 ghost use Rattle.types.specs.Errors.{reported};
 ghost use Rattle.entries.specs.Entry.{crossing};
 ghost use Rattle.node.specs.Watched.{allOf};
-ghost use Rattle.node.specs.Steps.{withErrors};
-ghost use Rattle.node.specs.Tick.{counter1, queued, deal, dealAll};
-ghost use Rattle.node.specs.Refines.{Becomes, plain, rings, joins};
-ghost use Rattle.tick.specs.Ticks.{Ticks, isQuiet, errorAt};
+ghost use Rattle.node.specs.Tick.{queued, deal, dealAll};
+ghost use Rattle.node.specs.Refines.{plain, rings, joins};
+ghost use Rattle.tick.specs.Ticks.{isQuiet, errorAt};
+ghost use Rattle.head.specs.Words.{headOf};
+ghost use Rattle.tick.specs.TickWords.{entryWords, dealWords, dealAllWords};
+ghost use Rattle.tick.specs.TickIn.{TicksIn};
 use crate::dealt::Dealt;
 use crate::dealt::acts;
 use crate::dealt::finish;
-use crate::dealt::increment_counter;
 use crate::dealt::signal;
-use counters::counters::CnErrorCounters;
 use entries::error_history::write_error_to_history;
 use entries::status_response::ErrorEntry;
-use node::state::Head;
+use head::parts::history_of;
+use head::parts::increment_counter;
+use head::parts::queue_of;
+use head::parts::set_history;
+use head::parts::set_queue;
+use head::parts::whole;
+use head::state::Head;
+use head::state::Statistic;
+use node::calls::handled;
 use types::frame::error::types::DllError;
 use types::frame::error::types::DllErrors;
-
-// Counter 1, and the counters after an error of the SoC check.
-fn count_soc_error(mut head: Head, errors: CnErrorCounters) -> Head
-    ensures { λ r. ⌜ Becomes head (λ p. withErrors (counter1 p) errors) r ⌝ }
-{
-    let mut od = head.od;
-    od.counter_1 = increment_counter(od.counter_1);
-    head.od = od;
-    head.errors = errors;
-    head
-}
 
 // Lent as a slice, an array says its length.
 fn long(s: &[u8], n: usize)
@@ -42,56 +37,52 @@ fn long(s: &[u8], n: usize)
 
 // The entry of a crossing joins queue and history, with counter 2, or is dropped, with counter 3.
 fn queue_entry(
-    mut head: Head,
+    head: &mut Head,
     queue: &mut [u8; 640],
     history: &mut [u8; 5080],
     error: DllError,
     time: u64,
-) -> Head
-    ensures { λ r. ⌜ (plain r (now (queue .exit)) (now (history .exit)) ≡ queued (plain head (now (queue .entry)) (now (history .entry))) (crossing error time))
-        × (rings r (now (queue .exit)) (now (history .exit)) ≡ joins (rings head (now (queue .entry)) (now (history .entry))) (crossing error time)) ⌝ }
+)
+    ensures { λ _. ⌜ (plain (headOf (now (head .exit))) (now (queue .exit)) (now (history .exit)) ≡ queued (plain (headOf (now (head .entry))) (now (queue .entry)) (now (history .entry))) (crossing error time))
+        × (rings (headOf (now (head .exit))) (now (queue .exit)) (now (history .exit)) ≡ joins (rings (headOf (now (head .entry))) (now (queue .entry)) (now (history .entry))) (crossing error time))
+        × (now (head .exit) ≡ entryWords (now (head .entry))) ⌝ }
 {
+    whole(head);
     long(queue, 640);
     long(history, 5080);
     let entry = ErrorEntry::of_crossing(error, time);
-    let waiting = head.queue;
-    let pushed = waiting.push_back(queue, entry);
-    let mut od = head.od;
+    let pushed = queue_of(head).push_back(queue, entry);
     if pushed.kept {
-        let past = head.history;
-        let joined = write_error_to_history(history, past, entry);
-        od.counter_2 = increment_counter(od.counter_2);
+        let joined = write_error_to_history(history, history_of(head), entry);
         let places = pushed.queue;
-        head.od = od;
-        head.queue = places;
-        head.history = joined;
-        return head;
+        increment_counter(head, Statistic::Counter2);
+        set_queue(head, places);
+        set_history(head, joined);
+        return;
     }
-    od.counter_3 = increment_counter(od.counter_3);
-    head.od = od;
-    head
+    increment_counter(head, Statistic::Counter3);
 }
 
 // One error of the SoC check.
 fn deal(
-    mut head: Head,
+    head: &mut Head,
     queue: &mut [u8; 640],
     history: &mut [u8; 5080],
     error: DllError,
     time: u64,
 ) -> Dealt
-    ensures { λ r. ⌜ Ticks head (now (queue .entry)) (now (history .entry)) (deal time (plain head (now (queue .entry)) (now (history .entry))) error) r (now (queue .exit)) (now (history .exit)) ⌝ }
+    ensures { λ r. ⌜ TicksIn (now (head .entry)) (now (queue .entry)) (now (history .entry)) (deal time (plain (headOf (now (head .entry))) (now (queue .entry)) (now (history .entry))) error) r (now (head .exit)) (now (queue .exit)) (now (history .exit)) (dealWords (now (head .entry)) error) ⌝ }
 {
-    let counters = head.errors;
-    let handled = counters.handle_error(error);
-    let errors = handled.counters;
-    head = count_soc_error(head, errors);
-    let action = handled.action;
+    whole(head);
+    let answer = handled(head, error);
+    whole(head);
+    increment_counter(head, Statistic::Counter1);
+    let action = answer.action;
     let ended = acts(action);
-    let logged = handled.logged;
-    if handled.signal {
-        head = signal(head);
-        head = queue_entry(head, queue, history, error, time);
+    let logged = answer.logged;
+    if answer.signal {
+        signal(head);
+        queue_entry(head, queue, history, error, time);
         return finish(head, logged, ended);
     }
     finish(head, logged, ended)
@@ -128,17 +119,16 @@ fn error_at(errors: DllErrors, i: usize) -> NextError
 
 // The errors of the SoC check in their order: the first whose handling brings an action ends the walk.
 pub(crate) fn deal_all(
-    mut head: Head,
+    head: &mut Head,
     queue: &mut [u8; 640],
     history: &mut [u8; 5080],
     errors: DllErrors,
     time: u64,
 ) -> Dealt
     requires { ⌜ allOf isQuiet (reported errors) ≡ true ⌝ }
-    ensures { λ r. ⌜ Ticks head (now (queue .entry)) (now (history .entry)) (dealAll time (plain head (now (queue .entry)) (now (history .entry))) (reported errors)) r (now (queue .exit)) (now (history .exit)) ⌝ }
+    ensures { λ r. ⌜ TicksIn (now (head .entry)) (now (queue .entry)) (now (history .entry)) (dealAll time (plain (headOf (now (head .entry))) (now (queue .entry)) (now (history .entry))) (reported errors)) r (now (head .exit)) (now (queue .exit)) (now (history .exit)) (dealAllWords (now (head .entry)) (reported errors)) ⌝ }
 {
     let mut dealt = Dealt {
-        head,
         logged: DllErrors::None,
         ended: false,
     };
@@ -148,7 +138,6 @@ pub(crate) fn deal_all(
         let NextError::Error(error) = found else {
             break 'walk;
         };
-        head = dealt.head;
         dealt = deal(head, queue, history, error, time);
         if dealt.ended {
             break 'walk;

@@ -1,44 +1,36 @@
 // The tick (node/cn/tick.rs), after its SDO step: the heartbeats, then what a passed deadline leads to.
 ghost use mathlib.Core.Path.{_≡_};
-ghost use mathlib.Core.Bool.{true};
-ghost use mathlib.Core.List.{List};
-ghost use Prim.Native.Nat.{ℕ, _≤_};
-ghost use Rattle.types.specs.Pick.{pick};
-ghost use Rattle.node.specs.Watched.{allOf, watchedOf, watchedList, withNodes};
-ghost use Rattle.node.specs.Plain.{Call};
+ghost use mathlib.Core.Bool.{true, not};
+ghost use Prim.Native.Nat.{_≤_};
+ghost use Rattle.types.specs.Pick.{pick, both};
+ghost use Rattle.node.specs.Watched.{allOf, wellFormed, watchedOf};
 ghost use Rattle.node.specs.Tick.{checksHeartbeats, notBefore, tickTaken};
-ghost use Rattle.node.specs.Run.{step};
-ghost use Rattle.node.specs.Refines.{plain, rings, joinsAll, Refines};
-ghost use Rattle.tick.specs.Ticks.{Ticks, lookedFirst, tickLeft, tickedNodes};
+ghost use Rattle.node.specs.Refines.{plain};
+ghost use Rattle.tick.specs.Ticks.{lookedFirst};
+ghost use Rattle.head.specs.Words.{nmtOf, headOf};
+ghost use Rattle.node.specs.Nodes.{nodesOf, rests};
+ghost use Rattle.tick.specs.TickWords.{lookedWords, tickWords};
+ghost use Rattle.tick.specs.TickIn.{TicksIn, rousedOf, TickedIn};
 use crate::deadline::by_deadline;
 use crate::dealt::Dealt;
 use crate::heartbeats::beat_all;
 use crate::heartbeats::look_all;
 use crate::heartbeats::not_before;
-use node::state::Head;
-use node::state::in_time;
-use node::watched::WatchedNode;
-use node::watched::WatchedNodes;
+use head::parts::state_at;
+use head::state::Head;
+use node::timing::in_time;
+use node::watched::NodeWords;
+use node::watched::Seen;
+use node::watched::look;
 use node::watched::well_formed;
 use types::frame::error::types::DllErrors;
 use types::nmt::states::NmtState;
 use types::refusals::Refusal;
 
-// The head after a tick, and what it logged.
-pub struct TickTaken {
-    pub head: Head,
-    pub logged: DllErrors,
-}
-
+// What a tick answers: what it logged. Head and nodes stand in the words.
 pub enum TickAnswer {
-    Taken(TickTaken),
+    Taken(DllErrors),
     Refused(Refusal),
-}
-
-// What a tick answers, and the watched nodes as it leaves them.
-pub struct TickWatched {
-    pub answer: TickAnswer,
-    pub watched: WatchedNodes,
 }
 
 // PreOperational2 and the states above it by their numbers, so not CsStopped.
@@ -48,30 +40,23 @@ fn checks_heartbeats(state: NmtState) -> bool
     0x5D <= state.as_u8()
 }
 
-fn taken(dealt: Dealt, watched: WatchedNodes) -> TickWatched
-    ensures { λ r. ⌜ r ≡ record { answer = TickAnswer.Taken (record { head = dealt .head; logged = dealt .logged }); watched = watched } ⌝ }
+// Number 3, and whether heartbeats are checked and some node asks for something: where they are not, no node is asked.
+fn roused(checks: bool, nodes: &NodeWords, count: usize, time: u64) -> Seen
+    ensures { λ r. ⌜ r ≡ rousedOf checks time (watchedOf (nodesOf (now (nodes .entry))) count) ⌝ }
 {
-    let head = dealt.head;
-    let logged = dealt.logged;
-    TickWatched {
-        answer: TickAnswer::Taken(TickTaken { head, logged }),
-        watched,
+    if checks {
+        return look(nodes, count, time);
     }
-}
-
-fn declined(refusal: Refusal, watched: WatchedNodes) -> TickWatched
-    ensures { λ r. ⌜ r ≡ record { answer = TickAnswer.Refused refusal; watched = watched } ⌝ }
-{
-    TickWatched {
-        answer: TickAnswer::Refused(refusal),
-        watched,
+    if well_formed(nodes, count) {
+        return Seen::Formed(false);
     }
+    Seen::Unformed
 }
 
 // Number 6 does not stand: with heartbeats checked, the time is not before a node's last one.
-fn after_heard(checks: bool, nodes: [WatchedNode; 32], count: usize, time: u64) -> bool
+fn after_heard(checks: bool, nodes: &NodeWords, count: usize, time: u64) -> bool
     requires { ⌜ count ≤ 32 ⌝ }
-    ensures { λ r. ⌜ r ≡ pick checks (allOf (notBefore time) (watchedOf nodes count)) true ⌝ }
+    ensures { λ r. ⌜ r ≡ pick checks (allOf (notBefore time) (watchedOf (nodesOf (now (nodes .entry))) count)) true ⌝ }
 {
     if checks {
         return not_before(nodes, count, time);
@@ -81,69 +66,62 @@ fn after_heard(checks: bool, nodes: [WatchedNode; 32], count: usize, time: u64) 
 
 // The heartbeats, where they are checked, and what follows where no crossing ended the tick.
 fn phases(
-    mut head: Head,
+    head: &mut Head,
     queue: &mut [u8; 640],
     history: &mut [u8; 5080],
     checks: bool,
-    nodes: [WatchedNode; 32],
+    nodes: &NodeWords,
     count: usize,
     time: u64,
 ) -> Dealt
-    requires { ⌜ (time ≤ 4611686018427387903) × (count ≤ 32) × (checks ≡ checksHeartbeats (head .nmt .«current_state»)) ⌝ }
-    ensures { λ r. ⌜ Ticks head (now (queue .entry)) (now (history .entry)) (tickTaken (plain head (now (queue .entry)) (now (history .entry))) time (watchedOf nodes count)) r (now (queue .exit)) (now (history .exit)) ⌝ }
+    requires { ⌜ (time ≤ 4611686018427387903) × (wellFormed (watchedOf (nodesOf (now nodes)) count) ≡ true) × (checks ≡ both (checksHeartbeats (nmtOf (now head) .«current_state»)) (not (allOf (rests time) (watchedOf (nodesOf (now nodes)) count)))) ⌝ }
+    ensures { λ r. ⌜ TicksIn (now (head .entry)) (now (queue .entry)) (now (history .entry)) (tickTaken (plain (headOf (now (head .entry))) (now (queue .entry)) (now (history .entry))) time (watchedOf (nodesOf (now (nodes .entry))) count)) r (now (head .exit)) (now (queue .exit)) (now (history .exit)) (tickWords (now (head .entry)) (now (queue .entry)) (now (history .entry)) time (watchedOf (nodesOf (now (nodes .entry))) count)) ⌝ }
 {
     if checks {
         let beats = beat_all(head, nodes, count, time);
         if beats.ended {
             return beats;
         }
-        head = beats.head;
         return by_deadline(head, queue, history, time);
     }
     by_deadline(head, queue, history, time)
 }
 
 // The watched nodes as a tick leaves them.
-fn looked_at(checks: bool, watched: WatchedNodes, time: u64) -> WatchedNodes
-    requires { ⌜ watched .count ≤ 32 ⌝ }
-    ensures { λ r. ⌜ r ≡ pick checks (withNodes watched (lookedFirst time (watched .count) (watched .nodes))) watched ⌝ }
+fn looked_at(checks: bool, nodes: &mut NodeWords, count: usize, time: u64)
+    requires { ⌜ count ≤ 32 ⌝ }
+    ensures { λ _. ⌜ (now (nodes .exit) ≡ pick checks (lookedWords time count (now (nodes .entry))) (now (nodes .entry)))
+        × (nodesOf (now (nodes .exit)) ≡ pick checks (lookedFirst time count (nodesOf (now (nodes .entry)))) (nodesOf (now (nodes .entry)))) ⌝ }
 {
     if checks {
-        let count = watched.count;
-        let nodes = watched.nodes;
-        let nodes = look_all(nodes, count, time);
-        return WatchedNodes { nodes, count };
+        look_all(nodes, count, time);
+        return;
     }
-    watched
 }
 
-// A tick at a time in microseconds, with the head's memory and the watched nodes.
+// A tick at a time in microseconds, on a head with its memory and the watched nodes: nothing is written before the last test is passed.
 pub fn process_tick(
-    head: Head,
+    head: &mut Head,
     queue: &mut [u8; 640],
     history: &mut [u8; 5080],
-    mut watched: WatchedNodes,
+    nodes: &mut NodeWords,
+    count: usize,
     time: u64,
-) -> TickWatched
-    ensures { λ r. ⌜ Refines head (now (queue .entry)) (now (history .entry)) (Call.tick time (watchedList watched)) (tickLeft head (r .answer)) (now (queue .exit)) (now (history .exit)) (watchedList (r .watched))
-        × (rings (tickLeft head (r .answer) .head) (now (queue .exit)) (now (history .exit)) ≡ joinsAll (rings head (now (queue .entry)) (now (history .entry))) (step (plain head (now (queue .entry)) (now (history .entry))) (Call.tick time (watchedList watched)) .crossings))
-        × (r .watched ≡ tickedNodes (r .answer) (head .nmt .«current_state») time watched) ⌝ }
+) -> TickAnswer
+    ensures { λ r. ⌜ TickedIn (now (head .entry)) (now (queue .entry)) (now (history .entry)) (now (nodes .entry)) count time r (now (head .exit)) (now (queue .exit)) (now (history .exit)) (now (nodes .exit)) ⌝ }
 {
-    let count = watched.count;
-    let nodes = watched.nodes;
-    if !well_formed(nodes, count) {
-        return declined(Refusal::WatchedNodes, watched);
-    }
+    let seen = roused(checks_heartbeats(state_at(head)), nodes, count, time);
+    let Seen::Formed(checks) = seen else {
+        return TickAnswer::Refused(Refusal::WatchedNodes);
+    };
     if !in_time(time) {
-        return declined(Refusal::TimeLimit, watched);
+        return TickAnswer::Refused(Refusal::TimeLimit);
     }
-    let nmt = head.nmt;
-    let state = nmt.current_state;
-    let checks = checks_heartbeats(state);
     if !after_heard(checks, nodes, count, time) {
-        return declined(Refusal::BeforeHeard, watched);
+        return TickAnswer::Refused(Refusal::BeforeHeard);
     }
     let dealt = phases(head, queue, history, checks, nodes, count, time);
-    watched = looked_at(checks, watched, time);
-    taken(dealt, watched)
+    looked_at(checks, nodes, count, time);
+    let logged = dealt.logged;
+    TickAnswer::Taken(logged)
 }

@@ -4,7 +4,7 @@ use Prim.Native.Nat.{ℕ}
 use mathlib.Core.Path.{_≡_, refl, ap, ap₂, _∙_}
 use mathlib.Core.List.{List, [], _∷_}
 use native.Mathlib.Omega.{arith}
-use Rattle.node.specs.declared.state.Head.{Head}
+use Rattle.head.specs.Head.{Head}
 use Rattle.node.specs.declared.watched.WatchedNode.{WatchedNode}
 use Rattle.node.specs.Watched.{unheard}
 use Rattle.node.specs.Plain.{Plain, Call, Answer, Start, begins, declined, FirstStep}

@@ -13,7 +13,7 @@ use Rattle.counters.specs.Marks.{isCrossed, level, N}
 use Rattle.counters.specs.declared.counters.CounterKind.{CounterKind}
 use Rattle.counters.proofs.ByKind.{counter-new}
 use Rattle.counters.proofs.Balance.{Balanced, balanced-none, balanced-then, FromZero, from-zero, count-append}
-use Rattle.node.specs.declared.state.Head.{Head}
+use Rattle.head.specs.Head.{Head}
 use Rattle.node.specs.Plain.{Plain, Call, Start, Step}
 use Rattle.node.specs.Steps.{fresh}
 use Rattle.node.specs.Run.{step, run, Said, said}

@@ -4,7 +4,5 @@ pub mod Ticking
 pub mod Shares
 pub mod Keeps
 pub mod Follows
-pub mod Turning
-pub mod Replays
 pub mod Driven
 pub mod Worked

@@ -22,8 +22,8 @@ use Rattle.counters.specs.declared.counters.CnErrorCounters.{CnErrorCounters}
 use Rattle.counters.specs.declared.counters.HandledError.{HandledError}
 use Rattle.entries.specs.Entry.{crossing}
 use Rattle.entries.specs.declared.status_response.ErrorEntry.{ErrorEntry}
-use Rattle.node.specs.declared.state.Deadline.{Deadline}
-use Rattle.node.specs.declared.state.Deadline.the-variants.{At, Nothing}
+use Rattle.head.specs.declared.state.Deadline.{Deadline}
+use Rattle.head.specs.declared.state.Deadline.the-variants.{At, Nothing}
 use Rattle.node.specs.declared.watched.WatchedNode.{WatchedNode}
 use Rattle.node.specs.Watched.{allOf}
 use Rattle.node.specs.Plain.{Plain}

@@ -19,16 +19,14 @@ use Rattle.counters.specs.declared.counters.CounterKind.the-variants.{LossOfSoc
 use Rattle.entries.specs.Entry.{crossing}
 use Rattle.entries.specs.Ring.{nth}
 use Rattle.entries.specs.declared.status_response.ErrorEntry.{ErrorEntry}
-use Rattle.node.specs.declared.state.ObjectValue.the-variants.{Unsigned32}
-use Rattle.node.specs.declared.watched.WatchedNode.{WatchedNode}
+use Rattle.head.specs.declared.state.ObjectValue.the-variants.{Unsigned32}
 use Rattle.node.specs.Watched.{wellFormed, watchedNode}
 use Rattle.node.specs.Plain.{Plain, Call, nmtEvent, dllEvent, withdraw, handOut, arm, tick, Start}
-use Rattle.node.specs.Steps.{fresh, armed, started}
+use Rattle.node.specs.Steps.{fresh, armed}
 use Rattle.node.specs.Tick.{beat, beatAll, queued, deal, dealAll, socCheck, tickTaken}
 use Rattle.node.specs.Run.{run}
 use Rattle.trace.specs.Tally.{Told, told, Tally, tally}
 use Rattle.trace.specs.Claim.{counted}
-use Rattle.trace.specs.Script.{callOf, rows, calls, decode}
 
 -- SwReset, and two SoCs: in PreOperational2
 abbrev booted : List Call → List Call
@@ -138,22 +136,3 @@ beats :
     × (N HeartbeatTimeout (counted (begun 1 0) lateTwice .marks) ≡ 1)
 unfolding run tally fresh readEvent processed resetBy applied enter rowOf isReset statesEntered wellFormed tickTaken beatAll beat handled Counters.counted afterError replaced errorMarks
 beats = (refl, refl, refl, refl)
-
--- a script: each tick is lent the watched nodes that the one before it left
-abbrev row : ℕ → ℕ → List ℕ → List ℕ
-row tag a s = tag ∷ a ∷ 0 ∷ 0 ∷ 0 ∷ 0 ∷ 0 ∷ 0 ∷ 0 ∷ s
-
-abbrev watching : WatchedNode → Start
-watching w =
-    record { node = 1; flags = 0; timeout = 0; capacity = 1; od = begun 1 0 .od; watched = w ∷ [] }
-
-lent-on :
-    decode (watching (watchedNode 5 50 7)) (row 0 5 (row 0 13 (row 0 13 (row 9 100 (row 9 120 (row 9 151 (row 9 152 []))))))) [] ≡
-    booted
-    (tick 100 (watchedNode 5 50 0 ∷ []) ∷
-    tick 120 (watchedNode 5 50 100 ∷ []) ∷
-    tick 151 (watchedNode 5 50 100 ∷ []) ∷
-    tick 152 (watchedNode 5 50 151 ∷ []) ∷
-    [])
-unfolding callOf rows calls started fresh readEvent processed resetBy applied enter rowOf isReset statesEntered wellFormed tickTaken beatAll beat handled Counters.counted afterError replaced errorMarks
-lent-on = refl

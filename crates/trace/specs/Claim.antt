@@ -11,7 +11,7 @@ use Rattle.counters.specs.Marks.{Mark, level, E, N, D}
 use Rattle.counters.specs.declared.counters.CounterKind.{CounterKind}
 use Rattle.entries.specs.declared.status_response.ErrorEntry.{ErrorEntry}
 use Rattle.entries.specs.declared.status_response.FoundEntry.the-variants.{None}
-use Rattle.node.specs.declared.state.Head.{Head}
+use Rattle.head.specs.Head.{Head}
 use Rattle.node.specs.Plain.{Plain, Call, handOut, Start, handOutAnswer}
 use Rattle.node.specs.Steps.{fresh}
 use Rattle.node.specs.Run.{step, run, Said, said}

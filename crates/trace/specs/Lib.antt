@@ -1,3 +1,3 @@
 pub mod Tally
 pub mod Claim
-pub mod Script
+pub mod Driven

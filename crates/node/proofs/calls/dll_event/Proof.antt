@@ -1,8 +1,10 @@
--- `node::calls::dll_event` meets its contract: the number is read, and the machine's answer is passed on.
+-- `node::calls::dll_event` meets its contract: the number is read, and the machine by value decides.
 -- Assumes nothing.
 use mathlib.Core.Path.{sym, _∙_}
+use denote.Ref.{now}
 use borrow.Author.Needs.{needs}
-use Rattle.node.proofs.Laws.{dll-taken, dll-refused}
+use Rattle.dll.specs.Dll as Dll
+use Rattle.node.proofs.Refining.{dll-no, dll-yes}
 use Rattle.node.proofs.calls.dll_event.Statement.{statement}
 use Rattle.node.proofs.calls.dll_event.Tie as tie
 
@@ -11,16 +13,24 @@ dll-event-spec =
     tie.close
     (tie.spec
     (λ c κs. search needs)
+    (λ c κs. search needs)
     (λ c. search needs)
     (λ c κs. search needs)
+    (λ c κs. search needs)
+    (λ c κs. search needs)
+    (λ c κs. search needs)
     (λ c.
-    let r = c .before in
-    let t = r .before .before .before .before .before .before in
-    let a = t .before .args in
-    dll-taken (a .head) (a .event) (a .expect-preq) _ (r .process-event .result)
-    (sym (t .try-from .ensures) ∙ r .before .before .before .before .event .given .1) (r .process-event .ensures))
+    let p = c .before .before .before in
+    let d = p .before .before .before in
+    let e = d .before .before .before in
+    let t = e .before .before in
+    let a = t .before .before .before .args in
+    dll-yes (now (a .head)) (t .before .whole .ensures) _ (a .event) (a .expect-preq) _ (p .process-event .result)
+    (sym (t .try-from .ensures) ∙ e .event .given .1)
+    (p .process-event .ensures ∙ (λ i. Dll.processed (d .dll-of .ensures i .state) (e .event .given .0 .0) (p .before .state-at .ensures i) (a .expect-preq)))
+    (c .set-dll .ensures))
     (λ c. search needs)
     (λ c.
     let t = c .before .before .before in
-    let a = t .before .args in
-    dll-refused (a .head) (a .event) (a .expect-preq) _ (sym (t .try-from .ensures) ∙ c .before .refusal .given .1)))
+    let a = t .before .before .before .args in
+    dll-no (now (a .head)) (a .event) (a .expect-preq) _ (sym (t .try-from .ensures) ∙ c .before .refusal .given .1)))

@@ -1,8 +1,10 @@
--- `node::calls::hand_out` meets its contract: the queue's answer is passed on.
+-- `node::calls::hand_out` meets its contract: the queue by value decides.
 -- Assumes nothing.
+use mathlib.Core.Path.{ap, _∙_}
 use denote.Ref.{now}
 use borrow.Author.Needs.{needs}
-use Rattle.node.proofs.Laws.{hand-out-taken}
+use Rattle.entries.specs.Queue.{handedOut}
+use Rattle.node.proofs.Refining.{hand-out-yes}
 use Rattle.node.proofs.calls.hand_out.Statement.{statement}
 use Rattle.node.proofs.calls.hand_out.Tie as tie
 
@@ -11,7 +13,12 @@ hand-out-spec =
     tie.close
     (tie.spec
     (λ c κs. search needs)
+    (λ c κs. search needs)
+    (λ c κs. search needs)
+    (λ c κs. search needs)
     (λ c.
-    let r = c .before in
-    let a = r .before .before .args in
-    hand-out-taken (a .head) (now (a .memory)) (r .hand-out .result) (r .hand-out .ensures)))
+    let r = c .before .before .before in
+    let w = r .before .before .before in
+    let a = w .before .before .args in
+    hand-out-yes (now (a .head)) (w .whole .ensures) _ (now (a .memory)) (r .hand-out .result)
+    (r .hand-out .ensures ∙ ap (handedOut (now (a .memory))) (r .before .queue-of .ensures)) (c .set-queue .ensures)))

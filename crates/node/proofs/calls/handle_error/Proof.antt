@@ -1,8 +1,9 @@
--- `node::calls::handle_error` meets its contract: the kind is read, and the counters' answer is passed on.
+-- `node::calls::handle_error` meets its contract: the kind is read, and the error handled.
 -- Assumes nothing.
 use mathlib.Core.Path.{sym, _∙_}
+use denote.Ref.{now}
 use borrow.Author.Needs.{needs}
-use Rattle.node.proofs.Laws.{error-taken, error-refused}
+use Rattle.node.proofs.Refining.{error-no, error-yes}
 use Rattle.node.proofs.calls.handle_error.Statement.{statement}
 use Rattle.node.proofs.calls.handle_error.Tie as tie
 
@@ -11,16 +12,17 @@ handle-error-spec =
     tie.close
     (tie.spec
     (λ c κs. search needs)
+    (λ c κs. search needs)
     (λ c. search needs)
     (λ c κs. search needs)
     (λ c.
-    let r = c .before in
-    let t = r .before .before .before .before .before in
-    let a = t .before .args in
-    error-taken (a .head) (a .kind) (a .a) (a .b) _ (r .handle-error .result)
-    (sym (t .try-from .ensures) ∙ r .before .before .before .error .given .1) (r .handle-error .ensures))
+    let e = c .before .before .before in
+    let t = e .before .before in
+    let a = t .before .before .before .args in
+    error-yes (now (a .head)) (t .before .whole .ensures) _ (a .kind) (a .a) (a .b) _ (c .handled .result)
+    (sym (t .try-from .ensures) ∙ e .error .given .1) (c .handled .ensures .0) (c .handled .ensures .1))
     (λ c. search needs)
     (λ c.
     let t = c .before .before .before in
-    let a = t .before .args in
-    error-refused (a .head) (a .kind) (a .a) (a .b) _ (sym (t .try-from .ensures) ∙ c .before .refusal .given .1)))
+    let a = t .before .before .before .args in
+    error-no (now (a .head)) (a .kind) (a .a) (a .b) _ (sym (t .try-from .ensures) ∙ c .before .refusal .given .1)))

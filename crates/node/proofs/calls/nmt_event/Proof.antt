@@ -1,8 +1,11 @@
--- `node::calls::nmt_event` meets its contract: the number is read, and the machine's answer is passed on.
+-- `node::calls::nmt_event` meets its contract: the number is read, and the machine by value decides.
 -- Assumes nothing.
-use mathlib.Core.Path.{sym, _∙_}
+use mathlib.Core.Path.{sym, ap, _∙_}
+use denote.Ref.{now}
 use borrow.Author.Needs.{needs}
-use Rattle.node.proofs.Laws.{nmt-taken, nmt-refused}
+use Rattle.nmt.specs.Nmt as Nmt
+use Rattle.nmt.specs.declared.cn_state_machine.CnNmtStateMachine.{CnNmtStateMachine}
+use Rattle.node.proofs.Refining.{nmt-no, nmt-yes}
 use Rattle.node.proofs.calls.nmt_event.Statement.{statement}
 use Rattle.node.proofs.calls.nmt_event.Tie as tie
 
@@ -11,14 +14,22 @@ nmt-event-spec =
     tie.close
     (tie.spec
     (λ c κs. search needs)
+    (λ c κs. search needs)
     (λ c. search needs)
     (λ c κs. search needs)
+    (λ c κs. search needs)
+    (λ c κs. search needs)
     (λ c.
-    let r = c .before .before in
-    let t = r .before .before .before .before .before in
-    nmt-taken (t .before .args .head) (t .before .args .event) _ (r .process-event .result)
-    (sym (t .try-from .ensures) ∙ r .before .before .before .event .given .1) (r .process-event .ensures))
+    let p = c .before .before .before .before in
+    let e = p .before .before .before .before in
+    let t = e .before .before in
+    let a = t .before .before .before .args in
+    nmt-yes (now (a .head)) (t .before .whole .ensures) _ (a .event) _ (p .process-event .result)
+    (sym (t .try-from .ensures) ∙ e .event .given .1)
+    (p .process-event .ensures ∙ ap (λ (m : CnNmtStateMachine). Nmt.processed m (e .event .given .0 .0)) (p .before .nmt-of .ensures))
+    (c .set-nmt .ensures))
     (λ c. search needs)
     (λ c.
     let t = c .before .before .before in
-    nmt-refused (t .before .args .head) (t .before .args .event) _ (sym (t .try-from .ensures) ∙ c .before .refusal .given .1)))
+    let a = t .before .before .before .args in
+    nmt-no (now (a .head)) (a .event) _ (sym (t .try-from .ensures) ∙ c .before .refusal .given .1)))

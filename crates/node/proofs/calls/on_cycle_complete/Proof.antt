@@ -1,7 +1,10 @@
--- `node::calls::on_cycle_complete` meets its contract: the counters' answer is passed on.
+-- `node::calls::on_cycle_complete` meets its contract: the counters by value decide.
 -- Assumes nothing.
+use mathlib.Core.Path.{ap, _∙_}
+use denote.Ref.{now}
 use borrow.Author.Needs.{needs}
-use Rattle.node.proofs.Laws.{cycle-taken}
+use Rattle.counters.specs.Counters.{completed}
+use Rattle.node.proofs.Refining.{cycle-yes}
 use Rattle.node.proofs.calls.on_cycle_complete.Statement.{statement}
 use Rattle.node.proofs.calls.on_cycle_complete.Tie as tie
 
@@ -10,6 +13,11 @@ on-cycle-complete-spec =
     tie.close
     (tie.spec
     (λ c κs. search needs)
+    (λ c κs. search needs)
+    (λ c κs. search needs)
+    (λ c κs. search needs)
     (λ c.
-    let r = c .before in
-    cycle-taken (r .before .before .args .head) (r .on-cycle-complete .result) (r .on-cycle-complete .ensures)))
+    let r = c .before .before .before in
+    let w = r .before .before .before in
+    cycle-yes (now (w .before .before .args .head)) (w .whole .ensures) _ (r .on-cycle-complete .result)
+    (r .on-cycle-complete .ensures ∙ ap completed (r .before .errors-of .ensures)) (c .set-levels .ensures)))

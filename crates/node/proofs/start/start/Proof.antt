@@ -1,10 +1,12 @@
--- `node::start::start` meets its contract: numbers 1, 2 and 3 in this order, then the fresh head.
+-- `node::start::start` meets its contract: numbers 1, 2 and 3 in this order, then every word.
 -- Assumes nothing.
-use mathlib.Core.Path.{sym, _∙_}
-use native.Mathlib.Omega.{arith}
+use denote.Ref.{now}
 use borrow.Author.Needs.{needs}
+use mathlib.Core.Path.{sym, _∙_}
 use Rattle.node.proofs.Nodes.{not-true, not-false}
-use Rattle.node.proofs.Lent.{few, start-no-node, start-no-room, start-unformed, start-taken}
+use Rattle.node.proofs.Lent.{few}
+use Rattle.node.specs.Nodes.{nodesOf}
+use Rattle.node.proofs.Begun.{no-node, no-room, unformed, begun}
 use Rattle.node.proofs.start.start.Statement.{statement}
 use Rattle.node.proofs.start.start.Tie as tie
 
@@ -14,40 +16,39 @@ start-spec =
     (tie.spec
     (λ c κs. search needs)
     (λ c. search needs)
+    (λ c.
+    let v2 = c .before .before in
+    let v4 = v2 .before .before in
+    let v5 = v4 .before in
+    no-room (now (v5 .args .head)) (now (v5 .args .nodes)) (v5 .args .count) (v5 .args .node) (v5 .args .feature-flags) (v5 .args .basic-ethernet-timeout) (v5 .args .queue-capacity) (v5 .args .od) (v4 .try-from .result) (v4 .try-from .ensures) _ (v2 .node-id .given .1) (c .if1 .taken))
     (λ c κs. search needs)
     (λ c.
-    let k = c .before .before .before in
-    let t = k .before .before in
-    let a = t .before .args in
-    start-no-room (a .node) (a .feature-flags) (a .basic-ethernet-timeout) (a .queue-capacity) (a .od) (a .watched) (t .try-from .result) (t .try-from .ensures) (c .declined .result) _ (k .node-id .given .1) (c .before .if1 .taken) (c .declined .ensures))
-    (λ c κs. search needs)
-    (λ c κs. search needs)
-    (λ c.
-    let f = c .before .before in
-    let k = f .before .before .before .before in
-    let t = k .before .before in
-    let a = t .before .args in
-    start-unformed (a .node) (a .feature-flags) (a .basic-ethernet-timeout) (a .queue-capacity) (a .od) (a .watched) (t .try-from .result) (t .try-from .ensures) (c .declined2 .result) _ (k .node-id .given .1) (f .before .before .if1 .left)
-    (sym (f .well-formed .ensures .0) ∙ not-true (f .well-formed .result) (c .before .if2 .taken)) (c .declined2 .ensures))
+    let v1 = c .before in
+    let v3 = v1 .before .before in
+    let v5 = v3 .before .before in
+    let v7 = v5 .before .before in
+    let v8 = v7 .before in
+    unformed (now (v8 .args .head)) (now (v8 .args .nodes)) (v8 .args .count) (v8 .args .node) (v8 .args .feature-flags) (v8 .args .basic-ethernet-timeout) (v8 .args .queue-capacity) (v8 .args .od) (v7 .try-from .result) (v7 .try-from .ensures) _ (v5 .node-id .given .1) (v3 .if1 .left) (sym (v1 .well-formed .ensures) ∙ not-true (v1 .well-formed .result) (c .if2 .taken)))
     (λ c. search needs)
     (λ c κs. search needs)
     (λ c κs.
-    let f = c .before .before in
-    let w = f .before .before .before .before .before .before .before .args .watched in
-    let k = few (w .nodes) (w .count) (f .well-formed .result) (f .well-formed .ensures .0) (not-false (f .well-formed .result) (c .before .if2 .left)) in
-    omega (arith, k))
+    let v3 = c .before .before .before in
+    let v4 = v3 .before in
+    let v11 = v4 .before .before .before .before .before .before .before in
+    few (nodesOf (now (v11 .args .nodes))) (v11 .args .count) (v4 .well-formed .result) (v4 .well-formed .ensures) (not-false (v4 .well-formed .result) (v3 .if2 .left)))
+    (λ c.
+    let v2 = c .before .before in
+    let v4 = v2 .before .before in
+    let v5 = v4 .before in
+    let v7 = v5 .before .before in
+    let v9 = v7 .before .before in
+    let v11 = v9 .before .before in
+    let v12 = v11 .before in
+    begun (now (v12 .args .head)) (now (v12 .args .nodes)) (v12 .args .count) (v12 .args .node) (v12 .args .feature-flags) (v12 .args .basic-ethernet-timeout) (v12 .args .queue-capacity) (v12 .args .od) (v11 .try-from .result) (v11 .try-from .ensures) _ (v9 .node-id .given .1) (v7 .if1 .left) (sym (v5 .well-formed .ensures) ∙ not-false (v5 .well-formed .result) (v4 .if2 .left))
+    _ (v2 .fresh-head .ensures) _ (c .unheard .ensures))
     (λ c. search needs)
-    (λ c κs. search needs)
     (λ c.
-    let h = c .before in
-    let f = h .before .before in
-    let k = f .before .before .before .before in
-    let t = k .before .before in
-    let a = t .before .args in
-    start-taken (a .node) (a .feature-flags) (a .basic-ethernet-timeout) (a .queue-capacity) (a .od) (a .watched) (t .try-from .result) (t .try-from .ensures) _ (k .node-id .given .1) (f .before .before .if1 .left)
-    (sym (f .well-formed .ensures .0) ∙ not-false (f .well-formed .result) (h .before .if2 .left)) (f .well-formed .ensures .1)
-    (h .fresh-head .result) (c .unheard .result) (h .fresh-head .ensures) (c .unheard .ensures))
-    (λ c.
-    let t = c .before .before .before .before in
-    let a = t .before .args in
-    start-no-node (a .node) (a .feature-flags) (a .basic-ethernet-timeout) (a .queue-capacity) (a .od) (a .watched) (t .try-from .result) (t .try-from .ensures) (c .declined3 .result) _ (c .before .before .refusal .given .1) (c .declined3 .ensures)))
+    let v1 = c .before in
+    let v3 = v1 .before .before in
+    let v4 = v3 .before in
+    no-node (now (v4 .args .head)) (now (v4 .args .nodes)) (v4 .args .count) (v4 .args .node) (v4 .args .feature-flags) (v4 .args .basic-ethernet-timeout) (v4 .args .queue-capacity) (v4 .args .od) (v3 .try-from .result) (v3 .try-from .ensures) _ (v1 .refusal .given .1)))

@@ -1,5 +1,5 @@
 -- `replay::lines::play_all` is safe and ends: the loop counts lines up to a number that no script has.
--- The fact that is listed for the sum and for the measure is the test at the top of the loop, 17 steps before.
+-- The fact that is listed for the sum and for the measure is the test at the top of the loop, 20 steps before.
 -- Assumes nothing.
 use Prim.Native.Nat.{_-_}
 use borrow.Author.Needs.{needs}
@@ -7,10 +7,10 @@ use Rattle.replay.proofs.lines.play_all.Statement.{statement}
 use Rattle.replay.proofs.lines.play_all.Tie as tie
 
 abbrev Inv-script : tie.InvT-script
-Inv-script part₀ text₀ numbers₀ bytes₀ queue₀ history₀ out₀ session₀ next₀ number₀ part text numbers bytes queue history out session next number = Unit
+Inv-script part₀ text₀ numbers₀ bytes₀ head₀ queue₀ history₀ nodes₀ rest₀ out₀ session₀ next₀ number₀ part text numbers bytes head queue history nodes rest out session next number = Unit
 
 abbrev μ-script : tie.MeasureT-script
-μ-script part₀ text₀ numbers₀ bytes₀ queue₀ history₀ out₀ session₀ next₀ number₀ part text numbers bytes queue history out session next number = 18446744073709551615 - number
+μ-script part₀ text₀ numbers₀ bytes₀ head₀ queue₀ history₀ nodes₀ rest₀ out₀ session₀ next₀ number₀ part text numbers bytes head queue history nodes rest out session next number = 18446744073709551615 - number
 
 pub play-all-spec : {M : Type 1} → statement M
 play-all-spec =
@@ -23,8 +23,8 @@ play-all-spec =
     (λ c κs. search needs)
     (λ c κs. search needs)
     (λ c κs. search needs)
-    (λ c. search (needs, c .before .before .before .before .before .before .before .before .before .before .before .before .before .before .before .before .before .script-test .taken))
-    (λ c. search (needs, c .before .before .before .before .before .before .before .before .before .before .before .before .before .before .before .before .before .script-test .taken))
+    (λ c. search (needs, c .before .before .before .before .before .before .before .before .before .before .before .before .before .before .before .before .before .before .before .before .script-test .taken))
+    (λ c. search (needs, c .before .before .before .before .before .before .before .before .before .before .before .before .before .before .before .before .before .before .before .before .script-test .taken))
     (λ c. search needs)
     (λ c κs. search needs)
     (λ c. search needs))

@@ -6,10 +6,10 @@ use Rattle.replay.proofs.show.show_watched.Statement.{statement}
 use Rattle.replay.proofs.show.show_watched.Tie as tie
 
 abbrev Inv-loop : tie.InvT-loop
-Inv-loop out₀ run i₀ t5 i-end out i = Unit
+Inv-loop out₀ nodes rest count i₀ t7 out i = Unit
 
 abbrev μ-loop : tie.MeasureT-loop
-μ-loop out₀ run i₀ t5 i-end out i = i-end - i
+μ-loop out₀ nodes rest count i₀ t7 out i = count - i
 
 pub show-watched-spec : {M : Type 1} → statement M
 show-watched-spec =
@@ -20,7 +20,6 @@ show-watched-spec =
     (λ c. search needs)
     (λ c κs. search needs)
     (λ c. search needs)
-    (λ c κs. search needs)
     (λ c κs. search needs)
     (λ c. search needs)
     (λ c. search needs)

@@ -2,7 +2,9 @@
 -- Assumes nothing.
 use denote.Ref.{now}
 use borrow.Author.Needs.{needs}
-use Rattle.tick.proofs.DeadlineLaws.{loses-quiet, lose-ends, lose-goes-on}
+use Rattle.tick.proofs.DeadlineLaws.{loses-quiet}
+use Rattle.head.specs.Words.{headOf}
+use Rattle.tick.proofs.Passings.{lost-ends, lost-goes-on}
 use Rattle.tick.proofs.deadline.lose.Statement.{statement}
 use Rattle.tick.proofs.deadline.lose.Tie as tie
 
@@ -12,17 +14,18 @@ lose-spec =
     (tie.spec
     (λ c κs. search needs)
     (λ c κs.
-    let s = c .before .before .before in
-    loses-quiet (s .before .args .head) (s .soc-timeout .result .head) (s .soc-timeout .result .errors) (s .soc-timeout .ensures))
+    let v3 = c .before .before .before in
+    let v5 = v3 .before .before in
+    loses-quiet (headOf (now (v5 .args .head))) _ (v3 .soc-timeout .result) (v3 .soc-timeout .ensures .loses))
     (λ c.
-    let d = c .before in
-    let s = d .before .before .before .before in
-    let a = s .before .args in
-    lose-ends (a .head) (now (a .queue)) (now (a .history)) (a .time) (s .soc-timeout .result .head) (s .soc-timeout .result .errors) (s .soc-timeout .ensures) (d .deal-all .result) _ _ (d .deal-all .ensures) (c .if1 .taken))
+    let v1 = c .before in
+    let v5 = v1 .before .before .before .before in
+    let v7 = v5 .before .before in
+    lost-ends (now (v7 .args .head)) (now (v7 .args .queue)) (now (v7 .args .history)) (v7 .args .time) (v5 .soc-timeout .result) _ (v5 .soc-timeout .ensures) (v1 .deal-all .result) _ _ _ (v1 .deal-all .ensures) (c .if1 .taken))
     (λ c κs. search needs)
     (λ c.
-    let i = c .before .before in
-    let d = i .before in
-    let s = d .before .before .before .before in
-    let a = s .before .args in
-    lose-goes-on (a .head) (now (a .queue)) (now (a .history)) (a .time) (s .soc-timeout .result .head) (s .soc-timeout .result .errors) (s .soc-timeout .ensures) (d .deal-all .result) _ _ (d .deal-all .ensures) (i .if1 .left) (c .reschedule .result) (c .reschedule .ensures)))
+    let v2 = c .before .before in
+    let v3 = v2 .before in
+    let v7 = v3 .before .before .before .before in
+    let v9 = v7 .before .before in
+    lost-goes-on (now (v9 .args .head)) (now (v9 .args .queue)) (now (v9 .args .history)) (v9 .args .time) (v7 .soc-timeout .result) _ (v7 .soc-timeout .ensures) (v3 .deal-all .result) _ _ _ (v3 .deal-all .ensures) (v2 .if1 .left) _ (c .reschedule .ensures)))

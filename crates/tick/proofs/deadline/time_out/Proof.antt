@@ -1,8 +1,8 @@
 -- `tick::deadline::time_out` meets its contract.
 -- Assumes nothing.
-use mathlib.Core.Path.{refl}
+use denote.Ref.{now}
 use borrow.Author.Needs.{needs}
-use Rattle.tick.proofs.DeadlineLaws.{timed-out, never-out}
+use Rattle.tick.proofs.Turning.{out, never}
 use Rattle.tick.proofs.deadline.time_out.Statement.{statement}
 use Rattle.tick.proofs.deadline.time_out.Tie as tie
 
@@ -11,9 +11,13 @@ time-out-spec =
     tie.close
     (tie.spec
     (λ c κs. search needs)
+    (λ c κs. search needs)
     (λ c.
-    let a = c .before .before .before .args in
-    timed-out (a .head) (c .event-in-tick .result) 0 (a .head .nmt .«basic_ethernet_timeout») refl (c .before .if1 .taken) (c .event-in-tick .ensures))
+    let v2 = c .before .before in
+    let v3 = v2 .before in
+    let v5 = v3 .before .before in
+    out (now (v5 .args .head)) 0 (v3 .timeout-of .result) (v3 .timeout-of .ensures) (v2 .if1 .taken) _ (c .event-in-tick .ensures))
     (λ c.
-    let a = c .before .before .args in
-    never-out (a .head) (a .head) 0 (a .head .nmt .«basic_ethernet_timeout») refl (c .if1 .left)))
+    let v1 = c .before in
+    let v3 = v1 .before .before in
+    never (now (v3 .args .head)) 0 (v1 .timeout-of .result) (v1 .timeout-of .ensures) (c .if1 .left)))

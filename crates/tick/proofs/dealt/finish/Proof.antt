@@ -1,7 +1,8 @@
--- `tick::dealt::finish` meets its contract.
+-- `tick::dealt::finish` meets its contract: an action brings the event Error.
 -- Assumes nothing.
+use denote.Ref.{now}
 use borrow.Author.Needs.{needs}
-use Rattle.tick.proofs.TickLaws.{finish-on, finish-off}
+use Rattle.tick.proofs.Turning.{ends-on, ends-off}
 use Rattle.tick.proofs.dealt.finish.Statement.{statement}
 use Rattle.tick.proofs.dealt.finish.Tie as tie
 
@@ -11,8 +12,9 @@ finish-spec =
     (tie.spec
     (λ c κs. search needs)
     (λ c.
-    let a = c .before .before .args in
-    finish-off (a .head) (a .logged) (a .ended) (c .before .if1 .taken) (c .event-in-tick .result) (c .event-in-tick .ensures))
+    let v2 = c .before .before in
+    let v3 = v2 .before in
+    ends-off (now (v3 .args .head)) (v3 .args .logged) (v3 .args .ended) (v2 .if1 .taken) _ (c .event-in-tick .ensures))
     (λ c.
-    let a = c .before .args in
-    finish-on (a .head) (a .logged) (a .ended) (c .if1 .left)))
+    let v1 = c .before in
+    ends-on (now (v1 .args .head)) (v1 .args .logged) (v1 .args .ended) (c .if1 .left)))

@@ -1,7 +1,8 @@
 -- `tick::heartbeats::beat` meets its contract: counted, and registered on a signal.
 -- Assumes nothing.
+use denote.Ref.{now}
 use borrow.Author.Needs.{needs}
-use Rattle.tick.proofs.Beats.{beat-signalled, beat-unsignalled}
+use Rattle.tick.proofs.Beatings.{beat-loud, beat-quiet}
 use Rattle.tick.proofs.heartbeats.beat.Statement.{statement}
 use Rattle.tick.proofs.heartbeats.beat.Tie as tie
 
@@ -10,20 +11,26 @@ beat-spec =
     tie.close
     (tie.spec
     (λ c κs. search needs)
+    (λ c. search needs)
     (λ c κs. search needs)
     (λ c κs. search needs)
     (λ c κs. search needs)
-    (λ c.
-    let s = c .before in
-    let n = s .before .before in
-    let r = n .before .before in
-    let a = r .before .before .args in
-    beat-signalled (a .head) (a .w) (r .handle-error .result) (r .handle-error .ensures) (n .acts .result) (n .acts .ensures) (c .finish .result)
-    (s .before .if1 .taken) (s .signal .result) (s .signal .ensures) (c .finish .ensures))
     (λ c κs. search needs)
     (λ c.
-    let n = c .before .before in
-    let r = n .before .before in
-    let a = r .before .before .args in
-    beat-unsignalled (a .head) (a .w) (r .handle-error .result) (r .handle-error .ensures) (n .acts .result) (n .acts .ensures) (c .finish2 .result)
-    (c .before .if1 .left) (c .finish2 .ensures)))
+    let v2 = c .before .before in
+    let v4 = v2 .before .before in
+    let v5 = v4 .before in
+    let v6 = v5 .before in
+    let v8 = v6 .before .before in
+    let v11 = v8 .before .before in
+    λ w x. beat-loud (now (v11 .args .head)) (v8 .whole .ensures) (v11 .args .node) (v6 .handled .result) (v6 .handled .ensures .0) _ (v6 .handled .ensures .1) (v5 .acts .result) (v5 .acts .ensures) (c .finish .result) _ w x
+    (v4 .if1 .taken) _ (v2 .signal .ensures) (c .finish .ensures))
+    (λ c κs. search needs)
+    (λ c.
+    let v2 = c .before .before in
+    let v3 = v2 .before in
+    let v4 = v3 .before in
+    let v6 = v4 .before .before in
+    let v9 = v6 .before .before in
+    λ w x. beat-quiet (now (v9 .args .head)) (v6 .whole .ensures) (v9 .args .node) (v4 .handled .result) (v4 .handled .ensures .0) _ (v4 .handled .ensures .1) (v3 .acts .result) (v3 .acts .ensures) (c .finish2 .result) _ w x
+    (v2 .if1 .left) (c .finish2 .ensures)))

@@ -1,5 +1,6 @@
 -- `tick::heartbeats::heard_by` meets its contract.
 -- Assumes nothing.
+use Rattle.node.specs.Watched.{watchedNode}
 use Rattle.tick.proofs.Beats.{before-idle, before-unheard, before-tested}
 use Rattle.tick.proofs.heartbeats.heard_by.Statement.{statement}
 use Rattle.tick.proofs.heartbeats.heard_by.Tie as tie
@@ -8,13 +9,14 @@ pub heard-by-spec : {M : Type 1} → statement M
 heard-by-spec =
     tie.close
     (tie.spec
-    (λ c. let a = c .before .before .args in before-idle (a .time) (a .w) (c .if1 .taken))
     (λ c.
-    let i = c .before .before in
-    let a = i .before .before .args in
-    before-unheard (a .time) (a .w) (i .if1 .left) (c .if2 .taken))
+    let v1 = c .before in
+    before-idle (v1 .args .time) (watchedNode 0 (v1 .args .timeout) (v1 .args .last-heard)) (c .if1 .taken))
     (λ c.
-    let j = c .before in
-    let i = j .before .before in
-    let a = i .before .before .args in
-    before-tested (a .time) (a .w) (i .if1 .left) (j .if2 .left)))
+    let v1 = c .before in
+    let v2 = v1 .before in
+    before-unheard (v2 .args .time) (watchedNode 0 (v2 .args .timeout) (v2 .args .last-heard)) (v1 .if1 .left) (c .if2 .taken))
+    (λ c.
+    let v1 = c .before in
+    let v2 = v1 .before in
+    before-tested (v2 .args .time) (watchedNode 0 (v2 .args .timeout) (v2 .args .last-heard)) (v1 .if1 .left) (c .if2 .left)))

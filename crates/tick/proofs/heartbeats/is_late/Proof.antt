@@ -1,6 +1,7 @@
 -- `tick::heartbeats::is_late` meets its contract.
 -- Assumes nothing.
 use borrow.Author.Needs.{needs}
+use Rattle.node.specs.Watched.{watchedNode}
 use Rattle.tick.proofs.Beats.{late-unheard, late-idle, late-tested}
 use Rattle.tick.proofs.heartbeats.is_late.Statement.{statement}
 use Rattle.tick.proofs.heartbeats.is_late.Tie as tie
@@ -9,15 +10,16 @@ pub is-late-spec : {M : Type 1} → statement M
 is-late-spec =
     tie.close
     (tie.spec
-    (λ c. let a = c .before .before .args in late-unheard (a .time) (a .w) (c .if1 .taken))
     (λ c.
-    let i = c .before .before in
-    let a = i .before .before .args in
-    late-idle (a .time) (a .w) (i .if1 .left) (c .if2 .taken))
+    let v1 = c .before in
+    late-unheard (v1 .args .time) (watchedNode 0 (v1 .args .timeout) (v1 .args .last-heard)) (c .if1 .taken))
+    (λ c.
+    let v1 = c .before in
+    let v2 = v1 .before in
+    late-idle (v2 .args .time) (watchedNode 0 (v2 .args .timeout) (v2 .args .last-heard)) (v1 .if1 .left) (c .if2 .taken))
     (λ c κs. search needs)
     (λ c.
-    let e = c .before in
-    let j = e .before in
-    let i = j .before .before in
-    let a = i .before .before .args in
-    late-tested (a .time) (a .w) (i .if1 .left) (j .if2 .left) (e .time-since .result) (e .time-since .ensures)))
+    let v1 = c .before in
+    let v2 = v1 .before in
+    let v3 = v2 .before in
+    late-tested (v3 .args .time) (watchedNode 0 (v3 .args .timeout) (v3 .args .last-heard)) (v2 .if1 .left) (v1 .if2 .left) (c .time-since .result) (c .time-since .ensures)))

@@ -1,27 +1,25 @@
 -- `tick::soc::deal_all` meets its contract. The invariant of the walk: what is left gives what the whole gives, and nothing has joined yet.
 -- Assumes nothing.
-use Prim.Native.Nat.{ℕ, _-_, _≤_}
-use mathlib.Core.Path.{_≡_, refl, sym, _∙_}
-use mathlib.Core.Bool.{true}
-use mathlib.Core.List.{List}
-use native.Mathlib.Omega.{arith}
 use denote.Ref.{now}
+use native.Mathlib.Omega.{arith}
 use borrow.Author.Needs.{needs}
+use Prim.Native.Nat.{_-_, _≤_}
+use mathlib.Core.Path.{_≡_, sym, _∙_}
+use mathlib.Core.Bool.{true}
 use Rattle.types.specs.Errors.{reported}
 use Rattle.node.specs.Watched.{allOf}
 use Rattle.tick.specs.Ticks.{isQuiet}
-use Rattle.tick.proofs.TickLaws.{Walking, walk-begins, walk-over, walk-stops, walk-goes-on, two-over, none-left}
+use Rattle.tick.proofs.TickLaws.{two-over, none-left}
+use Rattle.tick.proofs.Dealings.{WalkingIn, walk-begins, walk-over, walk-stops, walk-goes-on}
 use Rattle.tick.proofs.soc.deal_all.Statement.{statement}
 use Rattle.tick.proofs.soc.deal_all.Tie as tie
 
 abbrev Inv-walk : tie.InvT-walk
-Inv-walk queue₀ history₀ errors time dealt₀ i₀ queue history dealt i =
-    Walking time (reported errors) (dealt₀ .head) queue₀ history₀ queue history dealt i
-    × (allOf isQuiet (reported errors) ≡ true)
-    × (i ≤ 2)
+Inv-walk head₀ queue₀ history₀ errors time dealt₀ i₀ head queue history dealt i =
+    WalkingIn time (reported errors) head₀ queue₀ history₀ head queue history dealt i × (allOf isQuiet (reported errors) ≡ true) × (i ≤ 2)
 
 abbrev μ-walk : tie.MeasureT-walk
-μ-walk queue₀ history₀ errors time dealt₀ i₀ queue history dealt i = 2 - i
+μ-walk head₀ queue₀ history₀ errors time dealt₀ i₀ head queue history dealt i = 2 - i
 
 pub deal-all-spec : {M : Type 1} → statement M
 deal-all-spec =
@@ -29,9 +27,7 @@ deal-all-spec =
     (tie.spec
     Inv-walk
     μ-walk
-    (λ c.
-    let a = c .args in
-    (walk-begins (a .time) (reported (a .errors)) (a .head) (now (a .queue)) (now (a .history)) _ refl, c .pre, omega arith))
+    (λ c. (walk-begins (c .args .time) (reported (c .args .errors)) (now (c .args .head)) (now (c .args .queue)) (now (c .args .history)), c .pre, omega arith))
     (λ c κs. search needs)
     (λ c. search needs)
     (λ c. search needs)
@@ -39,32 +35,32 @@ deal-all-spec =
     (λ c. search needs)
     (λ c. search needs)
     (λ c.
-    let d = c .before in
-    let f = d .before .before .before .before .before in
-    let e = f .before .before in
-    let v = e .before .before in
-    let a = v .before .args in (
-      walk-goes-on (a .time) (reported (a .errors)) (a .head) (now (a .queue)) (now (a .history)) (v .walk .queue) (v .walk .history) (v .walk .dealt) (v .walk .i) (v .walk .inv .0)
-          _ (sym (e .error-at .ensures) ∙ f .found .given .1) (d .deal .result) _ _ (d .deal .ensures) (v .walk .inv .1) (c .if1 .left),
-      v .walk .inv .1,
+    let v1 = c .before in
+    let v6 = v1 .before .before .before .before .before in
+    let v8 = v6 .before .before in
+    let v10 = v8 .before .before in
+    let v11 = v10 .before in (
+      walk-goes-on (v11 .args .time) (reported (v11 .args .errors)) (now (v11 .args .head)) (now (v11 .args .queue)) (now (v11 .args .history)) (v10 .walk .head) (v10 .walk .queue) (v10 .walk .history) (v10 .walk .dealt) (v10 .walk .i) (v10 .walk .inv .0)
+          _ (sym (v8 .error-at .ensures) ∙ v6 .found .given .1) (v1 .deal .result) _ _ _ (v1 .deal .ensures) (v10 .walk .inv .1) (c .if1 .left),
+      v10 .walk .inv .1,
       omega arith,
     ))
     (λ c.
-    let v = c .before in
-    let a = v .before .args in
-    walk-over (a .time) (reported (a .errors)) (a .head) (now (a .queue)) (now (a .history)) (v .walk .queue) (v .walk .history) (v .walk .dealt) (v .walk .i) (v .walk .inv .0)
-    (two-over (a .errors) (v .walk .i) (c .walk-test .left)))
+    let v1 = c .before in
+    let v2 = v1 .before in
+    walk-over (v2 .args .time) (reported (v2 .args .errors)) (now (v2 .args .head)) (now (v2 .args .queue)) (now (v2 .args .history)) (v1 .walk .head) (v1 .walk .queue) (v1 .walk .history) (v1 .walk .dealt) (v1 .walk .i) (v1 .walk .inv .0)
+    (two-over (v2 .args .errors) (v1 .walk .i) (c .walk-test .left)))
     (λ c.
-    let e = c .before .before in
-    let v = e .before .before in
-    let a = v .before .args in
-    walk-over (a .time) (reported (a .errors)) (a .head) (now (a .queue)) (now (a .history)) (v .walk .queue) (v .walk .history) (v .walk .dealt) (v .walk .i) (v .walk .inv .0)
-    (none-left (reported (a .errors)) (v .walk .i) (sym (e .error-at .ensures) ∙ c .enum-told .given .1)))
+    let v2 = c .before .before in
+    let v4 = v2 .before .before in
+    let v5 = v4 .before in
+    walk-over (v5 .args .time) (reported (v5 .args .errors)) (now (v5 .args .head)) (now (v5 .args .queue)) (now (v5 .args .history)) (v4 .walk .head) (v4 .walk .queue) (v4 .walk .history) (v4 .walk .dealt) (v4 .walk .i) (v4 .walk .inv .0)
+    (none-left (reported (v5 .args .errors)) (v4 .walk .i) (sym (v2 .error-at .ensures) ∙ c .enum-told .given .1)))
     (λ c.
-    let d = c .before in
-    let f = d .before .before .before .before .before in
-    let e = f .before .before in
-    let v = e .before .before in
-    let a = v .before .args in
-    walk-stops (a .time) (reported (a .errors)) (a .head) (now (a .queue)) (now (a .history)) (v .walk .queue) (v .walk .history) (v .walk .dealt) (v .walk .i) (v .walk .inv .0)
-    _ (sym (e .error-at .ensures) ∙ f .found .given .1) (d .deal .result) _ _ (d .deal .ensures) (c .if1 .taken)))
+    let v1 = c .before in
+    let v6 = v1 .before .before .before .before .before in
+    let v8 = v6 .before .before in
+    let v10 = v8 .before .before in
+    let v11 = v10 .before in
+    walk-stops (v11 .args .time) (reported (v11 .args .errors)) (now (v11 .args .head)) (now (v11 .args .queue)) (now (v11 .args .history)) (v10 .walk .head) (v10 .walk .queue) (v10 .walk .history) (v10 .walk .dealt) (v10 .walk .i) (v10 .walk .inv .0)
+    _ (sym (v8 .error-at .ensures) ∙ v6 .found .given .1) (v1 .deal .result) _ _ _ (v1 .deal .ensures) (c .if1 .taken)))

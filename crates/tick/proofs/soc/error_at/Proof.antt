@@ -1,6 +1,5 @@
 -- `tick::soc::error_at` meets its contract.
 -- Assumes nothing.
-use mathlib.Core.Path.{sym, ap, _∙_}
 use borrow.Author.Needs.{needs}
 use Rattle.tick.proofs.TickLaws.{no-error, only-error, only-none, first-error, second-error, two-none}
 use Rattle.tick.proofs.soc.error_at.Statement.{statement}

@@ -1,13 +1,16 @@
 -- `tick::soc::queue_entry` meets its contract: the entry joins queue and history, or no byte is written.
 -- Assumes nothing.
-use mathlib.Core.Path.{sym, ap, _∙_}
 use denote.Ref.{now}
 use borrow.Author.Needs.{needs}
+use mathlib.Core.Path.{ap, ap₂, _∙_}
+use mathlib.Core.List.{List}
+use Prim.Native.Nat.{ℕ}
 use Rattle.entries.specs.Entry.{crossing}
-use Rattle.entries.specs.Queue.{pushedBytes}
-use Rattle.entries.specs.History.{joinedBytes}
+use Rattle.entries.specs.Queue.{pushed, pushedBytes}
+use Rattle.entries.specs.History.{joined, joinedBytes}
 use Rattle.entries.proofs.Entries.{crossing-fits}
-use Rattle.tick.proofs.TickLaws.{entry-kept, entry-dropped}
+use Rattle.head.specs.Written.{queueWritten, historyWritten}
+use Rattle.tick.proofs.Dealings.{enters, drops}
 use Rattle.tick.proofs.soc.queue_entry.Statement.{statement}
 use Rattle.tick.proofs.soc.queue_entry.Tie as tie
 
@@ -21,29 +24,42 @@ queue-entry-spec =
     (λ c κs. search needs)
     (λ c κs. search needs)
     (λ c κs. search needs)
-    (λ c.
-    let n = c .before in
-    let i = n .before .before .before .before in
-    let p = i .before .before in
-    let o = p .before .before .before in
-    let l = o .before .before .before .before in
-    let a = l .before .before .before .args in
-    let q = now (a .queue) in
-    let m = now (a .history) in
-    entry-kept (a .head) q m _ (crossing (a .error) (a .time)) (p .push-back .result) (p .push-back .ensures .0)
-    (p .push-back .ensures .1 ∙ ap (pushedBytes q (a .head .queue)) (o .of-crossing .ensures))
-    (l .long .ensures) (o .before .long2 .ensures) (crossing-fits (a .error) (a .time)) (i .if1 .taken)
-    (n .before .write-error-to-history .result) _
-    (n .before .write-error-to-history .ensures .0, n .before .write-error-to-history .ensures .1 ∙ ap (joinedBytes m (a .head .history)) (o .of-crossing .ensures))
-    (n .increment-counter .result) (n .increment-counter .ensures))
+    (λ c κs. search needs)
+    (λ c κs. search needs)
+    (λ c κs. search needs)
+    (λ c κs. search needs)
     (λ c κs. search needs)
     (λ c.
-    let i = c .before in
-    let p = i .before .before in
-    let o = p .before .before .before in
-    let l = o .before .before .before .before in
-    let a = l .before .before .before .args in
-    let q = now (a .queue) in
-    entry-dropped (a .head) q (now (a .history)) _ (crossing (a .error) (a .time)) (p .push-back .result) (p .push-back .ensures .0)
-    (p .push-back .ensures .1 ∙ ap (pushedBytes q (a .head .queue)) (o .of-crossing .ensures))
-    (l .long .ensures) (i .if1 .left) (c .increment-counter2 .result) (c .increment-counter2 .ensures)))
+    let v2 = c .before .before in
+    let v4 = v2 .before .before in
+    let v7 = v4 .before .before .before in
+    let v8 = v7 .before in
+    let v11 = v8 .before .before .before in
+    let v12 = v11 .before in
+    let v14 = v12 .before .before in
+    let v16 = v14 .before .before in
+    let v17 = v16 .before in
+    let v20 = v17 .before .before .before in
+    let v23 = v20 .before .before .before in
+    let v26 = v23 .before .before in
+    enters (now (v26 .args .head)) (v23 .whole .ensures) (now (v26 .args .queue)) (now (v26 .args .history)) _ (crossing (v26 .args .error) (v26 .args .time)) (v12 .push-back .result)
+    (v12 .push-back .ensures .0 ∙ ap pushed (v14 .queue-of .ensures))
+    (v12 .push-back .ensures .1 ∙ ap₂ (pushedBytes (now (v26 .args .queue))) (v14 .queue-of .ensures) (v16 .of-crossing .ensures)) (v20 .long .ensures) (v17 .long2 .ensures) (crossing-fits (v26 .args .error) (v26 .args .time)) (v11 .if1 .taken)
+    (v7 .write-error-to-history .result) _ (
+      v7 .write-error-to-history .ensures .0 ∙ ap joined (v8 .history-of .ensures),
+      v7 .write-error-to-history .ensures .1 ∙ ap₂ (joinedBytes (now (v26 .args .history))) (v8 .history-of .ensures) (v16 .of-crossing .ensures),
+    )
+    _ (c .set-history .ensures ∙ ap (λ (l : List ℕ). historyWritten l (v7 .write-error-to-history .result))
+    (v2 .set-queue .ensures ∙ ap (λ (l : List ℕ). queueWritten l (v12 .push-back .result .queue)) (v4 .increment-counter .ensures))))
+    (λ c κs. search needs)
+    (λ c.
+    let v2 = c .before .before in
+    let v3 = v2 .before in
+    let v5 = v3 .before .before in
+    let v7 = v5 .before .before in
+    let v11 = v7 .before .before .before .before in
+    let v14 = v11 .before .before .before in
+    let v17 = v14 .before .before in
+    drops (now (v17 .args .head)) (v14 .whole .ensures) (now (v17 .args .queue)) (now (v17 .args .history)) _ (crossing (v17 .args .error) (v17 .args .time)) (v3 .push-back .result)
+    (v3 .push-back .ensures .0 ∙ ap pushed (v5 .queue-of .ensures))
+    (v3 .push-back .ensures .1 ∙ ap₂ (pushedBytes (now (v17 .args .queue))) (v5 .queue-of .ensures) (v7 .of-crossing .ensures)) (v11 .long .ensures) (v2 .if1 .left) _ (c .increment-counter2 .ensures)))

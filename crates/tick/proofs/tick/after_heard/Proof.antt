@@ -8,6 +8,10 @@ pub after-heard-spec : {M : Type 1} → statement M
 after-heard-spec =
     tie.close
     (tie.spec
-    (λ c κs. omega (arith, c .before .pre))
-    (λ c. rw (c .before .if1 .taken) (c .not-before .ensures))
+    (λ c κs.
+    let v1 = c .before in
+    omega (arith, v1 .pre))
+    (λ c.
+    let v1 = c .before in
+    rw (v1 .if1 .taken) (c .not-before .ensures))
     (λ c. rw (c .if1 .left)))

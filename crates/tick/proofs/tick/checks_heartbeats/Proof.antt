@@ -1,7 +1,6 @@
 -- `tick::tick::checks_heartbeats` meets its contract.
 -- Assumes nothing.
-use mathlib.Core.Path.{_≡_, ap}
-use Prim.Native.Nat.{ℕ}
+use mathlib.Core.Path.{ap}
 use borrow.Author.Needs.{needs}
 use lib.Dec.{leb}
 use Rattle.tick.proofs.tick.checks_heartbeats.Statement.{statement}

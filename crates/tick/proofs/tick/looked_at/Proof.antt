@@ -1,8 +1,7 @@
 -- `tick::tick::looked_at` meets its contract.
 -- Assumes nothing.
-use mathlib.Core.Path.{ap}
 use native.Mathlib.Omega.{arith}
-use Rattle.node.specs.Watched.{withNodes}
+use mathlib.Core.Path.{refl}
 use Rattle.tick.proofs.tick.looked_at.Statement.{statement}
 use Rattle.tick.proofs.tick.looked_at.Tie as tie
 
@@ -10,6 +9,10 @@ pub looked-at-spec : {M : Type 1} → statement M
 looked-at-spec =
     tie.close
     (tie.spec
-    (λ c κs. omega (arith, c .before .before .pre))
-    (λ c. rw (c .before .before .if1 .taken) (ap (withNodes (c .before .before .before .args .watched)) (c .look-all .ensures)))
-    (λ c. rw (c .if1 .left)))
+    (λ c κs.
+    let v2 = c .before .before in
+    omega (arith, v2 .pre))
+    (λ c.
+    let v2 = c .before .before in
+    rw (v2 .if1 .taken) (c .look-all .ensures))
+    (λ c. rw (c .if1 .left) (refl, refl)))

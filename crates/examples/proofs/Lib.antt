@@ -1,0 +1,6 @@
+pub mod Exact
+pub mod Answering
+pub mod Writing
+pub mod Coming
+pub mod Holding
+pub mod Showing

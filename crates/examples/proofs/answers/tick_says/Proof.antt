@@ -1,0 +1,21 @@
+-- `examples::answers::tick_says` meets its contract: taken or declined.
+-- Assumes nothing.
+use borrow.Author.Needs.{needs}
+use Rattle.examples.proofs.Answering.{tick-taken, tick-refused}
+use Rattle.examples.proofs.answers.tick_says.Statement.{statement}
+use Rattle.examples.proofs.answers.tick_says.Tie as tie
+
+pub tick-says-spec : {M : Type 1} → statement M
+tick-says-spec =
+    tie.close
+    (tie.spec
+    (λ c. search needs)
+    (λ c κs. search needs)
+    (λ c. search needs)
+    (λ c.
+    let v2 = c .before .before in
+    let v4 = v2 .before .before in
+    rw (v2 .answer .given .1) (tick-taken _ (v4 .args .stated) (c .are .ensures)))
+    (λ c.
+    let v2 = c .before .before in
+    rw (c .enum-told .given .1) (tick-refused _ (v2 .args .stated))))

@@ -1,0 +1,4 @@
+pub mod Head
+pub mod Places
+pub mod Words
+pub mod Written

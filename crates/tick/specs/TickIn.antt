@@ -1,0 +1,68 @@
+-- What the parts of the tick leave of a head in words, against the plain tick; and the contract of the tick.
+-- Assumes nothing.
+use Prim.Native.Nat.{ℕ}
+use mathlib.Core.Path.{_≡_}
+use mathlib.Core.Bool.{Bool, not}
+use mathlib.Core.List.{List}
+use Rattle.types.specs.Pick.{pick, both}
+use Rattle.types.specs.Errors.{reported}
+use Rattle.types.specs.declared.frame.error.types.DllErrors.{DllErrors}
+use Rattle.node.specs.Plain.{Plain, Call, Answer, refused, tickAnswer}
+use Rattle.node.specs.Watched.{allOf, wellFormed, watchedOf}
+use Rattle.node.specs.Tick.{Ticked, checksHeartbeats}
+use Rattle.node.specs.Run.{step}
+use Rattle.node.specs.Refines.{plain, left, Becomes, rings, joinsAll, Refines}
+use Rattle.tick.specs.Ticks.{PartLeft, Finishes, Ticks, Loses}
+use Rattle.head.specs.Words.{nmtOf, headOf}
+use Rattle.node.specs.Nodes.{nodesOf, rests}
+use Rattle.node.specs.declared.watched.WatchedNode.{WatchedNode}
+use Rattle.node.specs.declared.watched.Seen.{Seen}
+use Rattle.node.specs.declared.watched.Seen.the-variants as seen
+use Rattle.tick.specs.declared.dealt.Dealt.{Dealt}
+use Rattle.tick.specs.declared.tick.TickAnswer.{TickAnswer}
+use Rattle.tick.specs.declared.tick.TickAnswer.the-variants as answer
+use Rattle.tick.specs.TickWords.{finishedWords, lossWords, lookedWords, tickWords}
+
+-- Of a step f of the tick: the head that the words stand for becomes what f makes of it, queue and history stand where they stood, and the words are
+-- all known.
+pub record Turns (ws : List ℕ) (f : Plain → Plain) (ws′ known : List ℕ) : Type 0 where
+  pub becomes : Becomes (headOf ws) f (headOf ws′)
+  pub words : ws′ ≡ known
+
+-- with the head that the words stand for
+abbrev pub dealtOf : List ℕ → Dealt → PartLeft
+dealtOf ws d = record { head = headOf ws; logged = d .logged; ended = d .ended }
+
+pub record FinishesIn (ws : List ℕ) (es : DllErrors) (ends : Bool) (d : Dealt) (ws′ : List ℕ) : Type 0 where
+  pub finishes : Finishes (headOf ws) es ends (dealtOf ws′ d)
+  pub words : ws′ ≡ finishedWords ends ws
+
+pub record TicksIn (ws q m : List ℕ) (k : Ticked) (d : Dealt) (ws′ q′ m′ known : List ℕ) : Type 0 where
+  pub ticks : Ticks (headOf ws) q m k (dealtOf ws′ d) q′ m′
+  pub words : ws′ ≡ known
+
+pub record LosesIn (ws : List ℕ) (es : DllErrors) (ws′ : List ℕ) : Type 0 where
+  pub loses : Loses (headOf ws) (headOf ws′) es
+  pub words : ws′ ≡ lossWords ws
+
+-- number 3; and of nodes that pass it, whether heartbeats are checked and one does not rest
+abbrev pub rousedOf : Bool → ℕ → List WatchedNode → Seen
+rousedOf c t vs = pick (wellFormed vs) (seen.Formed (both c (not (allOf (rests t) vs)))) seen.Unformed
+
+-- what a tick answers
+abbrev pub tickSaid : TickAnswer → Answer
+tickSaid (answer.Taken es) = tickAnswer (reported es)
+tickSaid (answer.Refused r) = refused r
+
+-- by a declined tick no word is written
+abbrev pub tickLeaves : TickAnswer → List ℕ → List ℕ → List ℕ
+tickLeaves (answer.Taken es) ws ws′ = ws′
+tickLeaves (answer.Refused r) ws ws′ = ws
+
+-- Of a tick at t on the words ws, the memory q and m and the words ns, of which the first k nodes are watched: head, answer and nodes are the
+-- plain head's; every byte of both memories with the places of both rings, every word of the head and every word of the nodes is known.
+pub record TickedIn (ws q m ns : List ℕ) (k t : ℕ) (a : TickAnswer) (ws′ q′ m′ ns′ : List ℕ) : Type 0 where
+  pub refines : Refines (headOf ws) q m (Call.tick t (watchedOf (nodesOf ns) k)) (left (headOf ws′) (tickSaid a)) q′ m′ (watchedOf (nodesOf ns′) k)
+  pub rings : rings (headOf ws′) q′ m′ ≡ joinsAll (rings (headOf ws) q m) (step (plain (headOf ws) q m) (Call.tick t (watchedOf (nodesOf ns) k)) .crossings)
+  pub words : ws′ ≡ tickLeaves a ws (tickWords ws q m t (watchedOf (nodesOf ns) k))
+  pub nodes : ns′ ≡ tickLeaves a ns (pick (checksHeartbeats (nmtOf ws .«current_state»)) (lookedWords t k ns) ns)

@@ -1,0 +1,96 @@
+-- One call of a real function, and a list of them: at each, what that function's contract in src/ ensures, and nothing else. It stands in specs/ so that
+-- the contract of `drive` can cite it.
+-- Assumes nothing.
+use Prim.Native.Nat.{ℕ}
+use mathlib.Core.List.{List, [], _∷_}
+use denote.Ref.{now}
+use Rattle.entries.specs.declared.status_response.FoundEntry.{FoundEntry}
+use Rattle.node.specs.declared.watched.WatchedNode.{WatchedNode}
+use Rattle.node.specs.declared.calls.CallAnswer.{CallAnswer}
+use Rattle.node.specs.Watched.{watchedOf}
+use Rattle.node.specs.Plain.{Call, Answer, taken, cycleAnswer, handOutAnswer}
+use Rattle.node.specs.Run.{Said}
+use Rattle.node.specs.Refines.{historyUpdate}
+use Rattle.node.specs.Nodes.{nodesOf}
+use Rattle.node.specs.InPlace.{said, nmtSaid, dllSaid, errorSaid}
+use Rattle.node.specs.declared.calls.NmtEventAnswer.{NmtEventAnswer}
+use Rattle.node.specs.declared.calls.DllEventAnswer.{DllEventAnswer}
+use Rattle.node.specs.declared.calls.ErrorAnswer.{ErrorAnswer}
+use Rattle.tick.specs.declared.tick.TickAnswer.{TickAnswer}
+use Rattle.tick.specs.TickIn.{tickSaid}
+use Rattle.node.proofs.calls.nmt_event.Reads as nmt-event-reads
+use Rattle.node.proofs.calls.dll_event.Reads as dll-event-reads
+use Rattle.node.proofs.calls.handle_error.Reads as handle-error-reads
+use Rattle.node.proofs.calls.on_cycle_complete.Reads as on-cycle-complete-reads
+use Rattle.node.proofs.calls.withdraw.Reads as withdraw-reads
+use Rattle.node.proofs.calls.hand_out.Reads as hand-out-reads
+use Rattle.node.proofs.calls.arm.Reads as arm-reads
+use Rattle.node.proofs.watched.heard.Reads as heard-reads
+use Rattle.tick.proofs.tick.process_tick.Reads as process-tick-reads
+use Rattle.node.proofs.load.load.Reads as load-reads
+
+abbrev pub says : Answer → List WatchedNode → Said
+says a l = record { answer = a; lent = l }
+
+-- what a call that is lent no watched nodes says
+abbrev pub saysOnly : Answer → Said
+saysOnly a = says a []
+
+-- Of one call: the head's words, its queue's bytes, its history's bytes, the words of the watched nodes that are lent and how many are watched; the call;
+-- what it said; the four after it. A call that is not lent a memory leaves it.
+pub data Made : List ℕ → List ℕ → List ℕ → List ℕ → ℕ → Call → Said → List ℕ → List ℕ → List ℕ → List ℕ → Type 0 where
+  nmtEvent :
+      {q m ns : List ℕ} {k : ℕ} (κs : _) (a : _) (o : NmtEventAnswer) (x : _) →
+      nmt-event-reads.Learnt κs a o x →
+      Made (now (a .0)) q m ns k (Call.nmtEvent (a .1 .0)) (saysOnly (nmtSaid o)) (now (x .0)) q m ns
+  dllEvent :
+      {q m ns : List ℕ} {k : ℕ} (κs : _) (a : _) (o : DllEventAnswer) (x : _) →
+      dll-event-reads.Learnt κs a o x →
+      Made (now (a .0)) q m ns k (Call.dllEvent (a .1 .0) (a .1 .1 .0)) (saysOnly (dllSaid o)) (now (x .0)) q m ns
+  error :
+      {q m ns : List ℕ} {k : ℕ} (κs : _) (a : _) (o : ErrorAnswer) (x : _) →
+      handle-error-reads.Learnt κs a o x →
+      Made (now (a .0)) q m ns k (Call.error (a .1 .0) (a .1 .1 .0) (a .1 .1 .1 .0)) (saysOnly (errorSaid o)) (now (x .0)) q m ns
+  cycleComplete :
+      {q m ns : List ℕ} {k : ℕ} (κs : _) (a : _) (o : _) (x : _) →
+      on-cycle-complete-reads.Learnt κs a o x →
+      Made (now (a .0)) q m ns k Call.cycleComplete (saysOnly (cycleAnswer o)) (now (x .0)) q m ns
+  withdraw :
+      {q m ns : List ℕ} {k : ℕ} (κs : _) (a : _) (o : CallAnswer) (x : _) →
+      withdraw-reads.Learnt κs a o x →
+      Made (now (a .0)) q m ns k Call.withdraw (saysOnly (said o)) (now (x .0)) q m ns
+  heard :
+      {ws q m : List ℕ} (κs : _) (a : _) (o : CallAnswer) (x : _) →
+      heard-reads.Learnt κs a o x →
+      Made ws q m (now (a .0)) (a .1 .0) (Call.heard (a .1 .1 .0) (a .1 .1 .1 .0) (watchedOf (nodesOf (now (a .0))) (a .1 .0)))
+      (says (said o) (watchedOf (nodesOf (now (x .0))) (a .1 .0))) ws q m (now (x .0))
+  handOut :
+      {m ns : List ℕ} {k : ℕ} (κs : _) (a : _) (o : FoundEntry) (x : _) →
+      hand-out-reads.Learnt κs a o x →
+      Made (now (a .0)) (now (a .1 .0)) m ns k Call.handOut (saysOnly (handOutAnswer o)) (now (x .0)) (now (a .1 .0)) m ns
+  load :
+      {q ns : List ℕ} {k : ℕ} (κs : _) (a : _) (o : _) (x : _) →
+      load-reads.Learnt κs a o x →
+      Made (now (a .0)) q (now (a .1 .0)) ns k (Call.load (a .1 .1 .0) (historyUpdate (a .1 .1 .1 .0) (now (a .1 .1 .1 .1 .0))))
+      (saysOnly taken) (now (x .0)) q (now (x .1 .0)) ns
+  arm :
+      {q m ns : List ℕ} {k : ℕ} (κs : _) (a : _) (o : CallAnswer) (x : _) →
+      arm-reads.Learnt κs a o x →
+      Made (now (a .0)) q m ns k (Call.arm (a .1 .0)) (saysOnly (said o)) (now (x .0)) q m ns
+  tick :
+      (κs : _) (a : _) (o : TickAnswer) (x : _) →
+      process-tick-reads.Learnt κs a o x →
+      Made (now (a .0)) (now (a .1 .0)) (now (a .1 .1 .0)) (now (a .1 .1 .1 .0)) (a .1 .1 .1 .1 .0)
+      (Call.tick (a .1 .1 .1 .1 .1 .0) (watchedOf (nodesOf (now (a .1 .1 .1 .0))) (a .1 .1 .1 .1 .0)))
+      (says (tickSaid o) (watchedOf (nodesOf (now (x .1 .1 .1 .0))) (a .1 .1 .1 .1 .0)))
+      (now (x .0)) (now (x .1 .0)) (now (x .1 .1 .0)) (now (x .1 .1 .1 .0))
+
+-- The head's words, its queue's bytes and its history's bytes before the calls; the calls; what they said; the three after them. Each call is on what the
+-- last one left: "Nobody else writes head, queue or history meanwhile". The watched nodes are lent with each call, whatever they are.
+pub data Driven : List ℕ → List ℕ → List ℕ → List Call → List Said → List ℕ → List ℕ → List ℕ → Type 0 where
+  stop : {ws q m : List ℕ} → Driven ws q m [] [] ws q m
+  next :
+      {ws q m ns ws₁ q₁ m₁ ns₁ ws′ q′ m′ : List ℕ} {k : ℕ} {c : Call} {s : Said} {cs : List Call} {ss : List Said} →
+      Made ws q m ns k c s ws₁ q₁ m₁ ns₁ →
+      Driven ws₁ q₁ m₁ cs ss ws′ q′ m′ →
+      Driven ws q m (c ∷ cs) (s ∷ ss) ws′ q′ m′
