@@ -21,7 +21,7 @@ test:
 	@sh tests/documents.sh
 	@echo "Checking the script that replay is run on."
 	@compare/joined.sh --check
-	@echo "Proving every crate, trying the must-fail edits, running the programs (about 15 minutes on two cores)."
+	@echo "Proving every crate, trying the must-fail edits, running the programs (about 22 minutes on two cores)."
 	@rt ci
 
 compare:
