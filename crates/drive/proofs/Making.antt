@@ -11,11 +11,12 @@ use Rattle.types.specs.Errors.{readError}
 use Rattle.entries.specs.declared.status_response.FoundEntry.{FoundEntry}
 use Rattle.node.specs.declared.load.DictionaryUpdate.{DictionaryUpdate}
 use Rattle.node.specs.declared.calls.CallAnswer.{CallAnswer}
-use Rattle.node.specs.Watched.{watchedOf}
+use Rattle.watched.specs.Watched.{watchedOf}
 use Rattle.node.specs.Plain.{Call, taken, cycleAnswer, handOutAnswer}
 use Rattle.node.specs.Refines.{Refines, left, historyUpdate}
 use Rattle.head.specs.Words.{headOf}
-use Rattle.node.specs.Nodes.{nodesOf, Heard}
+use Rattle.watched.specs.Nodes.{nodesOf}
+use Rattle.node.specs.Heard.{Heard}
 use Rattle.node.specs.InPlace.{InPlace, said, nmtSaid, dllSaid, errorSaid, nmtWords, dllWords, errorWords, cycleWords, withdrawWords, armWords, handOutWords}
 use Rattle.node.specs.declared.calls.NmtEventAnswer.{NmtEventAnswer}
 use Rattle.node.specs.declared.calls.DllEventAnswer.{DllEventAnswer}

@@ -8,7 +8,7 @@ use Rattle.node.specs.declared.load.DictionaryUpdate.{DictionaryUpdate}
 use Rattle.node.specs.declared.load.ByteUpdate.the-variants as byte
 use Rattle.node.specs.declared.load.CounterUpdate.the-variants as counter
 use Rattle.node.specs.declared.load.ObjectUpdate.the-variants as object
-use Rattle.node.specs.declared.watched.WatchedNode.{WatchedNode}
+use Rattle.watched.specs.declared.nodes.WatchedNode.{WatchedNode}
 use Rattle.node.specs.Plain.{error, heard, load}
 use Rattle.node.specs.Refines.{historyUpdate}
 use Rattle.drive.specs.Script.{valuesOf, callOf, lentBy, rowAt}

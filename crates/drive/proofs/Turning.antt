@@ -11,7 +11,7 @@ use lib.Seq.{take-all, drop-length}
 use borrow.Author.Tests.{ne-eqb, ltb-true, ltb-false}
 use Rattle.types.specs.Pick.{pick}
 use Rattle.node.specs.declared.load.DictionaryUpdate.{DictionaryUpdate}
-use Rattle.node.specs.declared.watched.WatchedNode.{WatchedNode}
+use Rattle.watched.specs.declared.nodes.WatchedNode.{WatchedNode}
 use Rattle.node.specs.Plain.{Call, nmtEvent, dllEvent, error, cycleComplete, withdraw, heard, handOut, load, arm, tick}
 use Rattle.node.specs.Run.{Said}
 use Rattle.node.specs.Refines.{historyUpdate}

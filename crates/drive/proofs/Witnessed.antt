@@ -7,12 +7,12 @@ use denote.Ref.{now}
 use Rattle.types.specs.declared.refusals.Refusal.{Refusal}
 use Rattle.types.specs.declared.nmt.flags.FeatureFlags.{FeatureFlags}
 use Rattle.head.specs.declared.state.Dictionary.{Dictionary}
-use Rattle.node.specs.Watched.{watchedOf}
+use Rattle.watched.specs.Watched.{watchedOf}
 use Rattle.node.specs.Plain.{Call, Start}
 use Rattle.node.specs.Run.{Said}
 use Rattle.node.specs.Refines.{startOf}
 use Rattle.head.specs.Words.{headOf}
-use Rattle.node.specs.Nodes.{nodesOf}
+use Rattle.watched.specs.Nodes.{nodesOf}
 use Rattle.node.specs.declared.calls.CallAnswer.{CallAnswer}
 use Rattle.node.specs.declared.calls.CallAnswer.the-variants as answer
 use Rattle.trace.specs.Claim.{Claim}

@@ -17,12 +17,12 @@ use Rattle.node.specs.declared.load.CounterUpdate.the-variants as counter
 use Rattle.node.specs.declared.load.ObjectUpdate.{ObjectUpdate}
 use Rattle.node.specs.declared.load.ObjectUpdate.the-variants as object
 use Rattle.node.specs.declared.load.DictionaryUpdate.{DictionaryUpdate}
-use Rattle.node.specs.declared.watched.WatchedNode.{WatchedNode}
-use Rattle.node.specs.Watched.{watchedOf}
+use Rattle.watched.specs.declared.nodes.WatchedNode.{WatchedNode}
+use Rattle.watched.specs.Watched.{watchedOf}
 use Rattle.node.specs.Plain.{Call, nmtEvent, dllEvent, error, cycleComplete, withdraw, heard, handOut, load, arm, tick, Answer, refused, taken, nmtAnswer, dllAnswer, errorAnswer, cycleAnswer, handOutAnswer, tickAnswer}
 use Rattle.node.specs.Run.{Said}
 use Rattle.node.specs.Refines.{historyUpdate}
-use Rattle.node.specs.Nodes.{nodesOf}
+use Rattle.watched.specs.Nodes.{nodesOf}
 use Rattle.node.specs.declared.calls.CallAnswer.{CallAnswer}
 use Rattle.node.specs.declared.calls.CallAnswer.the-variants as answer
 use Rattle.node.specs.Started.{StartedIn}

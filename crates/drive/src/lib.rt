@@ -6,9 +6,9 @@ ghost use Prim.Native.Nat.{ℕ, _+_, _*_, _<_};
 ghost use lib.Dec.{ltb};
 ghost use lib.ListN.{length, set};
 ghost use Rattle.types.specs.Pick.{pick};
-ghost use Rattle.node.specs.Watched.{watchedOf};
+ghost use Rattle.watched.specs.Watched.{watchedOf};
 ghost use Rattle.node.specs.Plain.{Call};
-ghost use Rattle.node.specs.Nodes.{nodesOf};
+ghost use Rattle.watched.specs.Nodes.{nodesOf};
 ghost use Rattle.node.specs.InPlace.{said};
 ghost use Rattle.drive.specs.Script.{byteOf, wordOf, byteUpdate, counterUpdate, objectUpdate, valuesOf, callOf, lentBy, rowAt, numberOf, Turned, Plays, lent, PlayedAll, Replayed};
 use head::state::Dictionary;
@@ -25,17 +25,17 @@ use node::calls::handle_error;
 use node::calls::nmt_event;
 use node::calls::on_cycle_complete;
 use node::calls::withdraw;
+use node::heard::heard;
 use node::load::ByteUpdate;
 use node::load::CounterUpdate;
 use node::load::DictionaryUpdate;
 use node::load::ObjectUpdate;
 use node::load::load;
 use node::start::start;
-use node::watched::NodeWords;
-use node::watched::heard;
 use tick::tick::TickAnswer;
 use tick::tick::process_tick;
 use types::nmt::flags::FeatureFlags;
+use watched::nodes::NodeWords;
 
 // A row of a script: which call, and its arguments; of tag 10, a watched node that is lent next.
 pub struct Row {

@@ -19,12 +19,13 @@ use Rattle.types.specs.declared.frame.error.types.DllErrorRead.the-variants as 
 use Rattle.types.specs.declared.refusals.Refusal.{Refusal}
 use Rattle.entries.specs.Ring.{listed}
 use Rattle.head.specs.Words.{headOf}
-use Rattle.node.specs.declared.watched.WatchedNode.{WatchedNode}
+use Rattle.watched.specs.declared.nodes.WatchedNode.{WatchedNode}
 use Rattle.node.specs.declared.calls.CallAnswer.{CallAnswer}
 use Rattle.node.specs.Plain.{Plain, Call, Answer, taken, cycleAnswer, Step}
 use Rattle.node.specs.Steps.{Test, tried, withNmt, answers, declines, nmtStep, dllStep, errorStep, withdrawn, withdrawTests, heardTests}
-use Rattle.node.specs.Watched.{heardAt, watchedOf, watchedNode}
-use Rattle.node.specs.Nodes.{nodesOf, Heard}
+use Rattle.watched.specs.Watched.{heardAt, watchedOf, watchedNode}
+use Rattle.watched.specs.Nodes.{nodesOf}
+use Rattle.node.specs.Heard.{Heard}
 use Rattle.node.specs.Run.{step}
 use Rattle.node.specs.Refines.{plain, rings, joinsAll}
 use Rattle.node.specs.InPlace.{InPlace, said}

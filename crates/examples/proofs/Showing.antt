@@ -14,13 +14,13 @@ use Rattle.entries.specs.declared.emergency_queue.EmergencyQueue.{EmergencyQueu
 use Rattle.entries.specs.declared.error_history.ErrorHistory.{ErrorHistory}
 use Rattle.head.specs.declared.state.Dictionary.{Dictionary}
 use Rattle.head.specs.Words.{errorsOf, queueOf, historyOf, headOf}
-use Rattle.node.specs.declared.watched.WatchedNode.{WatchedNode}
+use Rattle.watched.specs.declared.nodes.WatchedNode.{WatchedNode}
 use Rattle.node.specs.declared.calls.CallAnswer.{CallAnswer}
 use Rattle.node.specs.declared.calls.CallAnswer.the-variants as answer
 use Rattle.node.specs.Plain.{Plain, Call, Answer, taken, Step, begins}
 use Rattle.node.specs.Steps.{fresh, started}
-use Rattle.node.specs.Watched.{wellFormed, watchedOf}
-use Rattle.node.specs.Nodes.{nodesOf}
+use Rattle.watched.specs.Watched.{wellFormed, watchedOf}
+use Rattle.watched.specs.Nodes.{nodesOf}
 use Rattle.node.specs.Run.{step}
 use Rattle.node.specs.Refines.{plain, Rings, rings, joins, joinsAll, startOf}
 use Rattle.node.specs.InPlace.{said}

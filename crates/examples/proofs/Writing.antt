@@ -22,8 +22,8 @@ use Rattle.head.proofs.Laws.{state-back, yes-one, time-back}
 use Rattle.node.specs.Plain.{Plain}
 use Rattle.node.specs.Steps.{plainOf}
 use Rattle.node.specs.Refines.{plain}
-use Rattle.node.specs.Watched.{watchedOf}
-use Rattle.node.specs.Nodes.{nodesOf}
+use Rattle.watched.specs.Watched.{watchedOf}
+use Rattle.watched.specs.Nodes.{nodesOf}
 use Rattle.node.specs.Examples.{values, countersOf, resting, counting, cycling, crossing, watching}
 use Rattle.examples.specs.Shown.{placed, Stands, restingWords}
 

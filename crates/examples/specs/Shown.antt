@@ -17,7 +17,7 @@ use Rattle.head.specs.Head.{Head, ofParts}
 use Rattle.head.specs.Places as at
 use Rattle.head.specs.Words.{headOf}
 use Rattle.head.specs.Written.{nmtWritten, identityWritten, thresholdsWritten, odWritten}
-use Rattle.node.specs.declared.watched.WatchedNode.{WatchedNode}
+use Rattle.watched.specs.declared.nodes.WatchedNode.{WatchedNode}
 use Rattle.node.specs.Plain.{Plain, Call, Answer, taken, Step}
 use Rattle.node.specs.Steps.{answers}
 use Rattle.node.specs.Run.{step}

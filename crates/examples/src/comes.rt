@@ -5,8 +5,8 @@ ghost use mathlib.Core.List.{List, [], _∷_};
 ghost use Rattle.counters.specs.Counters.{incremented};
 ghost use Rattle.head.specs.Words.{errorsOf};
 ghost use Rattle.node.specs.Plain.{Call, taken, cycleAnswer};
-ghost use Rattle.node.specs.Watched.{watchedOf, watchedNode};
-ghost use Rattle.node.specs.Nodes.{nodesOf};
+ghost use Rattle.watched.specs.Watched.{watchedOf, watchedNode};
+ghost use Rattle.watched.specs.Nodes.{nodesOf};
 ghost use Rattle.examples.specs.Same.{Exactly};
 ghost use Rattle.examples.specs.Said.{nmtStated, dllStated, errorStated, tickStated};
 ghost use Rattle.examples.specs.Shown.{Came};
@@ -25,9 +25,9 @@ use node::calls::handle_error;
 use node::calls::nmt_event;
 use node::calls::on_cycle_complete;
 use node::calls::withdraw;
-use node::watched::NodeWords;
-use node::watched::heard;
+use node::heard::heard;
 use tick::tick::process_tick;
+use watched::nodes::NodeWords;
 
 pub fn withdrawn(head: &mut Head, after: &Head) -> bool
     ensures { λ r. ⌜ ((q m : List ℕ) → Came (now (head .entry)) q m Call.withdraw taken (now (after .entry)) (now (head .exit)) q m [] r) ⌝ }

@@ -16,9 +16,9 @@ use crate::heads::resting;
 use crate::heads::values;
 use head::state::Head;
 use node::start::start;
-use node::watched::NodeWords;
 use types::nmt::flags::FeatureFlags;
 use types::nmt::states::NmtState;
+use watched::nodes::NodeWords;
 
 // Fresh, SwReset: five states entered, NotActive.
 pub fn sw_reset(head: &mut Head, after: &mut Head, nodes: &mut NodeWords) -> bool

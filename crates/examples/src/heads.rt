@@ -8,8 +8,8 @@ ghost use Rattle.head.specs.Head.{socWatch};
 ghost use Rattle.head.specs.Places as at;
 ghost use Rattle.head.specs.Words.{headOf};
 ghost use Rattle.head.specs.Written.{socWritten};
-ghost use Rattle.node.specs.Nodes.{nodesOf};
-ghost use Rattle.node.specs.Watched.{watchedOf};
+ghost use Rattle.watched.specs.Nodes.{nodesOf};
+ghost use Rattle.watched.specs.Watched.{watchedOf};
 ghost use Rattle.node.specs.Examples.{machine, values, countersOf, resting, counting, cycling, crossing, watching};
 ghost use Rattle.examples.specs.Shown.{placed, Stands, restingWords};
 use counters::counters::CnErrorCounters;
@@ -36,10 +36,10 @@ use head::state::Head;
 use head::state::ObjectValue;
 use head::state::SocWatch;
 use nmt::cn_state_machine::CnNmtStateMachine;
-use node::watched::NodeWords;
 use types::nmt::flags::FeatureFlags;
 use types::nmt::states::NmtState;
 use types::types::NodeId;
+use watched::nodes::NodeWords;
 
 // The error register and the counters 1, 2, 3 and 5.
 pub fn values(

@@ -10,7 +10,7 @@ mod ticks;
 
 use head::state::Head;
 use libc::STDOUT_FILENO;
-use node::watched::NodeWords;
+use watched::nodes::NodeWords;
 
 fn say(number: u64, same: bool) {
     io::print_decimal(STDOUT_FILENO, number);

@@ -1,7 +1,7 @@
 // The examples of ticks: each with the document's words, as the table states it.
 ghost use Rattle.node.specs.Examples as table;
-ghost use Rattle.node.specs.Nodes.{nodesOf};
-ghost use Rattle.node.specs.Watched.{watchedOf};
+ghost use Rattle.watched.specs.Nodes.{nodesOf};
+ghost use Rattle.watched.specs.Watched.{watchedOf};
 ghost use Rattle.examples.specs.Shown.{Shown};
 use crate::answers::Stated;
 use crate::comes::heard_comes;
@@ -14,7 +14,7 @@ use crate::heads::watching;
 use crate::memory::is_recorded;
 use crate::memory::waits;
 use head::state::Head;
-use node::watched::NodeWords;
+use watched::nodes::NodeWords;
 
 // .. deadline 10,500, tick 10,500: deadline 11,100.
 pub fn early(

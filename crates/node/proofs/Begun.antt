@@ -24,17 +24,17 @@ use Rattle.head.specs.declared.state.Dictionary.{Dictionary}
 use Rattle.head.specs.Head.{dictionary}
 use Rattle.head.specs.declared.state.ObjectValue.{ObjectValue}
 use Rattle.head.specs.declared.state.ObjectValue.the-variants.{Unsigned32, Missing}
-use Rattle.node.specs.declared.watched.WatchedNode.{WatchedNode}
-use Rattle.node.specs.Watched.{wellFormed, noNode, heardNow, watchedOf, unheardFirst}
+use Rattle.watched.specs.declared.nodes.WatchedNode.{WatchedNode}
+use Rattle.watched.specs.Watched.{wellFormed, noNode, heardNow, watchedOf, unheardFirst}
 use Rattle.node.specs.Refines.{freshHead}
-use Rattle.node.proofs.Nodes.{each-turn}
+use Rattle.watched.proofs.Lists.{each-turn}
 use Rattle.node.proofs.Lent.{start-no-node, start-no-room, start-unformed, start-taken}
 use Rattle.head.specs.Places as at
 use Rattle.head.specs.Words.{headOf}
 use Rattle.head.specs.Written.{nmtWritten, identityWritten, thresholdsWritten, odWritten}
-use Rattle.node.specs.Nodes.{nodesOf}
+use Rattle.watched.specs.Nodes.{nodesOf}
 use Rattle.node.specs.declared.calls.CallAnswer.the-variants as answer
-use Rattle.node.proofs.Watching.{places, heard-written}
+use Rattle.watched.proofs.Watching.{places, heard-written}
 use Rattle.node.specs.Started.{freshWords, unheardWords, StartedIn}
 
 -- computed: four cases, by the two objects that may be missing

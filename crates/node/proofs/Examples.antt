@@ -12,7 +12,7 @@ use Rattle.dll.specs.Dll as Dll
 use Rattle.counters.specs.Counters.{replaced, afterError, counted, handled, lowered, anyActive, completed}
 use Rattle.counters.specs.Marks.{errorMarks, cycleMarks}
 use Rattle.entries.specs.Entry.{crossing}
-use Rattle.node.specs.Watched.{wellFormed}
+use Rattle.watched.specs.Watched.{wellFormed}
 use Rattle.node.specs.Steps.{fresh}
 use Rattle.node.specs.Tick.{beat, beatAll, queued, deal, dealAll, socCheck, tickTaken}
 use Rattle.node.specs.Examples.{comesOf, stated, examples}

@@ -2,12 +2,12 @@
 -- Assumes nothing.
 use Prim.Native.Nat.{ℕ, _≤_, _<_, min}
 use mathlib.Core.Path.{_≡_, refl, sym, ap, _∙_}
-use mathlib.Core.Bool.{Bool, true, false, false≢true}
+use mathlib.Core.Bool.{Bool, true, false}
 use mathlib.Core.List.{List, []}
 use native.Mathlib.Omega.{arith}
 use lib.Dec.{leb}
 use lib.ListN.{length, getD, set}
-use borrow.Author.Tests.{le-leb, lt-leb, leb-true}
+use borrow.Author.Tests.{le-leb, lt-leb}
 use Rattle.types.specs.Pick.{pick}
 use Rattle.types.specs.Types.{node, isNode, readNode}
 use Rattle.types.specs.declared.refusals.Refusal.{Refusal}
@@ -21,14 +21,13 @@ use Rattle.dll.specs.declared.cs_state_machine.DllCsState.the-variants.{NonCycl
 use Rattle.counters.specs.Counters.{newCounters}
 use Rattle.entries.specs.Queue.{queue}
 use Rattle.entries.proofs.Lists.{waiting-new, history-new}
-use Rattle.entries.proofs.Rings.{listed-long}
 use Rattle.head.specs.declared.state.Deadline.the-variants.{Nothing}
 use Rattle.head.specs.declared.state.Dictionary.{Dictionary}
 use Rattle.head.specs.Head.{Head}
-use Rattle.node.specs.declared.watched.WatchedNode.{WatchedNode}
+use Rattle.watched.specs.declared.nodes.WatchedNode.{WatchedNode}
 use Rattle.node.specs.declared.calls.CallAnswer.{CallAnswer}
 use Rattle.node.specs.declared.calls.CallAnswer.the-variants as answer
-use Rattle.node.specs.Watched.{inTime, wellFormed, noNode, heardNow, isWatched, heardAt, placeOf, unheard, watchedOf, heardFirst, unheardFirst}
+use Rattle.watched.specs.Watched.{inTime, wellFormed, noNode, heardNow, isWatched, heardAt, placeOf, unheard, watchedOf, heardFirst, unheardFirst}
 use Rattle.node.specs.Plain.{Plain, heard, Start, taken, begins, declined, FirstStep}
 use Rattle.node.specs.Steps.{plainOf, answers, declines, fresh, started}
 use Rattle.head.specs.Head.{socWatch}
@@ -36,19 +35,7 @@ use Rattle.node.specs.Run.{step}
 use Rattle.node.specs.Refines.{plain, left, startOf, freshHead, FreshPlaces, Refines, Begins}
 use Rattle.node.specs.InPlace.{said}
 use Rattle.node.proofs.Laws.{refined}
-use Rattle.node.proofs.Nodes.{watched-there, watched-nowhere, heard-stored, heard-nodes, each-nodes}
-
--- nodes that pass number 3 are at most 32
-pub few : (ns : List WatchedNode) (k : ℕ) (b : Bool) → b ≡ wellFormed (watchedOf ns k) → b ≡ true → k ≤ 32
-unfolding wellFormed
-few ns k b e t = by (leb k 32) refl (sym e ∙ t)
-  where
-    long : length (watchedOf ns k) ≡ k
-    long = listed-long (λ (i : ℕ). getD ns i noNode) k
-
-    by : (b : Bool) → leb k 32 ≡ b → wellFormed (watchedOf ns k) ≡ true → k ≤ 32
-    by true h w = leb-true k 32 h
-    by false h w = absurd (false≢true (rw (long, h) at w))
+use Rattle.watched.proofs.Lists.{watched-there, watched-nowhere, heard-stored, heard-nodes, each-nodes, few}
 
 -- heard: numbers 3, 5 and 7
 module _ (ns : List WatchedNode) (k n t : ℕ) where

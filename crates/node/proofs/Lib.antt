@@ -1,8 +1,7 @@
-pub mod Nodes
 pub mod Lent
 pub mod Laws
 pub mod Refining
-pub mod Watching
+pub mod Hearing
 pub mod Begun
 pub mod Loading
 pub mod Links

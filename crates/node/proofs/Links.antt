@@ -8,11 +8,11 @@ use denote.Ref.{now}
 use Rattle.entries.specs.declared.status_response.FoundEntry.{FoundEntry}
 use Rattle.head.specs.Head.{Head}
 use Rattle.node.specs.declared.calls.CallAnswer.{CallAnswer}
-use Rattle.node.specs.Watched.{watchedOf}
+use Rattle.watched.specs.Watched.{watchedOf}
 use Rattle.node.specs.Plain.{Call, taken, cycleAnswer, handOutAnswer}
 use Rattle.node.specs.Refines.{Refines, left, historyUpdate, startOf, Begins}
 use Rattle.head.specs.Words.{headOf}
-use Rattle.node.specs.Nodes.{nodesOf}
+use Rattle.watched.specs.Nodes.{nodesOf}
 use Rattle.node.specs.InPlace.{said, unlessRefused, nmtSaid, dllSaid, errorSaid}
 use Rattle.node.specs.declared.calls.NmtEventAnswer.{NmtEventAnswer}
 use Rattle.node.specs.declared.calls.DllEventAnswer.{DllEventAnswer}
@@ -25,7 +25,7 @@ use Rattle.node.proofs.calls.on_cycle_complete.Reads as on-cycle-comple
 use Rattle.node.proofs.calls.withdraw.Reads as withdraw-reads
 use Rattle.node.proofs.calls.hand_out.Reads as hand-out-reads
 use Rattle.node.proofs.calls.arm.Reads as arm-reads
-use Rattle.node.proofs.watched.heard.Reads as heard-reads
+use Rattle.node.proofs.heard.heard.Reads as heard-reads
 use Rattle.node.proofs.load.load.Reads as load-reads
 use Rattle.node.proofs.start.start.Reads as start-reads
 

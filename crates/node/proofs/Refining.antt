@@ -45,7 +45,7 @@ use Rattle.entries.proofs.Lists.{handed-capacity}
 use Rattle.head.specs.Head.{Head}
 use Rattle.head.specs.declared.state.SocWatch.{SocWatch}
 use Rattle.node.specs.Plain.{Call, nmtEvent, dllEvent, error, cycleComplete, withdraw, handOut, arm, Answer, refused, taken, nmtAnswer, dllAnswer, errorAnswer, cycleAnswer, handOutAnswer}
-use Rattle.node.specs.Watched.{inTime}
+use Rattle.watched.specs.Watched.{inTime}
 use Rattle.node.specs.Steps.{armed}
 use Rattle.node.specs.Refines.{left, Refines}
 use Rattle.node.proofs.Laws.{Alone, nmt-taken, nmt-refused, dll-taken, dll-refused, error-taken, error-refused, cycle-taken, withdraw-taken, withdraw-refused, arm-taken, arm-refused, hand-out-taken}

@@ -23,8 +23,8 @@ use Rattle.entries.specs.declared.status_response.ErrorEntryMode.the-variants.{
 use Rattle.head.specs.declared.state.Deadline.the-variants.{At, Nothing}
 use Rattle.head.specs.declared.state.ObjectValue.the-variants.{Unsigned32}
 use Rattle.head.specs.declared.state.Dictionary.{Dictionary}
-use Rattle.node.specs.declared.watched.WatchedNode.{WatchedNode}
-use Rattle.node.specs.Watched.{watchedNode}
+use Rattle.watched.specs.declared.nodes.WatchedNode.{WatchedNode}
+use Rattle.watched.specs.Watched.{watchedNode}
 use Rattle.node.specs.Plain.{Plain, Call, nmtEvent, dllEvent, error, cycleComplete, withdraw, heard, tick, Start, Answer, taken, nmtAnswer, dllAnswer, errorAnswer, cycleAnswer, tickAnswer, Step}
 use Rattle.node.specs.Steps.{plainOf, fresh}
 use Rattle.head.specs.Head.{socWatch}

@@ -22,7 +22,7 @@ use Rattle.counters.specs.Counters as Counters
 use Rattle.counters.specs.declared.counters.HandledError.{HandledError}
 use Rattle.entries.specs.Queue.{handedOut}
 use Rattle.node.specs.Plain.{Call, Answer, refused, taken, nmtAnswer, dllAnswer, errorAnswer}
-use Rattle.node.specs.Watched.{inTime}
+use Rattle.watched.specs.Watched.{inTime}
 use Rattle.node.specs.Steps.{armed}
 use Rattle.node.specs.Refines.{Refines, SamePlaces, left}
 use Rattle.node.specs.declared.calls.CallAnswer.{CallAnswer}

@@ -1,4 +1,3 @@
-pub mod Watched
 pub mod Plain
 pub mod Steps
 pub mod Tick
@@ -6,6 +5,6 @@ pub mod Run
 pub mod Examples
 pub mod Refines
 pub mod InPlace
-pub mod Nodes
+pub mod Heard
 pub mod Started
 pub mod Loaded

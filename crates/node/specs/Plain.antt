@@ -16,7 +16,7 @@ use Rattle.entries.specs.declared.status_response.FoundEntry.{FoundEntry}
 use Rattle.head.specs.declared.state.SocWatch.{SocWatch}
 use Rattle.head.specs.declared.state.Dictionary.{Dictionary}
 use Rattle.node.specs.declared.load.DictionaryUpdate.{DictionaryUpdate}
-use Rattle.node.specs.declared.watched.WatchedNode.{WatchedNode}
+use Rattle.watched.specs.declared.nodes.WatchedNode.{WatchedNode}
 
 -- "Kept of CnContext": the two machines, the error counters, the last SoC time, the check, the deadline and
 -- error_status_changed; "Dictionary values kept"; the emergency queue with its capacity; the history

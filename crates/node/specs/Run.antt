@@ -7,8 +7,8 @@ use Rattle.types.specs.Errors.{readError}
 use Rattle.types.specs.declared.refusals.Refusal.the-variants.{TimeLimit}
 use Rattle.counters.specs.Counters.{completed}
 use Rattle.counters.specs.Marks.{cycleMarks}
-use Rattle.node.specs.declared.watched.WatchedNode.{WatchedNode}
-use Rattle.node.specs.Watched.{inTime, heardAt}
+use Rattle.watched.specs.declared.nodes.WatchedNode.{WatchedNode}
+use Rattle.watched.specs.Watched.{inTime, heardAt}
 use Rattle.node.specs.Plain.{Plain, Call, nmtEvent, dllEvent, error, cycleComplete, withdraw, heard, handOut, load, arm, tick, Answer, taken, Step}
 use Rattle.node.specs.Steps.{must, tried, withNmt, withSoc, withValues, answers, declines, nmtStep, dllStep, errorStep, cycleTaken, withdrawn, withdrawTests, heardTests, handOutStep, updated, updatedHistory, armed}
 use Rattle.node.specs.Tick.{tickStep}

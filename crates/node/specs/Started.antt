@@ -10,12 +10,12 @@ use Rattle.types.specs.declared.nmt.flags.FeatureFlags.{FeatureFlags}
 use Rattle.nmt.specs.Nmt as Nmt
 use Rattle.counters.specs.Counters.{newCounters}
 use Rattle.head.specs.declared.state.Dictionary.{Dictionary}
-use Rattle.node.specs.Watched.{watchedOf}
+use Rattle.watched.specs.Watched.{watchedOf}
 use Rattle.node.specs.Refines.{startOf, FreshPlaces, Begins}
 use Rattle.head.specs.Places as at
 use Rattle.head.specs.Words.{headOf}
 use Rattle.head.specs.Written.{nmtWritten, identityWritten, thresholdsWritten, odWritten}
-use Rattle.node.specs.Nodes.{nodesOf}
+use Rattle.watched.specs.Nodes.{nodesOf}
 use Rattle.node.specs.declared.calls.CallAnswer.{CallAnswer}
 use Rattle.node.specs.InPlace.{unlessRefused}
 

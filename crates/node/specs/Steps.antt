@@ -44,8 +44,8 @@ use Rattle.node.specs.declared.load.CounterUpdate.the-variants as counte
 use Rattle.node.specs.declared.load.ObjectUpdate.{ObjectUpdate}
 use Rattle.node.specs.declared.load.ObjectUpdate.the-variants as object
 use Rattle.node.specs.declared.load.DictionaryUpdate.{DictionaryUpdate}
-use Rattle.node.specs.declared.watched.WatchedNode.{WatchedNode}
-use Rattle.node.specs.Watched.{inTime, wellFormed, isWatched, unheard}
+use Rattle.watched.specs.declared.nodes.WatchedNode.{WatchedNode}
+use Rattle.watched.specs.Watched.{inTime, wellFormed, isWatched, unheard}
 use Rattle.node.specs.Plain.{Plain, HistoryUpdate, set, keep, Start, Answer, refused, nmtAnswer, dllAnswer, errorAnswer, cycleAnswer, handOutAnswer, Step, begins, declined, FirstStep}
 
 -- A test that a call makes, and the number that declines it otherwise.

@@ -30,8 +30,8 @@ use Rattle.head.specs.declared.state.Deadline.{Deadline}
 use Rattle.head.specs.declared.state.Deadline.the-variants.{At, Nothing}
 use Rattle.head.specs.declared.state.SocWatch.{SocWatch}
 use Rattle.head.specs.declared.state.Dictionary.{Dictionary}
-use Rattle.node.specs.declared.watched.WatchedNode.{WatchedNode}
-use Rattle.node.specs.Watched.{latest, inTime, allOf, wellFormed, heardNow}
+use Rattle.watched.specs.declared.nodes.WatchedNode.{WatchedNode}
+use Rattle.watched.specs.Watched.{latest, inTime, allOf, wellFormed, heardNow}
 use Rattle.node.specs.Plain.{Plain, tickAnswer, Step}
 use Rattle.node.specs.Steps.{Test, must, tried, plainOf, withNmt, withDll, withErrors, withSoc, declines, cycleOf, toleranceOf, limitOf}
 use Rattle.head.specs.Head.{socWatch}

@@ -13,7 +13,6 @@ ghost use Rattle.head.specs.Places as at;
 ghost use Rattle.head.specs.Words.{counterAt, errorsOf, headOf};
 ghost use Rattle.node.specs.InPlace.{InPlace, said, nmtSaid, dllSaid, errorSaid, replied, effectWords, withdrawWords, nmtWords, dllWords, errorWords, cycleWords, armWords, handOutWords};
 use crate::timing::armed;
-use crate::timing::in_time;
 use counters::counters::CounterKind;
 use counters::counters::ErrorEffect;
 use counters::counters::effect_of;
@@ -49,6 +48,7 @@ use types::nmt::events::NmtEvent;
 use types::nmt::events::NmtEventRead;
 use types::nmt::states::NmtState;
 use types::refusals::Refusal;
+use watched::time::in_time;
 
 // What a call answers: the head stands in the words.
 pub enum CallAnswer {

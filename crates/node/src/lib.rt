@@ -2,7 +2,7 @@
 // that its owner lends, the watched nodes in others, the entries of its queue and its history in bytes; a call writes what it is
 // about and nothing else, and one that is declined writes nothing.
 pub mod calls;
+pub mod heard;
 pub mod load;
 pub mod start;
 pub mod timing;
-pub mod watched;

@@ -1,15 +1,12 @@
 // Start: every word of a fresh head, from the arguments.
 ghost use mathlib.Core.Path.{_≡_};
 ghost use Prim.Native.Nat.{_≤_};
-ghost use Rattle.node.specs.Watched.{unheardFirst};
+ghost use Rattle.watched.specs.Watched.{unheardFirst};
 ghost use Rattle.node.specs.Refines.{freshHead};
 ghost use Rattle.head.specs.Words.{headOf};
-ghost use Rattle.node.specs.Nodes.{nodesOf};
+ghost use Rattle.watched.specs.Nodes.{nodesOf};
 ghost use Rattle.node.specs.Started.{freshWords, unheardWords, StartedIn};
 use crate::calls::CallAnswer;
-use crate::watched::NodeWords;
-use crate::watched::all_places;
-use crate::watched::well_formed;
 use counters::counters::CnErrorCounters;
 use head::parts::byte;
 use head::parts::clear;
@@ -25,6 +22,9 @@ use types::nmt::flags::FeatureFlags;
 use types::refusals::Refusal;
 use types::types::NodeId;
 use types::types::NodeIdRead;
+use watched::nodes::NodeWords;
+use watched::nodes::all_places;
+use watched::nodes::well_formed;
 
 // The words of a fresh head: whatever stood there before is gone.
 fn fresh_head(

@@ -1,21 +1,12 @@
-// The times of a head: which a call takes, how long ago one was, and how the dictionary's values are read as times.
+// The times of a head: how long ago one was, and how the dictionary's values are read as times.
 ghost use mathlib.Core.Path.{_≡_};
 ghost use Prim.Native.Nat.{_-_, _≤_, _/_, min};
-ghost use Rattle.node.specs.Watched.{inTime};
 ghost use Rattle.node.specs.Steps.{valueOr, cycleOf, toleranceOf, limitOf, armed};
 use head::state::Deadline;
 use head::state::Dictionary;
 use head::state::ObjectValue;
 use head::state::SocWatch;
-
-// The latest time that a call takes, in microseconds: 2^62 - 1.
-pub const LATEST_TIME: u64 = 4611686018427387903;
-
-pub fn in_time(time: u64) -> bool
-    ensures { λ r. ⌜ r ≡ inTime time ⌝ }
-{
-    time <= LATEST_TIME
-}
+use watched::time::LATEST_TIME;
 
 // How long ago a moment is, at least 0.
 pub fn time_since(time: u64, moment: u64) -> u64

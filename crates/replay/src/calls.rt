@@ -16,7 +16,7 @@ use crate::values::byte;
 use crate::values::number;
 use crate::values::updates;
 use head::state::Head;
-use node::watched::NodeWords;
+use watched::nodes::NodeWords;
 
 // As many of the first bytes as a load's history has.
 fn front(bytes: &[u8], length: u64) -> &[u8] {
@@ -99,7 +99,7 @@ pub fn make(
 ) {
     match call {
         Line::Heard => {
-            let answer = node::watched::heard(nodes, count, byte(numbers, 0), number(numbers, 1));
+            let answer = node::heard::heard(nodes, count, byte(numbers, 0), number(numbers, 1));
             return say_answer(out, answer);
         }
         Line::Tick => {

@@ -12,7 +12,7 @@ use crate::words::Behind;
 use crate::words::text_at;
 use head::state::Head;
 use libc::STDIN_FILENO;
-use node::watched::NodeWords;
+use watched::nodes::NodeWords;
 
 // The longest line; the longest call, a load of everything, has some 12,500 characters.
 pub type LineBuffer = [u8; 16384];

@@ -1,7 +1,7 @@
 // The run of watched nodes that the watch lines built, three words a record. It may be longer than a head can watch, so that
 // such a run can be tried: the first 32 records stand in the node words that a call is lent, with the count of all.
 use crate::values::Numbers;
-use node::watched::NodeWords;
+use watched::nodes::NodeWords;
 
 // What stands behind the first 32 records.
 pub type Rest = [u64; 24];

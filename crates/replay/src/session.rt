@@ -22,8 +22,8 @@ use crate::values::number;
 use crate::values::word;
 use head::state::Head;
 use node::calls::CallAnswer;
-use node::watched::NodeWords;
 use types::nmt::flags::FeatureFlags;
+use watched::nodes::NodeWords;
 
 pub struct Session {
     // Whether a start was accepted: before that no line reaches the head.

@@ -17,7 +17,7 @@ use head::parts::queue_of;
 use head::parts::soc_of;
 use head::state::Deadline;
 use head::state::Head;
-use node::watched::NodeWords;
+use watched::nodes::NodeWords;
 
 fn show_machines(out: &mut Buffer, head: &Head) {
     let nmt = nmt_of(head);

@@ -19,20 +19,20 @@ use Rattle.types.specs.declared.frame.error.types.DllErrors.the-variants as err
 use Rattle.counters.specs.Counters.{effect, handled}
 use Rattle.counters.specs.declared.counters.HandledError.{HandledError}
 use Rattle.head.specs.Head.{Head}
-use Rattle.node.specs.declared.watched.WatchedNode.{WatchedNode}
-use Rattle.node.specs.Watched.{allOf, ascending, fits, wellFormed, noNode, heardNow, watchedNode, watchedOf}
+use Rattle.watched.specs.declared.nodes.WatchedNode.{WatchedNode}
+use Rattle.watched.specs.Watched.{allOf, ascending, fits, wellFormed, noNode, heardNow, watchedNode, watchedOf}
 use Rattle.node.specs.Tick.{notBefore, isLate, looked, lateOnes, acts, signalled, timeoutOf, beat, beatAll}
 use Rattle.node.specs.Refines.{plain, Becomes}
 use Rattle.head.specs.Head.{with-errors}
-use Rattle.node.proofs.Nodes.{each-turn, from-here, at-end, whole}
+use Rattle.watched.proofs.Lists.{each-turn, from-here, at-end, whole}
 use Rattle.tick.specs.Ticks.{Finishes, lookedFirst}
 use Rattle.tick.proofs.Beats.{beat-signalled, beat-unsignalled, Beating, beats-begin, beats-over, beats-pass, beats-stop, beats-go-on}
 use Rattle.head.specs.Words.{errorsOf, headOf}
-use Rattle.node.specs.Nodes.{nodeAt, nodesOf, rests}
+use Rattle.watched.specs.Nodes.{nodeAt, nodesOf, rests}
 use Rattle.node.specs.InPlace.{replied, effectWords}
 use Rattle.node.specs.declared.calls.ErrorTaken.{ErrorTaken}
 use Rattle.node.proofs.Refining.{effect-written}
-use Rattle.node.proofs.Watching.{places, node-at, heard-written}
+use Rattle.watched.proofs.Watching.{places, node-at, heard-written}
 use Rattle.tick.specs.declared.dealt.Dealt.{Dealt}
 use Rattle.tick.specs.TickWords.{signalWords, lookedTime, lookWords, lookedWords, finishedWords, endsBy, beatWords, beatAllWords}
 use Rattle.tick.specs.TickIn.{Turns, dealtOf, FinishesIn, TicksIn}

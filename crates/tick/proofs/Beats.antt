@@ -18,14 +18,14 @@ use Rattle.counters.specs.Marks.{errorMarks}
 use Rattle.counters.specs.declared.counters.HandledError.{HandledError}
 use Rattle.entries.specs.declared.status_response.ErrorEntry.{ErrorEntry}
 use Rattle.head.specs.Head.{Head}
-use Rattle.node.specs.declared.watched.WatchedNode.{WatchedNode}
-use Rattle.node.specs.Watched.{allOf, watchedOf}
+use Rattle.watched.specs.declared.nodes.WatchedNode.{WatchedNode}
+use Rattle.watched.specs.Watched.{allOf, watchedOf}
 use Rattle.node.specs.Plain.{Plain}
 use Rattle.node.specs.Tick.{Ticked, goesOn, behind, notBefore, isLate, lateOnes, acts, signalled, eventInTick, dealt, beatBy, timeoutOf, beat, beatAll}
 use Rattle.node.specs.Refines.{plain, SamePlaces, Becomes, Rings, rings, joinsAll}
 use Rattle.tick.specs.Ticks.{PartLeft, Finishes, Ticks}
 use Rattle.head.specs.Head.{with-errors}
-use Rattle.node.proofs.Nodes.{from-here, at-end, whole}
+use Rattle.watched.proofs.Lists.{from-here, at-end, whole}
 use Rattle.tick.proofs.TickLaws.{handled-quiet, Alike}
 
 -- the tests of one node, by whether its times are above 0

@@ -20,7 +20,7 @@ use Rattle.dll.specs.declared.cs_state_machine.DllCsState.the-variants.{NonCycl
 use Rattle.types.specs.declared.nmt.states.NmtState.{NmtState}
 use Rattle.entries.specs.Queue.{capacityOf, waiting}
 use Rattle.entries.specs.History.{history}
-use Rattle.node.specs.Watched.{allOf}
+use Rattle.watched.specs.Watched.{allOf}
 use Rattle.types.specs.declared.frame.cs_state_machine.DllCsEvent.the-variants.{SocTimeout}
 use Rattle.head.specs.declared.state.Deadline.the-variants.{At, Nothing}
 use Rattle.head.specs.Head.{Head}

@@ -22,7 +22,7 @@ use Rattle.entries.specs.declared.emergency_queue.Pushed.{Pushed}
 use Rattle.entries.specs.declared.error_history.ErrorHistory.{ErrorHistory}
 use Rattle.entries.proofs.Lists.{pushed-capacity}
 use Rattle.head.specs.Head.{Head}
-use Rattle.node.specs.Watched.{allOf}
+use Rattle.watched.specs.Watched.{allOf}
 use Rattle.node.specs.Steps.{withErrors}
 use Rattle.node.specs.Tick.{acts, oneMore, statistics, counter1, signalled, queued, deal, dealAll}
 use Rattle.node.specs.Refines.{plain, Becomes, rings, joins}

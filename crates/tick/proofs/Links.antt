@@ -2,10 +2,10 @@
 -- Assumes nothing.
 use denote.Ref.{now}
 use Rattle.head.specs.Words.{headOf}
-use Rattle.node.specs.Watched.{watchedOf}
+use Rattle.watched.specs.Watched.{watchedOf}
 use Rattle.node.specs.Plain.{Call}
 use Rattle.node.specs.Refines.{Refines, left}
-use Rattle.node.specs.Nodes.{nodesOf}
+use Rattle.watched.specs.Nodes.{nodesOf}
 use Rattle.tick.specs.declared.tick.TickAnswer.{TickAnswer}
 use Rattle.tick.specs.TickIn.{tickSaid}
 use Rattle.tick.proofs.tick.process_tick.Reads as process-tick-reads

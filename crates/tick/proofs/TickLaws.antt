@@ -40,7 +40,7 @@ use Rattle.node.specs.Refines.{plain, Becomes, Rings, rings, joins, joinsAll}
 use Rattle.tick.specs.Ticks.{PartLeft, Finishes, Ticks, quietEffect, isQuiet, errorAt}
 use Rattle.tick.specs.declared.soc.NextError.{NextError}
 use Rattle.tick.specs.declared.soc.NextError.the-variants as next
-use Rattle.node.specs.Watched.{allOf}
+use Rattle.watched.specs.Watched.{allOf}
 use Rattle.head.specs.Head.{ofParts}
 
 module _ (h : Head) where

@@ -12,8 +12,8 @@ use Rattle.types.specs.declared.refusals.Refusal.the-variants.{WatchedNodes, Ti
 use Rattle.types.specs.declared.frame.error.types.DllError.{DllError}
 use Rattle.entries.specs.declared.status_response.ErrorEntry.{ErrorEntry}
 use Rattle.head.specs.Head.{Head}
-use Rattle.node.specs.declared.watched.WatchedNode.{WatchedNode}
-use Rattle.node.specs.Watched.{inTime, allOf, wellFormed, watchedOf}
+use Rattle.watched.specs.declared.nodes.WatchedNode.{WatchedNode}
+use Rattle.watched.specs.Watched.{inTime, allOf, wellFormed, watchedOf}
 use Rattle.node.specs.Plain.{Plain, tick, Answer, refused, tickAnswer, Step}
 use Rattle.node.specs.Steps.{declines}
 use Rattle.node.specs.Tick.{Ticked, goesOn, behind, checksHeartbeats, notBefore, looked, lateOnes, beat, beatAll, timeoutOf, byDeadline, tickTaken, tickAnswered, lookedAt}
@@ -21,10 +21,10 @@ use Rattle.node.specs.Run.{step}
 use Rattle.node.specs.Refines.{plain, left, rings, joinsAll, Refines}
 use Rattle.tick.specs.Ticks.{PartLeft, Ticks, lookedFirst}
 use Rattle.node.proofs.Laws.{refined}
-use Rattle.node.proofs.Lent.{few}
+use Rattle.watched.proofs.Lists.{few}
 use Rattle.tick.proofs.TickLaws.{handled-quiet}
 use Rattle.tick.proofs.DeadlineLaws.{ticks-as}
-use Rattle.node.proofs.Nodes.{each-nodes}
+use Rattle.watched.proofs.Lists.{each-nodes}
 
 -- heartbeats that end nothing log nothing, and none has an entry
 beat-quiet : (p : Plain) (w : WatchedNode) → beat p w .ended ≡ false → beat p w .logged ≡ []

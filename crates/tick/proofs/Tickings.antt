@@ -7,20 +7,20 @@ use mathlib.Core.Bool.{Bool, true, false, not, true≢false}
 use mathlib.Core.List.{List}
 use Rattle.types.specs.Pick.{pick, both}
 use Rattle.types.specs.declared.refusals.Refusal.the-variants.{WatchedNodes, TimeLimit, BeforeHeard}
-use Rattle.node.specs.declared.watched.WatchedNode.{WatchedNode}
-use Rattle.node.specs.Watched.{inTime, allOf, wellFormed, watchedOf}
+use Rattle.watched.specs.declared.nodes.WatchedNode.{WatchedNode}
+use Rattle.watched.specs.Watched.{inTime, allOf, wellFormed, watchedOf}
 use Rattle.node.specs.Tick.{checksHeartbeats, notBefore, lateOnes, beatAll, byDeadline, tickTaken}
 use Rattle.node.specs.Refines.{plain}
 use Rattle.tick.specs.Ticks.{lookedFirst}
 use Rattle.tick.specs.declared.tick.TickAnswer.the-variants as answer
-use Rattle.node.proofs.Lent.{few}
+use Rattle.watched.proofs.Lists.{few}
 use Rattle.tick.proofs.TickRefines.{tick-idle, tick-ended, tick-goes-on, tick-unformed, tick-late, tick-before, tick-accepted}
 use Rattle.head.specs.Words.{nmtOf, socOf, headOf}
-use Rattle.node.specs.Nodes.{nodesOf, rests}
+use Rattle.watched.specs.Nodes.{nodesOf, rests}
 use Rattle.types.specs.declared.nmt.states.NmtState.{NmtState}
-use Rattle.node.specs.declared.watched.Seen.{Seen}
-use Rattle.node.specs.declared.watched.Seen.the-variants as seen
-use Rattle.node.proofs.Watching.{places, seen-unformed, seen-formed}
+use Rattle.watched.specs.declared.nodes.Seen.{Seen}
+use Rattle.watched.specs.declared.nodes.Seen.the-variants as seen
+use Rattle.watched.proofs.Watching.{places, seen-unformed, seen-formed}
 use Rattle.tick.specs.declared.dealt.Dealt.{Dealt}
 use Rattle.tick.specs.TickWords.{beatAllWords, restWords, lookedWords, tickWords}
 use Rattle.tick.specs.TickIn.{dealtOf, TicksIn, rousedOf, TickedIn}

@@ -8,16 +8,16 @@ use Rattle.types.specs.Pick.{pick, both}
 use Rattle.types.specs.Errors.{reported}
 use Rattle.types.specs.declared.frame.error.types.DllErrors.{DllErrors}
 use Rattle.node.specs.Plain.{Plain, Call, Answer, refused, tickAnswer}
-use Rattle.node.specs.Watched.{allOf, wellFormed, watchedOf}
+use Rattle.watched.specs.Watched.{allOf, wellFormed, watchedOf}
 use Rattle.node.specs.Tick.{Ticked, checksHeartbeats}
 use Rattle.node.specs.Run.{step}
 use Rattle.node.specs.Refines.{plain, left, Becomes, rings, joinsAll, Refines}
 use Rattle.tick.specs.Ticks.{PartLeft, Finishes, Ticks, Loses}
 use Rattle.head.specs.Words.{nmtOf, headOf}
-use Rattle.node.specs.Nodes.{nodesOf, rests}
-use Rattle.node.specs.declared.watched.WatchedNode.{WatchedNode}
-use Rattle.node.specs.declared.watched.Seen.{Seen}
-use Rattle.node.specs.declared.watched.Seen.the-variants as seen
+use Rattle.watched.specs.Nodes.{nodesOf, rests}
+use Rattle.watched.specs.declared.nodes.WatchedNode.{WatchedNode}
+use Rattle.watched.specs.declared.nodes.Seen.{Seen}
+use Rattle.watched.specs.declared.nodes.Seen.the-variants as seen
 use Rattle.tick.specs.declared.dealt.Dealt.{Dealt}
 use Rattle.tick.specs.declared.tick.TickAnswer.{TickAnswer}
 use Rattle.tick.specs.declared.tick.TickAnswer.the-variants as answer

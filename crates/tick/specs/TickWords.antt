@@ -16,9 +16,9 @@ use Rattle.entries.specs.Queue.{pushed}
 use Rattle.entries.specs.History.{joined}
 use Rattle.head.specs.declared.state.Deadline.{Deadline}
 use Rattle.head.specs.declared.state.Deadline.the-variants.{At, Nothing}
-use Rattle.node.specs.declared.watched.WatchedNode.{WatchedNode}
+use Rattle.watched.specs.declared.nodes.WatchedNode.{WatchedNode}
 use Rattle.node.specs.Plain.{Plain}
-use Rattle.node.specs.Watched.{watchedNode}
+use Rattle.watched.specs.Watched.{watchedNode}
 use Rattle.node.specs.Steps.{cycleOf, limitOf}
 use Rattle.node.specs.Tick.{acts, isEven, oneMore, isLate, timeoutOf, lastSoc, elapsed, nextDeadline, socTimeout, atNotActive, checksHeartbeats, lateOnes, beatAll, dealAll}
 use Rattle.node.specs.Refines.{plain}

@@ -12,7 +12,7 @@ use Rattle.types.specs.declared.frame.error.types.DllError.{DllError}
 use Rattle.types.specs.declared.frame.error.types.DllErrors.{DllErrors}
 use Rattle.counters.specs.Counters.{Effect, counts, losesLink, isLogged, nothing, effect}
 use Rattle.head.specs.Head.{Head}
-use Rattle.node.specs.declared.watched.WatchedNode.{WatchedNode}
+use Rattle.watched.specs.declared.nodes.WatchedNode.{WatchedNode}
 use Rattle.node.specs.Steps.{withDll}
 use Rattle.node.specs.Tick.{Ticked, looked, eventInTick, socTimeout}
 use Rattle.node.specs.Refines.{plain, SamePlaces, Becomes, rings, joinsAll}

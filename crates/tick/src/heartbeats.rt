@@ -3,13 +3,13 @@ ghost use mathlib.Core.Path.{_≡_};
 ghost use mathlib.Core.Bool.{true};
 ghost use mathlib.Core.List.{List};
 ghost use Prim.Native.Nat.{ℕ, _≤_};
-ghost use Rattle.node.specs.declared.watched.WatchedNode.{WatchedNode};
-ghost use Rattle.node.specs.Watched.{allOf, wellFormed, watchedNode, watchedOf};
+ghost use Rattle.watched.specs.declared.nodes.WatchedNode.{WatchedNode};
+ghost use Rattle.watched.specs.Watched.{allOf, wellFormed, watchedNode, watchedOf};
 ghost use Rattle.node.specs.Tick.{notBefore, isLate, lateOnes, beat, beatAll};
 ghost use Rattle.node.specs.Refines.{plain};
 ghost use Rattle.tick.specs.Ticks.{lookedFirst};
 ghost use Rattle.head.specs.Words.{headOf};
-ghost use Rattle.node.specs.Nodes.{nodesOf};
+ghost use Rattle.watched.specs.Nodes.{nodesOf};
 ghost use Rattle.tick.specs.TickWords.{lookedTime, lookedWords, beatWords, beatAllWords};
 ghost use Rattle.tick.specs.TickIn.{TicksIn};
 use crate::dealt::Dealt;
@@ -20,11 +20,11 @@ use head::parts::whole;
 use head::state::Head;
 use node::calls::handled;
 use node::timing::time_since;
-use node::watched::NodeWords;
-use node::watched::all_places;
 use types::frame::error::types::DllError;
 use types::frame::error::types::DllErrors;
 use types::types::NodeId;
+use watched::nodes::NodeWords;
+use watched::nodes::all_places;
 
 // A node that was heard once, and then not for longer than its timeout.
 fn is_late(timeout: u64, last_heard: u64, time: u64) -> bool

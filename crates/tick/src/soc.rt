@@ -4,7 +4,7 @@ ghost use mathlib.Core.Bool.{true};
 ghost use lib.ListN.{length};
 ghost use Rattle.types.specs.Errors.{reported};
 ghost use Rattle.entries.specs.Entry.{crossing};
-ghost use Rattle.node.specs.Watched.{allOf};
+ghost use Rattle.watched.specs.Watched.{allOf};
 ghost use Rattle.node.specs.Tick.{queued, deal, dealAll};
 ghost use Rattle.node.specs.Refines.{plain, rings, joins};
 ghost use Rattle.tick.specs.Ticks.{isQuiet, errorAt};

@@ -3,12 +3,12 @@ ghost use mathlib.Core.Path.{_≡_};
 ghost use mathlib.Core.Bool.{true, not};
 ghost use Prim.Native.Nat.{_≤_};
 ghost use Rattle.types.specs.Pick.{pick, both};
-ghost use Rattle.node.specs.Watched.{allOf, wellFormed, watchedOf};
+ghost use Rattle.watched.specs.Watched.{allOf, wellFormed, watchedOf};
 ghost use Rattle.node.specs.Tick.{checksHeartbeats, notBefore, tickTaken};
 ghost use Rattle.node.specs.Refines.{plain};
 ghost use Rattle.tick.specs.Ticks.{lookedFirst};
 ghost use Rattle.head.specs.Words.{nmtOf, headOf};
-ghost use Rattle.node.specs.Nodes.{nodesOf, rests};
+ghost use Rattle.watched.specs.Nodes.{nodesOf, rests};
 ghost use Rattle.tick.specs.TickWords.{lookedWords, tickWords};
 ghost use Rattle.tick.specs.TickIn.{TicksIn, rousedOf, TickedIn};
 use crate::deadline::by_deadline;
@@ -18,14 +18,14 @@ use crate::heartbeats::look_all;
 use crate::heartbeats::not_before;
 use head::parts::state_at;
 use head::state::Head;
-use node::timing::in_time;
-use node::watched::NodeWords;
-use node::watched::Seen;
-use node::watched::look;
-use node::watched::well_formed;
 use types::frame::error::types::DllErrors;
 use types::nmt::states::NmtState;
 use types::refusals::Refusal;
+use watched::nodes::NodeWords;
+use watched::nodes::Seen;
+use watched::nodes::look;
+use watched::nodes::well_formed;
+use watched::time::in_time;
 
 // What a tick answers: what it logged. Head and nodes stand in the words.
 pub enum TickAnswer {

@@ -6,13 +6,13 @@ use mathlib.Core.List.{List, [], _∷_, _++_}
 use denote.Ref.{now}
 use Rattle.types.specs.declared.refusals.Refusal.{Refusal}
 use Rattle.node.specs.declared.calls.CallAnswer.{CallAnswer}
-use Rattle.node.specs.Watched.{watchedOf}
+use Rattle.watched.specs.Watched.{watchedOf}
 use Rattle.node.specs.Plain.{Call, Start, declined}
 use Rattle.node.specs.Steps.{started}
 use Rattle.node.specs.Run.{Said}
 use Rattle.node.specs.Refines.{plain, Refines, left, startOf, begunBy}
 use Rattle.head.specs.Words.{headOf}
-use Rattle.node.specs.Nodes.{nodesOf}
+use Rattle.watched.specs.Nodes.{nodesOf}
 use Rattle.node.specs.declared.calls.CallAnswer.the-variants as answer
 use Rattle.node.specs.Started.{unheardWords}
 use Rattle.node.specs.InPlace.{unlessRefused}

@@ -5,8 +5,8 @@ use mathlib.Core.Path.{_≡_, refl, ap, ap₂, _∙_}
 use mathlib.Core.List.{List, [], _∷_}
 use native.Mathlib.Omega.{arith}
 use Rattle.head.specs.Head.{Head}
-use Rattle.node.specs.declared.watched.WatchedNode.{WatchedNode}
-use Rattle.node.specs.Watched.{unheard}
+use Rattle.watched.specs.declared.nodes.WatchedNode.{WatchedNode}
+use Rattle.watched.specs.Watched.{unheard}
 use Rattle.node.specs.Plain.{Plain, Call, Answer, Start, begins, declined, FirstStep}
 use Rattle.node.specs.Steps.{fresh, startTests, started}
 use Rattle.node.specs.Run.{run, Said, said}

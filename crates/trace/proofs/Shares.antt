@@ -28,8 +28,8 @@ use Rattle.entries.specs.declared.status_response.FoundEntry.the-variants.{None
 use Rattle.node.specs.declared.load.CounterUpdate.{CounterUpdate}
 use Rattle.node.specs.declared.load.CounterUpdate.the-variants.{Set, Keep}
 use Rattle.node.specs.declared.load.DictionaryUpdate.{DictionaryUpdate}
-use Rattle.node.specs.declared.watched.WatchedNode.{WatchedNode}
-use Rattle.node.specs.Watched.{inTime, heardAt}
+use Rattle.watched.specs.declared.nodes.WatchedNode.{WatchedNode}
+use Rattle.watched.specs.Watched.{inTime, heardAt}
 use Rattle.node.specs.Plain.{Plain, HistoryUpdate, Call, nmtEvent, dllEvent, error, cycleComplete, withdraw, heard, handOut, load, arm, tick, taken, handOutAnswer, Step}
 use Rattle.node.specs.Steps.{Test, must, tried, answers, declines, withNmt, withSoc, nmtStep, dllStep, errorStep, withdrawn, heardTests, updatedCounter, updated, armed}
 use Rattle.node.specs.Tick.{Ticked, tickTests, tickTaken, tickAnswered, lookedAt}

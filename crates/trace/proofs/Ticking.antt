@@ -24,8 +24,8 @@ use Rattle.entries.specs.Entry.{crossing}
 use Rattle.entries.specs.declared.status_response.ErrorEntry.{ErrorEntry}
 use Rattle.head.specs.declared.state.Deadline.{Deadline}
 use Rattle.head.specs.declared.state.Deadline.the-variants.{At, Nothing}
-use Rattle.node.specs.declared.watched.WatchedNode.{WatchedNode}
-use Rattle.node.specs.Watched.{allOf}
+use Rattle.watched.specs.declared.nodes.WatchedNode.{WatchedNode}
+use Rattle.watched.specs.Watched.{allOf}
 use Rattle.node.specs.Plain.{Plain}
 use Rattle.node.specs.Steps.{withDll, withErrors, withSoc, cycleOf, limitOf}
 use Rattle.node.specs.Tick.{Ticked, goesOn, behind, checksHeartbeats, acts, oneMore, signalled, checkOff, finished, dealt, beatBy, timeoutOf, beat, beatAll, lateOnes, heartbeats, withDeadline, atNotActive, basicTimeout, timesOut, counter1, kept, droppedOne, queued, dealBy, deal, dealAll, lastSoc, elapsed, nextDeadline, rescheduled, withinLimit, socTimeout, lost, socCheck, passed, byDeadline, tickTaken}

@@ -20,7 +20,7 @@ use Rattle.entries.specs.Entry.{crossing}
 use Rattle.entries.specs.Ring.{nth}
 use Rattle.entries.specs.declared.status_response.ErrorEntry.{ErrorEntry}
 use Rattle.head.specs.declared.state.ObjectValue.the-variants.{Unsigned32}
-use Rattle.node.specs.Watched.{wellFormed, watchedNode}
+use Rattle.watched.specs.Watched.{wellFormed, watchedNode}
 use Rattle.node.specs.Plain.{Plain, Call, nmtEvent, dllEvent, withdraw, handOut, arm, tick, Start}
 use Rattle.node.specs.Steps.{fresh, armed}
 use Rattle.node.specs.Tick.{beat, beatAll, queued, deal, dealAll, socCheck, tickTaken}

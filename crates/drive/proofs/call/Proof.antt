@@ -2,8 +2,8 @@
 -- Assumes nothing.
 use denote.Ref.{now}
 use borrow.Author.Needs.{needs}
-use Rattle.node.specs.Watched.{watchedOf}
-use Rattle.node.specs.Nodes.{nodesOf}
+use Rattle.watched.specs.Watched.{watchedOf}
+use Rattle.watched.specs.Nodes.{nodesOf}
 use Rattle.drive.proofs.Turning.{turned-as, call-5, call-6, call-9}
 use Rattle.drive.proofs.call.Statement.{statement}
 use Rattle.drive.proofs.call.Tie as tie

@@ -1,8 +1,8 @@
 -- `drive::head_call` meets its contract: each tag's call.
 -- Assumes nothing.
 use borrow.Author.Needs.{needs}
-use Rattle.node.specs.Watched.{watchedOf}
-use Rattle.node.specs.Nodes.{nodesOf}
+use Rattle.watched.specs.Watched.{watchedOf}
+use Rattle.watched.specs.Nodes.{nodesOf}
 use Rattle.drive.proofs.Turning.{turned-as, call-0, call-1, call-2, call-3, call-4, call-else}
 use Rattle.drive.proofs.head_call.Statement.{statement}
 use Rattle.drive.proofs.head_call.Tie as tie

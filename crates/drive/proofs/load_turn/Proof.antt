@@ -7,8 +7,8 @@ use lib.Dec.{eqb}
 use lib.ListN.{length, take, drop}
 use denote.Ref.{now}
 use borrow.Author.Needs.{needs}
-use Rattle.node.specs.Watched.{watchedOf}
-use Rattle.node.specs.Nodes.{nodesOf}
+use Rattle.watched.specs.Watched.{watchedOf}
+use Rattle.watched.specs.Nodes.{nodesOf}
 use Rattle.drive.proofs.Making.{made-load}
 use Rattle.drive.proofs.Turning.{turned, turned-as, call-7, cut-fits, part-cut}
 use Rattle.drive.proofs.load_turn.Statement.{statement}

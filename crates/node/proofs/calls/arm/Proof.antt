@@ -5,7 +5,7 @@ use denote.Ref.{now}
 use borrow.Author.Tests.{leb-true}
 use borrow.Author.Needs.{needs}
 use Rattle.node.specs.Steps.{armed}
-use Rattle.node.proofs.Nodes.{not-true, not-false}
+use Rattle.watched.proofs.Lists.{not-true, not-false}
 use Rattle.node.proofs.Refining.{arm-no, arm-yes}
 use Rattle.node.proofs.calls.arm.Statement.{statement}
 use Rattle.node.proofs.calls.arm.Tie as tie

@@ -3,9 +3,9 @@
 use denote.Ref.{now}
 use borrow.Author.Needs.{needs}
 use mathlib.Core.Path.{sym, _∙_}
-use Rattle.node.proofs.Nodes.{not-true, not-false}
-use Rattle.node.proofs.Lent.{few}
-use Rattle.node.specs.Nodes.{nodesOf}
+use Rattle.watched.proofs.Lists.{not-true, not-false}
+use Rattle.watched.proofs.Lists.{few}
+use Rattle.watched.specs.Nodes.{nodesOf}
 use Rattle.node.proofs.Begun.{no-node, no-room, unformed, begun}
 use Rattle.node.proofs.start.start.Statement.{statement}
 use Rattle.node.proofs.start.start.Tie as tie

@@ -6,8 +6,8 @@ use borrow.Author.Needs.{needs}
 use Prim.Native.Nat.{ℕ, _-_, _≤_}
 use mathlib.Core.Path.{_≡_, refl, ap, _∙_}
 use lib.ListN.{length}
-use Rattle.node.specs.Watched.{unheardFirst}
-use Rattle.node.specs.Nodes.{nodesOf}
+use Rattle.watched.specs.Watched.{unheardFirst}
+use Rattle.watched.specs.Nodes.{nodesOf}
 use Rattle.node.specs.Started.{unheardWords}
 use Rattle.node.proofs.Begun.{unheard-begins, unheard-words, unheard-nodes, unheard-long}
 use Rattle.node.proofs.start.unheard.Statement.{statement}

@@ -7,9 +7,9 @@ use Prim.Native.Nat.{_-_, _≤_}
 use mathlib.Core.Path.{_≡_, refl, sym}
 use mathlib.Core.Bool.{true}
 use lib.ListN.{take, drop}
-use Rattle.node.specs.Watched.{wellFormed, watchedOf}
-use Rattle.node.proofs.Lent.{few}
-use Rattle.node.specs.Nodes.{nodesOf}
+use Rattle.watched.specs.Watched.{wellFormed, watchedOf}
+use Rattle.watched.proofs.Lists.{few}
+use Rattle.watched.specs.Nodes.{nodesOf}
 use Rattle.tick.proofs.Beatings.{BeatingIn, number-small, walk-begins, walk-over, walk-passes, walk-stops, walk-goes-on}
 use Rattle.tick.proofs.heartbeats.beat_all.Statement.{statement}
 use Rattle.tick.proofs.heartbeats.beat_all.Tie as tie

@@ -1,6 +1,6 @@
 -- `tick::heartbeats::heard_by` meets its contract.
 -- Assumes nothing.
-use Rattle.node.specs.Watched.{watchedNode}
+use Rattle.watched.specs.Watched.{watchedNode}
 use Rattle.tick.proofs.Beats.{before-idle, before-unheard, before-tested}
 use Rattle.tick.proofs.heartbeats.heard_by.Statement.{statement}
 use Rattle.tick.proofs.heartbeats.heard_by.Tie as tie

@@ -1,7 +1,7 @@
 -- `tick::heartbeats::is_late` meets its contract.
 -- Assumes nothing.
 use borrow.Author.Needs.{needs}
-use Rattle.node.specs.Watched.{watchedNode}
+use Rattle.watched.specs.Watched.{watchedNode}
 use Rattle.tick.proofs.Beats.{late-unheard, late-idle, late-tested}
 use Rattle.tick.proofs.heartbeats.is_late.Statement.{statement}
 use Rattle.tick.proofs.heartbeats.is_late.Tie as tie

@@ -7,7 +7,7 @@ use Prim.Native.Nat.{ℕ, _-_, _≤_}
 use mathlib.Core.Path.{_≡_, refl, ap, _∙_}
 use lib.ListN.{length}
 use Rattle.tick.specs.Ticks.{lookedFirst}
-use Rattle.node.specs.Nodes.{nodesOf}
+use Rattle.watched.specs.Nodes.{nodesOf}
 use Rattle.tick.specs.TickWords.{lookedWords}
 use Rattle.tick.proofs.Beatings.{looks-begin, look-words, look-nodes, look-long}
 use Rattle.tick.proofs.heartbeats.look_all.Statement.{statement}

@@ -6,12 +6,12 @@ use borrow.Author.Needs.{needs}
 use Prim.Native.Nat.{_-_, _≤_}
 use mathlib.Core.Path.{_≡_, sym}
 use lib.ListN.{take, drop}
-use Rattle.node.specs.Watched.{allOf, noNode, watchedOf}
+use Rattle.watched.specs.Watched.{allOf, noNode, watchedOf}
 use Rattle.node.specs.Tick.{notBefore}
-use Rattle.node.proofs.Nodes.{not-true, not-false}
+use Rattle.watched.proofs.Lists.{not-true, not-false}
 use Rattle.tick.proofs.Beats.{befores-begin, befores-end, before-fails, before-next}
-use Rattle.node.specs.Nodes.{nodesOf}
-use Rattle.node.proofs.Watching.{places}
+use Rattle.watched.specs.Nodes.{nodesOf}
+use Rattle.watched.proofs.Watching.{places}
 use Rattle.tick.proofs.Beatings.{before-at}
 use Rattle.tick.proofs.heartbeats.not_before.Statement.{statement}
 use Rattle.tick.proofs.heartbeats.not_before.Tie as tie

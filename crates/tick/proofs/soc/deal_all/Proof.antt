@@ -7,7 +7,7 @@ use Prim.Native.Nat.{_-_, _≤_}
 use mathlib.Core.Path.{_≡_, sym, _∙_}
 use mathlib.Core.Bool.{true}
 use Rattle.types.specs.Errors.{reported}
-use Rattle.node.specs.Watched.{allOf}
+use Rattle.watched.specs.Watched.{allOf}
 use Rattle.tick.specs.Ticks.{isQuiet}
 use Rattle.tick.proofs.TickLaws.{two-over, none-left}
 use Rattle.tick.proofs.Dealings.{WalkingIn, walk-begins, walk-over, walk-stops, walk-goes-on}

@@ -1,8 +1,8 @@
 -- `tick::tick::phases` meets its contract: the heartbeats end the tick, or the deadline follows.
 -- Assumes nothing.
 use denote.Ref.{now}
-use Rattle.node.specs.Watched.{watchedOf}
-use Rattle.node.specs.Nodes.{nodesOf}
+use Rattle.watched.specs.Watched.{watchedOf}
+use Rattle.watched.specs.Nodes.{nodesOf}
 use Rattle.tick.proofs.Tickings.{rouses, idle-phases, beats-end, beats-go-on}
 use Rattle.tick.proofs.tick.phases.Statement.{statement}
 use Rattle.tick.proofs.tick.phases.Tie as tie

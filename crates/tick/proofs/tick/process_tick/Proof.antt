@@ -4,8 +4,8 @@ use denote.Ref.{now}
 use borrow.Author.Needs.{needs}
 use borrow.Author.Tests.{leb-true}
 use mathlib.Core.Path.{sym, _∙_}
-use Rattle.node.proofs.Nodes.{not-true, not-false}
-use Rattle.node.proofs.Watching.{few}
+use Rattle.watched.proofs.Lists.{not-true, not-false}
+use Rattle.watched.proofs.Watching.{few}
 use Rattle.tick.proofs.Tickings.{not-roused, roused, unformed, late, before, accepted}
 use Rattle.tick.proofs.tick.process_tick.Statement.{statement}
 use Rattle.tick.proofs.tick.process_tick.Tie as tie

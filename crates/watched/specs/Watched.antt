@@ -8,7 +8,7 @@ use lib.ListN.{length, getD, take, drop}
 use Rattle.types.specs.Pick.{pick, both, either}
 use Rattle.types.specs.Types.{isNode}
 use Rattle.entries.specs.Ring.{listed}
-use Rattle.node.specs.declared.watched.WatchedNode.{WatchedNode}
+use Rattle.watched.specs.declared.nodes.WatchedNode.{WatchedNode}
 
 -- "a time is above 2^62 − 1"
 abbrev pub latest : ℕ

@@ -1,4 +1,4 @@
--- `node::watched::look` meets its contract: node by node up to one that does not rest. The invariant: what is left gives what the whole gives.
+-- `watched::nodes::look` meets its contract: node by node up to one that does not rest. The invariant: what is left gives what the whole gives.
 -- Assumes nothing.
 use Prim.Native.Nat.{_-_, _≤_}
 use mathlib.Core.Path.{_≡_, sym, _∙_}
@@ -7,12 +7,12 @@ use native.Mathlib.Omega.{arith}
 use lib.ListN.{take, drop}
 use denote.Ref.{now}
 use borrow.Author.Needs.{needs}
-use Rattle.node.specs.Watched.{allOf, wellFormed, watchedOf}
-use Rattle.node.proofs.Nodes.{not-true, not-false}
-use Rattle.node.specs.Nodes.{nodesOf, rising, rests}
-use Rattle.node.proofs.Watching.{many, formed-begins, formed-stops, formed-next, formed-ends, rest-begins, rest-stops, rest-next, rest-ends, look-unformed, look-formed}
-use Rattle.node.proofs.watched.look.Statement.{statement}
-use Rattle.node.proofs.watched.look.Tie as tie
+use Rattle.watched.specs.Watched.{allOf, wellFormed, watchedOf}
+use Rattle.watched.proofs.Lists.{not-true, not-false}
+use Rattle.watched.specs.Nodes.{nodesOf, rising, rests}
+use Rattle.watched.proofs.Watching.{many, formed-begins, formed-stops, formed-next, formed-ends, rest-begins, rest-stops, rest-next, rest-ends, look-unformed, look-formed}
+use Rattle.watched.proofs.nodes.look.Statement.{statement}
+use Rattle.watched.proofs.nodes.look.Tie as tie
 
 abbrev Inv-loop : tie.InvT-loop
 Inv-loop nodes count time last₀ i₀ last i =

@@ -1,4 +1,4 @@
--- `node::watched::find` meets its contract: node by node up to the one sought. The invariant: what is left gives what the whole gives.
+-- `watched::nodes::find` meets its contract: node by node up to the one sought. The invariant: what is left gives what the whole gives.
 -- Assumes nothing.
 use Prim.Native.Nat.{_+_, _-_, _≤_}
 use mathlib.Core.Path.{_≡_, sym, _∙_}
@@ -6,12 +6,12 @@ use native.Mathlib.Omega.{arith}
 use lib.ListN.{take, drop}
 use denote.Ref.{now}
 use borrow.Author.Needs.{needs}
-use Rattle.node.specs.Watched.{wellFormed, watchedOf, placeOf}
-use Rattle.node.proofs.Nodes.{not-true, not-false, place-begins, place-end}
-use Rattle.node.specs.Nodes.{nodesOf, rising}
-use Rattle.node.proofs.Watching.{places, many, formed-begins, formed-stops, formed-next, formed-ends, place-here, place-next, find-unformed, find-formed}
-use Rattle.node.proofs.watched.find.Statement.{statement}
-use Rattle.node.proofs.watched.find.Tie as tie
+use Rattle.watched.specs.Watched.{wellFormed, watchedOf, placeOf}
+use Rattle.watched.proofs.Lists.{not-true, not-false, place-begins, place-end}
+use Rattle.watched.specs.Nodes.{nodesOf, rising}
+use Rattle.watched.proofs.Watching.{places, many, formed-begins, formed-stops, formed-next, formed-ends, place-here, place-next, find-unformed, find-formed}
+use Rattle.watched.proofs.nodes.find.Statement.{statement}
+use Rattle.watched.proofs.nodes.find.Tie as tie
 
 abbrev Inv-loop : tie.InvT-loop
 Inv-loop nodes count node last₀ i₀ last i =

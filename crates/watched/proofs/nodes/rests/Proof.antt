@@ -1,9 +1,9 @@
--- `node::watched::rests` meets its contract.
+-- `watched::nodes::rests` meets its contract.
 -- Assumes nothing.
-use Rattle.node.specs.Watched.{watchedNode}
-use Rattle.node.proofs.Watching.{rests-unheard, rests-idle, rests-before, rests-tested}
-use Rattle.node.proofs.watched.rests.Statement.{statement}
-use Rattle.node.proofs.watched.rests.Tie as tie
+use Rattle.watched.specs.Watched.{watchedNode}
+use Rattle.watched.proofs.Watching.{rests-unheard, rests-idle, rests-before, rests-tested}
+use Rattle.watched.proofs.nodes.rests.Statement.{statement}
+use Rattle.watched.proofs.nodes.rests.Tie as tie
 
 pub rests-spec : {M : Type 1} → statement M
 rests-spec =

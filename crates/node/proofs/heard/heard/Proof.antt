@@ -1,13 +1,14 @@
--- `node::watched::heard` meets its contract: numbers 3, 5 and 7 in this order, then one store.
+-- `node::heard::heard` meets its contract: numbers 3, 5 and 7 in this order, then one store.
 -- Assumes nothing.
 use mathlib.Core.Path.{sym, _∙_}
 use native.Mathlib.Omega.{arith}
 use denote.Ref.{now}
 use borrow.Author.Needs.{needs}
-use Rattle.node.proofs.Nodes.{not-true, not-false}
-use Rattle.node.proofs.Watching.{found-unformed, found-formed, few, unformed, late, nowhere, there}
-use Rattle.node.proofs.watched.heard.Statement.{statement}
-use Rattle.node.proofs.watched.heard.Tie as tie
+use Rattle.watched.proofs.Lists.{not-true, not-false}
+use Rattle.watched.proofs.Watching.{found-unformed, found-formed, few}
+use Rattle.node.proofs.Hearing.{unformed, late, nowhere, there}
+use Rattle.node.proofs.heard.heard.Statement.{statement}
+use Rattle.node.proofs.heard.heard.Tie as tie
 
 pub heard-spec : {M : Type 1} → statement M
 heard-spec =

@@ -1,9 +1,9 @@
--- `node::watched::is_node` meets its contract: by the four tests.
+-- `watched::nodes::is_node` meets its contract: by the four tests.
 -- Assumes nothing.
 use borrow.Author.Tests.{le-leb, lt-leb}
 use native.Mathlib.Omega.{arith}
-use Rattle.node.proofs.watched.is_node.Statement.{statement}
-use Rattle.node.proofs.watched.is_node.Tie as tie
+use Rattle.watched.proofs.nodes.is_node.Statement.{statement}
+use Rattle.watched.proofs.nodes.is_node.Tie as tie
 
 pub is-node-spec : {M : Type 1} → statement M
 is-node-spec =

@@ -2,22 +2,22 @@
 -- Assumes nothing.
 use Prim.Native.Nat.{ℕ, zero, suc, _+_, _≤_, _<_}
 use mathlib.Core.Path.{_≡_, refl, sym, ap, ap₂, _∙_}
-use mathlib.Core.Bool.{Bool, true, false, not}
+use mathlib.Core.Bool.{Bool, true, false, not, false≢true}
 use mathlib.Core.List.{List, [], _∷_, _++_, map}
 use native.Mathlib.Nat.{add-zero}
 use native.Mathlib.Omega.{arith}
 use native.Mathlib.Numerals.{add-one}
-use lib.Dec.{eqb, ltb}
+use lib.Dec.{eqb, leb, ltb}
 use lib.ListN.{length, getD, set, take, drop, take-append-drop, length-append, drop-of-length-le}
 use lib.Seq.{length-take-le, take-suc, drop-cons, append-snoc, set-append-left, getD-take, set-at, getD-at, take-at}
-use borrow.Author.Tests.{ltb-false, le-leb, lt-leb}
+use borrow.Author.Tests.{ltb-false, le-leb, lt-leb, leb-true}
 use Rattle.types.specs.Pick.{pick, both, either}
 use Rattle.types.specs.Types.{node, isNode}
 use Rattle.entries.specs.Ring.{listed}
 use Rattle.entries.proofs.Rings.{listed-long}
-use Rattle.node.specs.declared.watched.WatchedNode.{WatchedNode}
-use Rattle.node.specs.Nodes.{rising}
-use Rattle.node.specs.Watched.{allOf, ascending, fits, wellFormed, noNode, heardNow, isWatched, heardAt, placeOf, watchedOf, heardFirst}
+use Rattle.watched.specs.declared.nodes.WatchedNode.{WatchedNode}
+use Rattle.watched.specs.Nodes.{rising}
+use Rattle.watched.specs.Watched.{allOf, ascending, fits, wellFormed, noNode, heardNow, isWatched, heardAt, placeOf, watchedOf, heardFirst}
 
 -- what a test that is denied says
 pub not-true : (b : Bool) → not b ≡ true → b ≡ false
@@ -224,3 +224,15 @@ module _ (ns : List WatchedNode) (k : ℕ) (long : length ns ≡ 32) (few : k �
           sym (ap (λ (l : List WatchedNode). l ++ drop k ns) s
           ∙ sym (set-append-left (take k ns) (drop k ns) p (heardNow t (getD ns p d)) (rw taken-long h))
           ∙ ap (λ (l : List WatchedNode). set l p (heardNow t (getD ns p d))) (take-append-drop k ns))
+
+-- nodes that pass number 3 are at most 32
+pub few : (ns : List WatchedNode) (k : ℕ) (b : Bool) → b ≡ wellFormed (watchedOf ns k) → b ≡ true → k ≤ 32
+unfolding wellFormed
+few ns k b e t = by (leb k 32) refl (sym e ∙ t)
+  where
+    long : length (watchedOf ns k) ≡ k
+    long = listed-long (λ (i : ℕ). getD ns i noNode) k
+
+    by : (b : Bool) → leb k 32 ≡ b → wellFormed (watchedOf ns k) ≡ true → k ≤ 32
+    by true h w = leb-true k 32 h
+    by false h w = absurd (false≢true (rw (long, h) at w))

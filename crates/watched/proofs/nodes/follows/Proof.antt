@@ -1,11 +1,11 @@
--- `node::watched::follows` meets its contract: the number is tried against the one before and by itself, then the two times.
+-- `watched::nodes::follows` meets its contract: the number is tried against the one before and by itself, then the two times.
 -- Assumes nothing.
 use mathlib.Core.Path.{sym, _∙_}
 use borrow.Author.Needs.{needs}
 use borrow.Author.Tests.{lt-ltb, le-ltb}
-use Rattle.node.proofs.Nodes.{not-true, not-false}
-use Rattle.node.proofs.watched.follows.Statement.{statement}
-use Rattle.node.proofs.watched.follows.Tie as tie
+use Rattle.watched.proofs.Lists.{not-true, not-false}
+use Rattle.watched.proofs.nodes.follows.Statement.{statement}
+use Rattle.watched.proofs.nodes.follows.Tie as tie
 
 pub follows-spec : {M : Type 1} → statement M
 follows-spec =

@@ -1,10 +1,10 @@
--- `node::watched::well_formed` meets its contract: how many, then all nodes from the first on.
+-- `watched::nodes::well_formed` meets its contract: how many, then all nodes from the first on.
 -- Assumes nothing.
 use mathlib.Core.Path.{sym, _∙_}
 use denote.Ref.{now}
-use Rattle.node.proofs.Watching.{many, formed-begins}
-use Rattle.node.proofs.watched.well_formed.Statement.{statement}
-use Rattle.node.proofs.watched.well_formed.Tie as tie
+use Rattle.watched.proofs.Watching.{many, formed-begins}
+use Rattle.watched.proofs.nodes.well_formed.Statement.{statement}
+use Rattle.watched.proofs.nodes.well_formed.Tie as tie
 
 pub well-formed-spec : {M : Type 1} → statement M
 well-formed-spec =

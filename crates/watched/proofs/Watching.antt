@@ -1,4 +1,4 @@
--- The watched nodes in words: what is read at a place, and what a time written makes of the nodes. All else is by the laws of lists of nodes (Nodes, Lent).
+-- The watched nodes in words: what is read at a place, and what a time written makes of the nodes. All else is by the laws of lists of nodes (Lists).
 -- Assumes nothing.
 use Prim.Native.Nat.{ℕ, zero, suc, _+_, _*_, _-_, _<_, _≤_}
 use mathlib.Core.Path.{_≡_, refl, sym, ap, ap₂, _∙_}
@@ -11,21 +11,17 @@ use lib.ListN.{length, getD, set, take, drop}
 use lib.Seq.{getD-set-same, getD-set-other}
 use borrow.Author.Tests.{lt-ltb, le-ltb, lt-leb, le-leb, eq-eqb, ne-eqb}
 use Rattle.types.specs.Pick.{pick, both}
-use Rattle.types.specs.declared.refusals.Refusal.the-variants.{WatchedNodes, TimeLimit, NotWatched}
 use Rattle.entries.specs.Ring.{listed}
 use Rattle.entries.proofs.Rings.{listed-long, listed-same}
-use Rattle.node.specs.declared.watched.WatchedNode.{WatchedNode}
-use Rattle.node.specs.declared.calls.CallAnswer.the-variants as answer
-use Rattle.node.specs.Watched.{inTime, allOf, fits, wellFormed, noNode, heardNow, watchedNode, watchedOf, placeOf}
-use Rattle.node.proofs.Nodes as Nodes
-use Rattle.node.proofs.Nodes.{too-many, tests-begin, from-here, at-end}
-use Rattle.node.proofs.Lent as lent
-use Rattle.node.proofs.Lent.{heard-unformed, heard-late, heard-nowhere, heard-taken}
-use Rattle.node.specs.declared.watched.Found.{Found}
-use Rattle.node.specs.declared.watched.Found.the-variants as found
-use Rattle.node.specs.declared.watched.Seen.{Seen}
-use Rattle.node.specs.declared.watched.Seen.the-variants as seen
-use Rattle.node.specs.Nodes.{nodeAt, nodesOf, rising, rests, foundOf, seenOf, Heard}
+use Rattle.watched.specs.declared.nodes.WatchedNode.{WatchedNode}
+use Rattle.watched.specs.Watched.{allOf, fits, wellFormed, noNode, heardNow, watchedNode, watchedOf, placeOf}
+use Rattle.watched.proofs.Lists as Lists
+use Rattle.watched.proofs.Lists.{too-many, tests-begin, from-here, at-end}
+use Rattle.watched.specs.declared.nodes.Found.{Found}
+use Rattle.watched.specs.declared.nodes.Found.the-variants as found
+use Rattle.watched.specs.declared.nodes.Seen.{Seen}
+use Rattle.watched.specs.declared.nodes.Seen.the-variants as seen
+use Rattle.watched.specs.Nodes.{nodeAt, nodesOf, rising, rests, foundOf, seenOf}
 
 -- the item at an index of a list that is given by index
 listed-at : {A : Type 0} (f : ℕ → A) (n i : ℕ) (d : A) → i < n → getD (listed f n) i d ≡ f i
@@ -132,7 +128,7 @@ module _ (ws : List ℕ) where
       formed-begins = tests-begin (nodesOf ws) k places below
 
       pub rest-begins : (t : ℕ) → allOf (rests t) vs ≡ allOf (rests t) (left 0)
-      rest-begins t = ap (allOf (rests t)) (Nodes.whole (nodesOf ws) k places below)
+      rest-begins t = ap (allOf (rests t)) (Lists.whole (nodesOf ws) k places below)
 
       module _ (i : ℕ) where
         pub formed-ends : (b : Bool) (n : ℕ) → b ≡ rising n (left i) → k ≤ i → b ≡ true
@@ -217,24 +213,4 @@ module _ (ws : List ℕ) where
 
     -- nodes that pass number 3 are at most 32
     pub few : wellFormed vs ≡ true → k ≤ 32
-    few h = lent.few (nodesOf ws) k true (sym h) refl
-
-  -- heard: numbers 3, 5 and 7
-  module _ (k n t : ℕ) where
-    pub unformed : wellFormed (watchedOf (nodesOf ws) k) ≡ false → Heard ws k n t (answer.Refused WatchedNodes) ws
-    unformed a = record { refines = heard-unformed (nodesOf ws) k n t a; words = refl }
-
-    module _ (a : wellFormed (watchedOf (nodesOf ws) k) ≡ true) where
-      pub late : inTime t ≡ false → Heard ws k n t (answer.Refused TimeLimit) ws
-      late b = record { refines = heard-late (nodesOf ws) k n t a b; words = refl }
-
-      module _ (b : inTime t ≡ true) (p : ℕ) (e : p ≡ placeOf n (watchedOf (nodesOf ws) k)) where
-        pub nowhere : k ≤ p → Heard ws k n t (answer.Refused NotWatched) ws
-        nowhere c = record { refines = heard-nowhere (nodesOf ws) k n t a b places p e c; words = refl }
-
-        pub there : length ws ≡ 96 → p < k → p < 32 → (ws′ : List ℕ) → ws′ ≡ set ws (3 * p + 2) t → Heard ws k n t answer.Taken ws′
-        there long c inside ws′ s =
-            record {
-              refines = heard-taken (nodesOf ws) k n t a b places p e c (nodesOf ws′) (ap nodesOf s ∙ heard-written long p inside t);
-              words = s ∙ ap (λ (p : ℕ). set ws (3 * p + 2) t) e;
-            }
+    few h = Lists.few (nodesOf ws) k true (sym h) refl

@@ -1,4 +1,4 @@
--- `node::watched::formed_from` meets its contract: node by node. The invariant: what is left gives what the whole gives.
+-- `watched::nodes::formed_from` meets its contract: node by node. The invariant: what is left gives what the whole gives.
 -- Assumes nothing.
 use Prim.Native.Nat.{_-_, _≤_}
 use mathlib.Core.Path.{_≡_, refl, sym}
@@ -6,11 +6,11 @@ use native.Mathlib.Omega.{arith}
 use lib.ListN.{take, drop}
 use denote.Ref.{now}
 use borrow.Author.Needs.{needs}
-use Rattle.node.proofs.Nodes.{not-true, not-false}
-use Rattle.node.specs.Nodes.{nodesOf, rising}
-use Rattle.node.proofs.Watching.{formed-stops, formed-next, formed-ends}
-use Rattle.node.proofs.watched.formed_from.Statement.{statement}
-use Rattle.node.proofs.watched.formed_from.Tie as tie
+use Rattle.watched.proofs.Lists.{not-true, not-false}
+use Rattle.watched.specs.Nodes.{nodesOf, rising}
+use Rattle.watched.proofs.Watching.{formed-stops, formed-next, formed-ends}
+use Rattle.watched.proofs.nodes.formed_from.Statement.{statement}
+use Rattle.watched.proofs.nodes.formed_from.Tie as tie
 
 abbrev Inv-loop : tie.InvT-loop
 Inv-loop nodes count place last above₀ i₀ above i =

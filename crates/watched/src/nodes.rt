@@ -1,16 +1,14 @@
 // The watched nodes in lent words, three a node: its number, its timeout, when it was last heard. 32 places, of which the first so many are
 // watched.
 ghost use mathlib.Core.Path.{_≡_};
-ghost use Prim.Native.Nat.{_+_, _*_, _<_, _≤_};
+ghost use Prim.Native.Nat.{_≤_};
 ghost use lib.Dec.{ltb};
-ghost use lib.ListN.{length, set, take, drop};
+ghost use lib.ListN.{length, take, drop};
 ghost use Rattle.types.specs.Pick.{both};
 ghost use Rattle.types.specs.Types.{isNode};
-ghost use Rattle.node.specs.Watched.{fits, wellFormed, watchedNode, watchedOf};
-ghost use Rattle.node.specs.Nodes.{rising, rests, foundOf, seenOf, nodesOf, Heard};
-use crate::calls::CallAnswer;
-use crate::timing::in_time;
-use types::refusals::Refusal;
+ghost use Rattle.watched.specs.Watched.{fits, wellFormed, watchedNode, watchedOf};
+ghost use Rattle.watched.specs.Nodes.{rising, rests, foundOf, seenOf, nodesOf};
+use crate::time::in_time;
 
 pub type NodeWords = [u64; 96];
 
@@ -103,7 +101,7 @@ pub enum Found {
 }
 
 // Each node is read once: up to the one sought here, from there on by formed_from.
-fn find(nodes: &NodeWords, count: usize, node: u64) -> Found
+pub fn find(nodes: &NodeWords, count: usize, node: u64) -> Found
     ensures { λ r. ⌜ r ≡ foundOf node (watchedOf (nodesOf (now (nodes .entry))) count) ⌝ }
 {
     if 32 < count {
@@ -178,31 +176,4 @@ pub fn look(nodes: &NodeWords, count: usize, time: u64) -> Seen
         i += 1;
     }
     Seen::Formed(false)
-}
-
-// The time of the node at a place is set.
-fn set_heard(nodes: &mut NodeWords, place: usize, time: u64)
-    requires { ⌜ place < 32 ⌝ }
-    ensures { λ _. ⌜ now (nodes .exit) ≡ set (now (nodes .entry)) (3 * place + 2) time ⌝ }
-{
-    nodes[3 * place + 2] = time;
-}
-
-// A watched node was heard.
-pub fn heard(nodes: &mut NodeWords, count: usize, node: u8, time: u64) -> CallAnswer
-    ensures { λ r. ⌜ Heard (now (nodes .entry)) count node time r (now (nodes .exit)) ⌝ }
-{
-    all_places(nodes);
-    let found = find(nodes, count, node as u64);
-    let Found::Formed(place) = found else {
-        return CallAnswer::Refused(Refusal::WatchedNodes);
-    };
-    if !in_time(time) {
-        return CallAnswer::Refused(Refusal::TimeLimit);
-    }
-    if place < count {
-        set_heard(nodes, place, time);
-        return CallAnswer::Taken;
-    }
-    CallAnswer::Refused(Refusal::NotWatched)
 }

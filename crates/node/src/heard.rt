@@ -1,0 +1,39 @@
+// Heard: the last-heard time of one watched node.
+ghost use mathlib.Core.Path.{_≡_};
+ghost use Prim.Native.Nat.{_+_, _*_, _<_};
+ghost use lib.ListN.{set};
+ghost use Rattle.node.specs.Heard.{Heard};
+use crate::calls::CallAnswer;
+use types::refusals::Refusal;
+use watched::nodes::Found;
+use watched::nodes::NodeWords;
+use watched::nodes::all_places;
+use watched::nodes::find;
+use watched::time::in_time;
+
+// The time of the node at a place is set.
+fn set_heard(nodes: &mut NodeWords, place: usize, time: u64)
+    requires { ⌜ place < 32 ⌝ }
+    ensures { λ _. ⌜ now (nodes .exit) ≡ set (now (nodes .entry)) (3 * place + 2) time ⌝ }
+{
+    nodes[3 * place + 2] = time;
+}
+
+// A watched node was heard.
+pub fn heard(nodes: &mut NodeWords, count: usize, node: u8, time: u64) -> CallAnswer
+    ensures { λ r. ⌜ Heard (now (nodes .entry)) count node time r (now (nodes .exit)) ⌝ }
+{
+    all_places(nodes);
+    let found = find(nodes, count, node as u64);
+    let Found::Formed(place) = found else {
+        return CallAnswer::Refused(Refusal::WatchedNodes);
+    };
+    if !in_time(time) {
+        return CallAnswer::Refused(Refusal::TimeLimit);
+    }
+    if place < count {
+        set_heard(nodes, place, time);
+        return CallAnswer::Taken;
+    }
+    CallAnswer::Refused(Refusal::NotWatched)
+}
