@@ -1,6 +1,6 @@
 #!/bin/sh
-# What the prover does not look at: no public function asks anything of its caller, each of a library says what it ensures, and
-# what docs/CLAIMS.md refers to is there. A reference is a path between backquotes, with `:NAME` behind it where it means a name in that file.
+# What the prover does not look at: no public function asks anything of its caller but three of `heartbeats`, which are public for `tick` alone
+# (docs/DECISIONS.md, 43); each of a library says what it ensures, and what docs/CLAIMS.md refers to is there. A reference is a path between backquotes, with `:NAME` behind it where it means a name in that file.
 set -eu
 cd "$(dirname "$0")/.."
 failed=0
@@ -9,7 +9,7 @@ asking=$(find crates -name '*.rt' -exec awk '
     /^ *(#\[no_mangle\] *)?pub (extern "C" )?fn/ { name = FILENAME ": " $0; open = 1 }
     /^ *(pub\(crate\) )?fn / { open = 0 }
     /^ *requires/ && open { print name; open = 0 }
-    /^ *\{/ { open = 0 }' {} +)
+    /^ *\{/ { open = 0 }' {} + | grep -v '^crates/heartbeats/src/heartbeats\.rt: pub fn \(look_all\|not_before\|beat_all\)(' || true)
 if [ -n "$asking" ]; then
     echo "public functions with a requires:"
     echo "$asking"
@@ -42,6 +42,6 @@ if [ -n "$missing" ]; then
 fi
 
 if [ "$failed" -eq 0 ]; then
-    echo "ok: no public function has a requires, each of a library has an ensures; $(echo "$references" | wc -l) references of docs/CLAIMS.md are there"
+    echo "ok: no public function but three of heartbeats has a requires, each of a library has an ensures; $(echo "$references" | wc -l) references of docs/CLAIMS.md are there"
 fi
 exit "$failed"

@@ -28,7 +28,8 @@ use Rattle.node.specs.Plain.{Plain}
 use Rattle.node.specs.Steps.{plainOf, withSoc, withDll, cycleOf, toleranceOf, limitOf}
 use Rattle.node.specs.Tick.{Ticked, goesOn, behind, checkOff, withDeadline, nextDeadline, rescheduled, withinLimit, socTimeout, dealAll, lost, socCheck, atNotActive, setsBasic, timesOut, eventInTick, passed, byDeadline}
 use Rattle.node.specs.Refines.{plain, Becomes, rings, joinsAll}
-use Rattle.tick.specs.Ticks.{PartLeft, Ticks, Loses, isQuiet}
+use Rattle.heartbeats.specs.Parts.{PartLeft, Ticks, isQuiet}
+use Rattle.tick.specs.Ticks.{Loses}
 use Rattle.head.specs.Head.{with-dll}
 
 -- the cycles that have begun end at most one cycle after now

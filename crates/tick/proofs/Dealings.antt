@@ -31,7 +31,8 @@ use Rattle.head.specs.declared.state.Statistic.the-variants.{Counter3}
 use Rattle.head.proofs.Laws.{statistic-written}
 use Rattle.tick.specs.declared.soc.NextError.{NextError}
 use Rattle.tick.specs.declared.soc.NextError.the-variants as next
-use Rattle.tick.specs.Ticks.{Finishes, isQuiet, errorAt}
+use Rattle.heartbeats.specs.Parts.{Finishes, isQuiet}
+use Rattle.tick.specs.Ticks.{errorAt}
 use Rattle.tick.proofs.TickLaws as tick
 use Rattle.tick.proofs.TickLaws.{entry-kept, entry-dropped, deal-signalled, deal-unsignalled, Walking}
 use Rattle.head.specs.Places as at
@@ -40,9 +41,10 @@ use Rattle.head.specs.Written.{queueWritten, historyWritten}
 use Rattle.node.specs.InPlace.{replied, effectWords}
 use Rattle.node.specs.declared.calls.ErrorTaken.{ErrorTaken}
 use Rattle.node.proofs.Refining.{picked, effect-written}
-use Rattle.tick.specs.declared.dealt.Dealt.{Dealt}
-use Rattle.tick.specs.TickWords.{signalWords, finishedWords, endsBy, count2, entryWords, countedWords, dealWords, dealAllWords}
-use Rattle.tick.specs.TickIn.{Turns, dealtOf, FinishesIn, TicksIn}
+use Rattle.heartbeats.specs.declared.dealt.Dealt.{Dealt}
+use Rattle.heartbeats.specs.PartWords.{signalWords, finishedWords, endsBy}
+use Rattle.tick.specs.TickWords.{count2, entryWords, countedWords, dealWords, dealAllWords}
+use Rattle.heartbeats.specs.PartsIn.{Turns, dealtOf, FinishesIn, TicksIn}
 use Rattle.tick.proofs.Turning.{counter1-turns, entry-read}
 
 -- the entry of a crossing

@@ -1,9 +1,7 @@
-pub mod Beats
 pub mod TickLaws
 pub mod DeadlineLaws
 pub mod TickRefines
 pub mod Turning
-pub mod Beatings
 pub mod Dealings
 pub mod Passings
 pub mod Tickings

@@ -26,9 +26,10 @@ use Rattle.head.specs.Places as at
 use Rattle.head.specs.Words.{word, stateOf, dllState, socOf, odOf, headOf}
 use Rattle.head.specs.Written.{deadlineWritten}
 use Rattle.head.proofs.Laws.{dll-written}
-use Rattle.tick.specs.declared.dealt.Dealt.{Dealt}
+use Rattle.heartbeats.specs.declared.dealt.Dealt.{Dealt}
 use Rattle.tick.specs.TickWords.{bare, rescheduledWords, withinWords, lossWords, afterLossWords, dealAllWords, lostWords, checkWords, basicWords, timeoutWords, passedWords, deadlineWords}
-use Rattle.tick.specs.TickIn.{Turns, dealtOf, TicksIn, LosesIn}
+use Rattle.heartbeats.specs.PartsIn.{Turns, dealtOf, TicksIn}
+use Rattle.tick.specs.TickIn.{LosesIn}
 
 abbrev pub on : Dealt
 on = record { logged = errors.None; ended = false }

@@ -1,6 +1,6 @@
--- The parts of the tick, over plain variables: what each makes of a head is what its rule makes of the plain head.
+-- The errors of the SoC check, over plain variables: what an entry, an error and the walk make of a head is what their rule makes of the plain head.
 -- Assumes nothing.
-use Prim.Native.Nat.{ℕ, zero, suc, _+_, _-_, _%_, _≤_, min}
+use Prim.Native.Nat.{ℕ, zero, suc, _+_, _%_, _≤_, min}
 use mathlib.Core.Path.{_≡_, refl, sym, ap, ap₂, _∙_}
 use mathlib.Core.Bool.{Bool, true, false, true≢false, false≢true}
 use mathlib.Core.List.{List, [], _∷_, _++_}
@@ -9,18 +9,12 @@ use native.Mathlib.Omega.{arith}
 use native.Mathlib.Numerals.{add-one}
 use Rattle.types.specs.Pick.{pick, both}
 use Rattle.types.specs.Errors.{reported}
-use Rattle.types.specs.declared.nmt.events.NmtEvent.{NmtEvent}
 use Rattle.types.specs.declared.nmt.events.NmtEvent.the-variants.{Error}
 use Rattle.types.specs.declared.frame.error.types.DllError.{DllError}
 use Rattle.types.specs.declared.frame.error.types.DllErrors.{DllErrors}
 use Rattle.types.specs.declared.frame.error.types.DllErrors.the-variants as errors
-use Rattle.nmt.specs.Nmt as Nmt
-use Rattle.nmt.specs.declared.cn_state_machine.NmtAnswer.{NmtAnswer}
-use Rattle.counters.specs.Counters.{counter, afterError, raised, counted, unsignalled, Effect, counts, losesLink, isLogged, nothing, effect, handledAs, handled}
-use Rattle.counters.specs.Counters as Counters
-use Rattle.counters.specs.declared.counters.CounterKind.{CounterKind}
+use Rattle.counters.specs.Counters.{handled}
 use Rattle.counters.specs.Marks.{Mark, errorMarks}
-use Rattle.counters.specs.declared.counters.CnErrorCounters.{CnErrorCounters}
 use Rattle.counters.specs.declared.counters.HandledError.{HandledError}
 use lib.ListN.{length, take, drop, drop-of-length-le}
 use Rattle.entries.specs.Entry.{FitsBytes, crossing}
@@ -35,25 +29,15 @@ use Rattle.entries.proofs.Lists.{kept-exactly, waiting-pushed, pushed-capacity,
 use Rattle.head.specs.Head.{Head}
 use Rattle.node.specs.Plain.{Plain}
 use Rattle.node.specs.Steps.{plainOf, withErrors}
-use Rattle.node.specs.Tick.{Ticked, acts, dealt, dealBy, deal, dealAll, goesOn, behind, oneMore, checkOff, signalled, eventInTick, statistics, counter1, kept, droppedOne, queued}
+use Rattle.node.specs.Tick.{Ticked, acts, dealt, dealBy, deal, dealAll, goesOn, behind, oneMore, signalled, eventInTick, statistics, counter1, kept, droppedOne, queued}
 use Rattle.node.specs.Refines.{plain, Becomes, Rings, rings, joins, joinsAll}
-use Rattle.tick.specs.Ticks.{PartLeft, Finishes, Ticks, quietEffect, isQuiet, errorAt}
+use Rattle.heartbeats.specs.Parts.{PartLeft, Finishes, Ticks, isQuiet}
+use Rattle.heartbeats.proofs.PartLaws.{Quiet, handled-quiet, Alike}
+use Rattle.tick.specs.Ticks.{errorAt}
 use Rattle.tick.specs.declared.soc.NextError.{NextError}
 use Rattle.tick.specs.declared.soc.NextError.the-variants as next
 use Rattle.watched.specs.Watched.{allOf}
 use Rattle.head.specs.Head.{ofParts}
-
-module _ (h : Head) where
-  -- a head with these parts replaced stands for a plain head with them replaced
-  pub event-becomes :
-      (event : NmtEvent) (a : NmtAnswer) →
-      Nmt.outcome a ≡ Nmt.processed (h .nmt) event →
-      Becomes h (λ p. eventInTick p event) (ofParts (a .machine) (h .dll) (h .errors) (checkOff (h .soc)) (h .od) (h .queue) (h .history))
-  event-becomes event a e = (
-    λ q m i.
-        plainOf (e i .machine) (h .dll .state) (h .errors) (checkOff (h .soc)) (h .od) (capacityOf (h .queue)) (waiting q (h .queue)) (history m (h .history)),
-    record { queue = refl; history = refl },
-  )
 
 -- where an entry is dropped, no byte is written
 dropped-bytes : (q : List ℕ) (k : EmergencyQueue) (e : ErrorEntry) → pushed k .kept ≡ false → pushedBytes q k e ≡ q
@@ -126,27 +110,6 @@ module _ (h : Head) (q m q′ : List ℕ) (e : ErrorEntry) (p : Pushed) (a : p �
             ∙ sym (ap (λ (b : Bool). pick b (record { queue = pushed (h .queue) .queue; queueBytes = pushedBytes q (h .queue) e; history = joined (h .history); historyBytes = joinedBytes m (h .history) e }) (rings h q m)) t),
       )
 
--- an error's end: with an action the event Error follows
-module _ (g : Head) (es : DllErrors) (ends : Bool) where
-  pub finish-on : ends ≡ false → Finishes g es ends (record { head = g; logged = es; ended = ends })
-  finish-on e =
-      record {
-        head = λ q m. sym (ap (λ (b : Bool). pick b (eventInTick (plain g q m) Error) (plain g q m)) e);
-        places = record { queue = refl; history = refl };
-        logged = refl;
-        ended = refl;
-      }
-
-  pub finish-off :
-      ends ≡ true → (f : Head) → Becomes g (λ p. eventInTick p Error) f → Finishes g es ends (record { head = f; logged = es; ended = ends })
-  finish-off e f b =
-      record {
-        head = λ q m. b .0 q m ∙ sym (ap (λ (b : Bool). pick b (eventInTick (plain g q m) Error) (plain g q m)) e);
-        places = b .1;
-        logged = refl;
-        ended = refl;
-      }
-
 -- one error of the SoC check, from what its parts left
 module _ (h : Head) (q m : List ℕ) (e : DllError) (t : ℕ) (r : HandledError) (e₁ : r ≡ handled (h .errors) e) where
   abbrev p₀ : Plain
@@ -199,32 +162,6 @@ module _ (h : Head) (q m : List ℕ) (e : DllError) (t : ℕ) (r : HandledError)
         ∙ (λ i. joins (record { queue = u .1 .queue i; queueBytes = q; history = u .1 .history i; historyBytes = m }) (crossing e t))
         ∙ (λ i. joins (record { queue = d .1 .queue i; queueBytes = q; history = d .1 .history i; historyBytes = m }) (crossing e t)))
         a n f k
-
--- An error that counts for a kind, or for none, is quiet: nothing is signalled or logged unless it brings an action.
-pub record Quiet (r : HandledError) : Type 0 where
-  pub signal : r .signal ≡ false
-  pub logged : reported (r .logged) ≡ []
-
-pub handled-quiet : (s : CnErrorCounters) (e : DllError) → isQuiet e ≡ true → acts (handled s e .action) ≡ false → Quiet (handled s e)
-unfolding handled counted
-handled-quiet s e = by (effect e)
-  where
-    crossed : (k : CounterKind) (b : Bool) → acts (pick b (Counters.crossing (raised k s) e) (unsignalled (raised k s)) .action) ≡ false → Quiet (pick b (Counters.crossing (raised k s) e) (unsignalled (raised k s)))
-    crossed k true a = absurd (true≢false a)
-    crossed k false a = record { signal = refl; logged = refl }
-
-    by : (f : Effect) → quietEffect f ≡ true → acts (handledAs f s e .action) ≡ false → Quiet (handledAs f s e)
-    by (counts k) q a = crossed k (afterError (counter k s) .reached) a
-    by losesLink q a = absurd (false≢true q)
-    by isLogged q a = absurd (false≢true q)
-    by nothing q a = record { signal = refl; logged = refl }
-
--- two ticks alike in all but their marks
-pub record Alike (a b : Ticked) : Type 0 where
-  pub head : a .head ≡ b .head
-  pub logged : a .logged ≡ b .logged
-  pub crossings : a .crossings ≡ b .crossings
-  pub ended : a .ended ≡ b .ended
 
 -- a quiet error that brings no action: the walk goes on from the head that it left, and nothing has joined
 module _ (t : ℕ) (p : Plain) (e : DllError) (q : isQuiet e ≡ true) (n : deal t p e .ended ≡ false) where

@@ -19,10 +19,10 @@ use Rattle.node.specs.Steps.{declines}
 use Rattle.node.specs.Tick.{Ticked, goesOn, behind, checksHeartbeats, notBefore, looked, lateOnes, beat, beatAll, timeoutOf, byDeadline, tickTaken, tickAnswered, lookedAt}
 use Rattle.node.specs.Run.{step}
 use Rattle.node.specs.Refines.{plain, left, rings, joinsAll, Refines}
-use Rattle.tick.specs.Ticks.{PartLeft, Ticks, lookedFirst}
+use Rattle.heartbeats.specs.Parts.{PartLeft, Ticks, lookedFirst}
 use Rattle.node.proofs.Laws.{refined}
 use Rattle.watched.proofs.Lists.{few}
-use Rattle.tick.proofs.TickLaws.{handled-quiet}
+use Rattle.heartbeats.proofs.PartLaws.{handled-quiet}
 use Rattle.tick.proofs.DeadlineLaws.{ticks-as}
 use Rattle.watched.proofs.Lists.{each-nodes}
 

@@ -11,7 +11,7 @@ use Rattle.watched.specs.declared.nodes.WatchedNode.{WatchedNode}
 use Rattle.watched.specs.Watched.{inTime, allOf, wellFormed, watchedOf}
 use Rattle.node.specs.Tick.{checksHeartbeats, notBefore, lateOnes, beatAll, byDeadline, tickTaken}
 use Rattle.node.specs.Refines.{plain}
-use Rattle.tick.specs.Ticks.{lookedFirst}
+use Rattle.heartbeats.specs.Parts.{lookedFirst}
 use Rattle.tick.specs.declared.tick.TickAnswer.the-variants as answer
 use Rattle.watched.proofs.Lists.{few}
 use Rattle.tick.proofs.TickRefines.{tick-idle, tick-ended, tick-goes-on, tick-unformed, tick-late, tick-before, tick-accepted}
@@ -21,10 +21,12 @@ use Rattle.types.specs.declared.nmt.states.NmtState.{NmtState}
 use Rattle.watched.specs.declared.nodes.Seen.{Seen}
 use Rattle.watched.specs.declared.nodes.Seen.the-variants as seen
 use Rattle.watched.proofs.Watching.{places, seen-unformed, seen-formed}
-use Rattle.tick.specs.declared.dealt.Dealt.{Dealt}
-use Rattle.tick.specs.TickWords.{beatAllWords, restWords, lookedWords, tickWords}
-use Rattle.tick.specs.TickIn.{dealtOf, TicksIn, rousedOf, TickedIn}
-use Rattle.tick.proofs.Beatings.{both-left, rest-before, rest-late, rest-words, rest-nodes}
+use Rattle.heartbeats.specs.declared.dealt.Dealt.{Dealt}
+use Rattle.heartbeats.specs.PartWords.{beatAllWords, lookedWords}
+use Rattle.tick.specs.TickWords.{restWords, tickWords}
+use Rattle.heartbeats.specs.PartsIn.{dealtOf, TicksIn}
+use Rattle.tick.specs.TickIn.{rousedOf, TickedIn}
+use Rattle.heartbeats.proofs.Beatings.{both-left, rest-before, rest-late, rest-words, rest-nodes}
 use Rattle.tick.proofs.Passings.{on}
 
 -- the phases

@@ -1,46 +1,34 @@
 -- The steps of the tick that make one head of another, in words: a claim about what is written is computed on words written out one by one.
 -- Assumes nothing.
 use Prim.Native.Nat.{ℕ, _+_, _%_, _<_, _≤_, min}
-use mathlib.Core.Path.{_≡_, refl, sym, ap, ap₂, subst, _∙_}
+use mathlib.Core.Path.{_≡_, refl, sym, ap, ap₂, _∙_}
 use mathlib.Core.Bool.{Bool, true, false}
 use mathlib.Core.List.{List}
-use native.Mathlib.Omega.{arith}
 use lib.Dec.{ltb}
 use lib.ListN.{length, set}
-use borrow.Author.Tests.{lt-ltb, le-ltb, eq-eqb, ne-eqb}
+use borrow.Author.Tests.{lt-ltb, le-ltb}
 use Rattle.types.specs.Pick.{pick, both}
-use Rattle.types.specs.declared.nmt.events.NmtEvent.{NmtEvent}
-use Rattle.types.specs.declared.nmt.events.NmtEvent.the-variants.{Error, Timeout}
-use Rattle.types.specs.declared.frame.error.types.DllErrors.{DllErrors}
-use Rattle.nmt.specs.Nmt as Nmt
-use Rattle.nmt.specs.declared.cn_state_machine.NmtAnswer.{NmtAnswer}
+use Rattle.types.specs.declared.nmt.events.NmtEvent.the-variants.{Timeout}
 use Rattle.entries.specs.Queue.{queue}
 use Rattle.entries.specs.History.{errorHistory}
 use Rattle.head.specs.declared.state.Deadline.{Deadline}
 use Rattle.head.specs.declared.state.Deadline.the-variants.{At, Nothing}
 use Rattle.head.specs.declared.state.Statistic.the-variants.{Counter1}
 use Rattle.head.specs.Head.{Head}
-use Rattle.node.specs.Plain.{Plain}
 use Rattle.node.specs.Steps.{withSoc, cycleOf, limitOf}
 use Rattle.head.specs.Head.{socWatch}
-use Rattle.node.specs.Tick.{isEven, changed, registered, signalled, checkOff, withDeadline, eventInTick, statistics, counter1, oneMore, nextDeadline, rescheduled, withinLimit, setsBasic, timesOut}
-use Rattle.node.specs.Refines.{Becomes}
-use Rattle.head.specs.Head.{ofParts, with-nmt, with-soc, with-values}
-use Rattle.tick.proofs.TickLaws.{event-becomes, finish-on, finish-off}
+use Rattle.node.specs.Tick.{checkOff, withDeadline, eventInTick, statistics, counter1, oneMore, nextDeadline, rescheduled, withinLimit, setsBasic, timesOut}
+use Rattle.head.specs.Head.{ofParts, with-soc}
 use Rattle.tick.proofs.DeadlineLaws.{resched-on, resched-off, within-none, within-ahead, within-late, basic-on, basic-none, timed-out, never-out}
 use Rattle.head.specs.Places as at
-use Rattle.head.specs.Words.{word, yes, timeOf, stateOf, nmtOf, socOf, odOf, headOf}
-use Rattle.head.specs.Written.{nmtWritten, deadlineWritten}
+use Rattle.head.specs.Words.{word, timeOf, socOf, odOf, headOf}
+use Rattle.head.specs.Written.{deadlineWritten}
 use Rattle.head.proofs.Whole.{whole}
-use Rattle.head.proofs.Laws.{yes-one, state-back, time-back, statistic-written, with-signal, signal-written, changed-written}
-use Rattle.node.proofs.Refining.{Keeps, processed-keeps}
-use Rattle.tick.specs.TickWords.{signalWords, eventWords, finishedWords, bare, rescheduledWords, limitAt, withinWords, basicWords, timeoutWords}
-use Rattle.tick.specs.TickIn.{Turns, FinishesIn}
-
-abbrev EventRead : ℕ → ℕ → ℕ → List ℕ → Type 0
-EventRead s e r ws =
-    headOf (set (set (set (set ws at.state s) at.enabled e) at.ready r) at.check 0)
-    ≡ with-soc (with-nmt (headOf ws) (Nmt.with (nmtOf ws) (stateOf s) (yes e) (yes r))) (checkOff (socOf ws))
+use Rattle.head.proofs.Laws.{time-back, statistic-written}
+use Rattle.heartbeats.specs.PartWords.{eventWords}
+use Rattle.tick.specs.TickWords.{bare, rescheduledWords, limitAt, withinWords, basicWords, timeoutWords}
+use Rattle.heartbeats.specs.PartsIn.{Turns}
+use Rattle.heartbeats.proofs.Turns.{turned}
 
 abbrev OffRead : List ℕ → Type 0
 OffRead ws = headOf (set ws at.check 0) ≡ with-soc (headOf ws) (checkOff (socOf ws))
@@ -62,22 +50,7 @@ EntryRead n o l a b ws =
     ≡ ofParts (headOf ws .nmt) (headOf ws .dll) (headOf ws .errors) (headOf ws .soc)
     (statistics (odOf ws) (odOf ws .«counter_1») n (odOf ws .«counter_3»)) (queue (o % 256) (l % 256) (word ws at.capacity % 256)) (errorHistory (a % 256) (b % 256))
 
--- words that stand for the head k
-pub turned :
-    (ws : List ℕ) (f : Plain → Plain) (k : Head) (to known ws′ : List ℕ) →
-    Becomes (headOf ws) f k →
-    headOf to ≡ k →
-    known ≡ to →
-    ws′ ≡ to →
-    Turns ws f ws′ known
-turned ws f k to known ws′ b e n w =
-    record { becomes = subst (λ (g : Head). Becomes (headOf ws) f g) (sym (ap headOf w ∙ e)) b; words = w ∙ sym n }
-
 module _ (ws : List ℕ) (long : length ws ≡ 52) where
-  event-read : (s e r : ℕ) → EventRead s e r ws
-  unfolding headOf
-  event-read s e r = whole (EventRead s e r) ws long refl
-
   off-read : OffRead ws
   unfolding headOf
   off-read = whole OffRead ws long refl
@@ -99,22 +72,6 @@ module _ (ws : List ℕ) (long : length ws ≡ 52) where
   due-written Nothing = not-due-read
 
   module _ (ws′ : List ℕ) where
-    pub event-turns :
-        (e : NmtEvent) (a : NmtAnswer) →
-        Nmt.outcome a ≡ Nmt.processed (nmtOf ws) e →
-        ws′ ≡ set (nmtWritten ws (a .machine)) at.check 0 →
-        Turns ws (λ p. eventInTick p e) ws′ (eventWords ws e)
-    unfolding headOf eventWords
-    event-turns e a o w =
-        let m : a .machine ≡ Nmt.processed (nmtOf ws) e .machine = ap (λ (o : Nmt.Outcome). o .machine) o in
-        let kept : Keeps (nmtOf ws) (a .machine) = subst (Keeps (nmtOf ws)) (sym m) (processed-keeps (nmtOf ws) e) in
-        let n = a .machine in
-        turned ws (λ p. eventInTick p e) _ (set (nmtWritten ws n) at.check 0) _ ws′ (event-becomes (headOf ws) e a o)
-        (event-read _ _ _
-        ∙ (λ i. with-soc (with-nmt (headOf ws) (Nmt.with (nmtOf ws) (state-back (n .«current_state») i) (yes-one (n .«ready_to_operate_enabled») i) (yes-one (n .«app_ready») i))) (checkOff (socOf ws)))
-        ∙ ap (λ n. with-soc (with-nmt (headOf ws) n) (checkOff (socOf ws))) (sym kept))
-        (ap (λ n. set (nmtWritten ws n) at.check 0) (sym m)) w
-
     pub off-turns : ws′ ≡ set ws at.check 0 → Turns ws (λ p. withSoc p (checkOff (p .soc))) ws′ (set ws at.check 0)
     unfolding headOf
     off-turns w =
@@ -129,23 +86,6 @@ module _ (ws : List ℕ) (long : length ws ≡ 52) where
     unfolding headOf
     counter1-turns w =
         turned ws counter1 _ (set ws at.counter1 (oneMore (word ws at.counter1))) _ ws′ (λ q m. refl, record { queue = refl; history = refl }) (statistic-written ws long Counter1 _) refl w
-
--- an error's end
-module _ (ws : List ℕ) (es : DllErrors) (ends : Bool) where
-  pub ends-on : ends ≡ false → FinishesIn ws es ends (record { logged = es; ended = ends }) ws
-  unfolding finishedWords
-  ends-on e =
-      record { finishes = finish-on (headOf ws) es ends e; words = sym (ap (λ (b : Bool). pick b (eventWords ws Error) ws) e) }
-
-  pub ends-off :
-      ends ≡ true → (ws′ : List ℕ) → Turns ws (λ p. eventInTick p Error) ws′ (eventWords ws Error) →
-      FinishesIn ws es ends (record { logged = es; ended = ends }) ws′
-  unfolding finishedWords
-  ends-off e ws′ k =
-      record {
-        finishes = finish-off (headOf ws) es ends e (headOf ws′) (k .becomes);
-        words = k .words ∙ sym (ap (λ (b : Bool). pick b (eventWords ws Error) ws) e);
-      }
 
 -- the next deadline
 module _ (ws : List ℕ) (t y : ℕ) (b : y ≡ cycleOf (odOf ws)) (ws′ : List ℕ) where
@@ -254,41 +194,3 @@ module _ (ws : List ℕ) (t n : ℕ) (e : n ≡ word ws at.timeout) where
         becomes = never-out (headOf ws) (headOf ws) t n e z;
         words = sym (ap (λ (c : Bool). pick c (eventWords ws Timeout) ws) (times false (le-ltb 0 n z)));
       }
-
--- a signal, by whether the register is even
-abbrev signalledHead : Head → Head
-signalledHead h = with-values (with-soc h (changed (h .soc))) (registered (h .od)) (h .history)
-
-module _ (ws : List ℕ) (long : length ws ≡ 52) (ws′ : List ℕ) where
-  signals :
-      (to : List ℕ) (r n : ℕ) (b : Bool) →
-      isEven (word ws at.register % 256) ≡ b →
-      headOf to ≡ with-signal (headOf ws) r n →
-      r ≡ pick b (word ws at.register % 256 + 1) (word ws at.register % 256) →
-      n ≡ pick b (oneMore (word ws at.counter5)) (word ws at.counter5) →
-      signalWords ws ≡ to →
-      ws′ ≡ to →
-      Turns ws signalled ws′ (signalWords ws)
-  unfolding headOf
-  signals to r n b t e u v f w =
-      let k : headOf ws′ ≡ signalledHead (headOf ws) =
-      ap headOf w ∙ e ∙ (λ i. with-signal (headOf ws) (u i) (v i))
-      ∙ ap (λ (b : Bool). with-signal (headOf ws) (pick b (word ws at.register % 256 + 1) (word ws at.register % 256)) (pick b (oneMore (word ws at.counter5)) (word ws at.counter5))) (sym t) in
-      record {
-        becomes = subst (λ (g : Head). Becomes (headOf ws) signalled g) (sym k) (λ q m. refl, record { queue = refl; history = refl });
-        words = w ∙ sym f;
-      }
-
-  pub signal-even :
-      word ws at.register % 256 % 2 ≡ 0 →
-      ws′ ≡ set (set (set ws at.changed 1) at.register (word ws at.register % 256 + 1)) at.counter5 (oneMore (word ws at.counter5)) →
-      Turns ws signalled ws′ (signalWords ws)
-  signal-even h w =
-      let t : isEven (word ws at.register % 256) ≡ true = eq-eqb (word ws at.register % 256 % 2) 0 h in
-      let fits : (word ws at.register % 256 + 1) % 256 ≡ word ws at.register % 256 + 1 = omega arith in
-      signals _ _ _ true t (signal-written ws long _ _) fits refl (rw t) w
-
-  pub signal-odd : (word ws at.register % 256 % 2 ≡ 0 → ⊥) → ws′ ≡ set ws at.changed 1 → Turns ws signalled ws′ (signalWords ws)
-  signal-odd h w =
-      let t : isEven (word ws at.register % 256) ≡ false = ne-eqb (word ws at.register % 256 % 2) 0 h in
-      signals _ _ _ false t (changed-written ws long) refl refl (rw t) w

@@ -1,4 +1,4 @@
--- What the parts of the tick leave of a head in words, against the plain tick; and the contract of the tick.
+-- What a SocTimeout leaves of a head in words, against the plain tick; and the contract of the tick.
 -- Assumes nothing.
 use Prim.Native.Nat.{ℕ}
 use mathlib.Core.Path.{_≡_}
@@ -7,39 +7,21 @@ use mathlib.Core.List.{List}
 use Rattle.types.specs.Pick.{pick, both}
 use Rattle.types.specs.Errors.{reported}
 use Rattle.types.specs.declared.frame.error.types.DllErrors.{DllErrors}
-use Rattle.node.specs.Plain.{Plain, Call, Answer, refused, tickAnswer}
+use Rattle.node.specs.Plain.{Call, Answer, refused, tickAnswer}
 use Rattle.watched.specs.Watched.{allOf, wellFormed, watchedOf}
-use Rattle.node.specs.Tick.{Ticked, checksHeartbeats}
+use Rattle.node.specs.Tick.{checksHeartbeats}
 use Rattle.node.specs.Run.{step}
-use Rattle.node.specs.Refines.{plain, left, Becomes, rings, joinsAll, Refines}
-use Rattle.tick.specs.Ticks.{PartLeft, Finishes, Ticks, Loses}
+use Rattle.node.specs.Refines.{plain, left, rings, joinsAll, Refines}
+use Rattle.tick.specs.Ticks.{Loses}
 use Rattle.head.specs.Words.{nmtOf, headOf}
 use Rattle.watched.specs.Nodes.{nodesOf, rests}
 use Rattle.watched.specs.declared.nodes.WatchedNode.{WatchedNode}
 use Rattle.watched.specs.declared.nodes.Seen.{Seen}
 use Rattle.watched.specs.declared.nodes.Seen.the-variants as seen
-use Rattle.tick.specs.declared.dealt.Dealt.{Dealt}
 use Rattle.tick.specs.declared.tick.TickAnswer.{TickAnswer}
 use Rattle.tick.specs.declared.tick.TickAnswer.the-variants as answer
-use Rattle.tick.specs.TickWords.{finishedWords, lossWords, lookedWords, tickWords}
-
--- Of a step f of the tick: the head that the words stand for becomes what f makes of it, queue and history stand where they stood, and the words are
--- all known.
-pub record Turns (ws : List ℕ) (f : Plain → Plain) (ws′ known : List ℕ) : Type 0 where
-  pub becomes : Becomes (headOf ws) f (headOf ws′)
-  pub words : ws′ ≡ known
-
--- with the head that the words stand for
-abbrev pub dealtOf : List ℕ → Dealt → PartLeft
-dealtOf ws d = record { head = headOf ws; logged = d .logged; ended = d .ended }
-
-pub record FinishesIn (ws : List ℕ) (es : DllErrors) (ends : Bool) (d : Dealt) (ws′ : List ℕ) : Type 0 where
-  pub finishes : Finishes (headOf ws) es ends (dealtOf ws′ d)
-  pub words : ws′ ≡ finishedWords ends ws
-
-pub record TicksIn (ws q m : List ℕ) (k : Ticked) (d : Dealt) (ws′ q′ m′ known : List ℕ) : Type 0 where
-  pub ticks : Ticks (headOf ws) q m k (dealtOf ws′ d) q′ m′
-  pub words : ws′ ≡ known
+use Rattle.heartbeats.specs.PartWords.{lookedWords}
+use Rattle.tick.specs.TickWords.{lossWords, tickWords}
 
 pub record LosesIn (ws : List ℕ) (es : DllErrors) (ws′ : List ℕ) : Type 0 where
   pub loses : Loses (headOf ws) (headOf ws′) es

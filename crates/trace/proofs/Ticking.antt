@@ -29,8 +29,8 @@ use Rattle.watched.specs.Watched.{allOf}
 use Rattle.node.specs.Plain.{Plain}
 use Rattle.node.specs.Steps.{withDll, withErrors, withSoc, cycleOf, limitOf}
 use Rattle.node.specs.Tick.{Ticked, goesOn, behind, checksHeartbeats, acts, oneMore, signalled, checkOff, finished, dealt, beatBy, timeoutOf, beat, beatAll, lateOnes, heartbeats, withDeadline, atNotActive, basicTimeout, timesOut, counter1, kept, droppedOne, queued, dealBy, deal, dealAll, lastSoc, elapsed, nextDeadline, rescheduled, withinLimit, socTimeout, lost, socCheck, passed, byDeadline, tickTaken}
-use Rattle.tick.specs.Ticks.{isQuiet}
-use Rattle.tick.proofs.TickLaws.{handled-quiet}
+use Rattle.heartbeats.specs.Parts.{isQuiet}
+use Rattle.heartbeats.proofs.PartLaws.{handled-quiet}
 use Rattle.trace.specs.Tally.{Told, told, toldBy, toldInTick, inPreOperational2}
 use Rattle.trace.proofs.Modes.{mode, mode-event, both-first, both-second}
 use Rattle.counters.proofs.Counts.{Counting, counting-none, counting-then, counting-handled}

@@ -8,7 +8,7 @@ use mathlib.Core.Path.{_≡_, sym, _∙_}
 use mathlib.Core.Bool.{true}
 use Rattle.types.specs.Errors.{reported}
 use Rattle.watched.specs.Watched.{allOf}
-use Rattle.tick.specs.Ticks.{isQuiet}
+use Rattle.heartbeats.specs.Parts.{isQuiet}
 use Rattle.tick.proofs.TickLaws.{two-over, none-left}
 use Rattle.tick.proofs.Dealings.{WalkingIn, walk-begins, walk-over, walk-stops, walk-goes-on}
 use Rattle.tick.proofs.soc.deal_all.Statement.{statement}

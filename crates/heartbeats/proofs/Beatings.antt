@@ -1,0 +1,343 @@
+-- The heartbeats in words: the look at the nodes, and the walk over the late ones. What they make of the head is by the laws on a head by its parts;
+-- the words are beside it.
+-- Assumes nothing.
+use Prim.Native.Nat.{ℕ, suc, _+_, _*_, _-_, _≤_, _<_}
+use mathlib.Core.Path.{_≡_, refl, sym, ap, ap₂, subst, _∙_}
+use mathlib.Core.Bool.{Bool, true, false, false≢true}
+use mathlib.Core.List.{List, [], _∷_, _++_, map}
+use native.Mathlib.Omega.{arith}
+use native.Mathlib.Numerals.{add-one}
+use lib.Dec.{eqb, leb, ltb}
+use lib.ListN.{length, getD, set, take, drop, length-set, take-append-drop}
+use lib.Seq.{getD-take, length-take-le}
+use borrow.Author.Tests.{ltb-true, leb-true, leb-false, eqb-true, eqb-false, lt-ltb, le-ltb, lt-leb, eq-eqb, ne-eqb}
+use Rattle.types.specs.Pick.{pick, both, either}
+use Rattle.types.specs.Types.{node, isNode}
+use Rattle.types.specs.declared.frame.error.types.DllError.the-variants.{HeartbeatTimeout}
+use Rattle.types.specs.declared.frame.error.types.DllErrors.{DllErrors}
+use Rattle.types.specs.declared.frame.error.types.DllErrors.the-variants as errors
+use Rattle.counters.specs.Counters.{effect, handled}
+use Rattle.counters.specs.declared.counters.HandledError.{HandledError}
+use Rattle.head.specs.Head.{Head}
+use Rattle.watched.specs.declared.nodes.WatchedNode.{WatchedNode}
+use Rattle.watched.specs.Watched.{allOf, ascending, fits, wellFormed, noNode, heardNow, watchedNode, watchedOf}
+use Rattle.node.specs.Tick.{notBefore, isLate, looked, lateOnes, acts, signalled, timeoutOf, beat, beatAll}
+use Rattle.node.specs.Refines.{plain, Becomes}
+use Rattle.head.specs.Head.{with-errors}
+use Rattle.watched.proofs.Lists.{each-turn, from-here, at-end, whole}
+use Rattle.heartbeats.specs.Parts.{Finishes, lookedFirst}
+use Rattle.heartbeats.proofs.Beats.{beat-signalled, beat-unsignalled, Beating, beats-begin, beats-over, beats-pass, beats-stop, beats-go-on}
+use Rattle.head.specs.Words.{errorsOf, headOf}
+use Rattle.watched.specs.Nodes.{nodeAt, nodesOf, rests}
+use Rattle.node.specs.InPlace.{replied, effectWords}
+use Rattle.node.specs.declared.calls.ErrorTaken.{ErrorTaken}
+use Rattle.node.proofs.Refining.{effect-written}
+use Rattle.watched.proofs.Watching.{places, node-at, heard-written}
+use Rattle.heartbeats.specs.declared.dealt.Dealt.{Dealt}
+use Rattle.heartbeats.specs.PartWords.{signalWords, lookedTime, lookWords, lookedWords, finishedWords, endsBy, beatWords, beatAllWords}
+use Rattle.heartbeats.specs.PartsIn.{Turns, dealtOf, FinishesIn, TicksIn}
+
+-- the look at one node
+module _ (t o l : ℕ) where
+  abbrev late : Bool
+  late = isLate t (watchedNode 0 o l)
+
+  pub look-unheard : l ≡ 0 → t ≡ lookedTime t o l
+  look-unheard h = sym (ap (λ (c : Bool). pick (either c late) t l) (eq-eqb l 0 h))
+
+  pub look-heard : (l ≡ 0 → ⊥) → (b c : Bool) → b ≡ late → b ≡ c → pick c t l ≡ lookedTime t o l
+  look-heard h b c e z =
+      sym (ap (λ (c : Bool). pick (either c late) t l) (ne-eqb l 0 h) ∙ ap (λ (c : Bool). pick c t l) (sym e ∙ z))
+
+looked-by : (t : ℕ) (w : WatchedNode) → heardNow (lookedTime t (w .timeout) (w .«last_heard»)) w ≡ looked t w
+looked-by t w = by (either (eqb (w .«last_heard») 0) (isLate t w))
+  where
+    by : (b : Bool) → heardNow (pick b t (w .«last_heard»)) w ≡ pick b (heardNow t w) w
+    by true = refl
+    by false = refl
+
+pub looks-begin : (t : ℕ) (ns : List ℕ) → ns ≡ lookedWords t 0 ns
+unfolding lookedWords
+looks-begin t ns = refl
+
+-- a turn of the look
+module _ (t : ℕ) (ns₀ ns : List ℕ) (i : ℕ) (inside : i < 32) (long : length ns ≡ 96) (x : ℕ) (e : x ≡ lookedTime t (getD ns (3 * i + 1) 0) (getD ns (3 * i + 2) 0)) where
+  pub look-words : ns ≡ lookedWords t i ns₀ → set ns (3 * i + 2) x ≡ lookedWords t (i + 1) ns₀
+  unfolding lookedWords
+  look-words a = ap (set ns (3 * i + 2)) e ∙ ap (lookWords t i) a ∙ ap (λ (n : ℕ). lookedWords t n ns₀) (sym (add-one i))
+
+  pub look-nodes : nodesOf ns ≡ lookedFirst t i (nodesOf ns₀) → nodesOf (set ns (3 * i + 2) x) ≡ lookedFirst t (i + 1) (nodesOf ns₀)
+  look-nodes b =
+      let w : WatchedNode = getD (nodesOf ns) i noNode in
+      let v : x ≡ lookedTime t (w .timeout) (w .«last_heard») =
+      e ∙ ap (λ (v : WatchedNode). lookedTime t (v .timeout) (v .«last_heard»)) (sym (node-at ns i inside)) in
+      heard-written ns long i inside x
+      ∙ each-turn (looked t) (nodesOf ns₀) (nodesOf ns) i noNode (rw (places ns₀) inside) b (heardNow x w)
+      (ap (λ (x : ℕ). heardNow x w) v ∙ looked-by t w)
+
+  pub look-long : length (set ns (3 * i + 2) x) ≡ 96
+  look-long = length-set ns (3 * i + 2) x ∙ long
+
+-- what is read at a node's words is read of the node
+pub before-at : (t : ℕ) (ns : List ℕ) (i : ℕ) → i < 32 → (b : Bool) → b ≡ notBefore t (nodeAt ns i) → b ≡ notBefore t (getD (nodesOf ns) i noNode)
+before-at t ns i h b e = e ∙ ap (notBefore t) (sym (node-at ns i h))
+
+pub late-at : (t : ℕ) (ns : List ℕ) (i : ℕ) → i < 32 → (b : Bool) → b ≡ isLate t (nodeAt ns i) → b ≡ isLate t (getD (nodesOf ns) i noNode)
+late-at t ns i h b e = e ∙ ap (isLate t) (sym (node-at ns i h))
+
+both-right : (a b : Bool) → both a b ≡ true → b ≡ true
+both-right true b h = h
+both-right false b h = absurd (false≢true h)
+
+pub both-left : (a b : Bool) → both a b ≡ true → a ≡ true
+both-left true b h = refl
+both-left false b h = h
+
+all-at : (p : WatchedNode → Bool) (ws : List WatchedNode) (i : ℕ) (d : WatchedNode) → i < length ws → allOf p ws ≡ true → p (getD ws i d) ≡ true
+all-at p [] i d h a = absurd (omega arith)
+all-at p (w ∷ ws) Prim.Native.Nat.zero d h a = both-left (p w) (allOf p ws) a
+all-at p (w ∷ ws) (suc i) d h a = all-at p ws i d (omega arith) (both-right (p w) (allOf p ws) a)
+
+-- a node that rests
+module _ (t : ℕ) (w : WatchedNode) where
+  abbrev o : ℕ
+  o = w .timeout
+
+  abbrev l : ℕ
+  l = w .«last_heard»
+
+  abbrev restsBy : Bool → Bool → Bool → Bool → Bool
+  restsBy a b c d = both a (pick b true (both c d))
+
+  rested : rests t w ≡ true → (notBefore t w ≡ true) × (isLate t w ≡ false) × (l ≡ 0 → ⊥)
+  rested h = by (eqb o 0) refl h
+    where
+      by : (b : Bool) → eqb o 0 ≡ b → restsBy (ltb 0 l) b (leb l t) (leb (t - l) o) ≡ true → (notBefore t w ≡ true) × (isLate t w ≡ false) × (l ≡ 0 → ⊥)
+      by true e r =
+          let z : o ≡ 0 = eqb-true o 0 e in
+          let a : 0 < l = ltb-true 0 l (both-left (ltb 0 l) true r) in
+          (rw (le-ltb 0 o (omega arith)), rw (lt-ltb 0 l a, le-ltb 0 o (omega arith)), λ h. omega arith)
+      by false e r =
+          let z = eqb-false o 0 e in
+          let a : 0 < l = ltb-true 0 l (both-left (ltb 0 l) _ r) in
+          let u : both (leb l t) (leb (t - l) o) ≡ true = both-right (ltb 0 l) _ r in
+          let c : leb l t ≡ true = both-left (leb l t) _ u in
+          let d : t - l ≤ o = leb-true (t - l) o (both-right (leb l t) _ u) in
+          let p : 0 < o = omega arith in
+          (rw (lt-ltb 0 o p, lt-ltb 0 l a, c), rw (lt-ltb 0 l a, lt-ltb 0 o p, le-ltb o (t - l) d), λ h. omega arith)
+
+-- nodes that all rest: none is before now, none is late, and the look leaves their words
+module _ (t : ℕ) where
+  pub rest-before : (vs : List WatchedNode) → allOf (rests t) vs ≡ true → allOf (notBefore t) vs ≡ true
+  rest-before [] h = refl
+  rest-before (v ∷ vs) h =
+      ap₂ both (rested t v (both-left (rests t v) _ h) .0) (rest-before vs (both-right (rests t v) _ h))
+
+  pub rest-late : (vs : List WatchedNode) → allOf (rests t) vs ≡ true → lateOnes t vs ≡ []
+  rest-late [] h = refl
+  rest-late (v ∷ vs) h =
+      ap₂ (λ (b : Bool) (l : List WatchedNode). pick b (v ∷ l) l) (rested t v (both-left (rests t v) _ h) .1) (rest-late vs (both-right (rests t v) _ h))
+
+  rest-looked : (v : WatchedNode) → rests t v ≡ true → looked t v ≡ v
+  rest-looked v h =
+      let r = rested t v h in
+      ap₂ (λ (a b : Bool). pick (either a b) (heardNow t v) v) (ne-eqb (v .«last_heard») 0 (r .2)) (r .1)
+
+  rest-time : (v : WatchedNode) → rests t v ≡ true → lookedTime t (v .timeout) (v .«last_heard») ≡ v .«last_heard»
+  rest-time v h =
+      let r = rested t v h in
+      ap₂ (λ (a b : Bool). pick (either a b) t (v .«last_heard»)) (ne-eqb (v .«last_heard») 0 (r .2)) (r .1)
+
+  same-set : (ns : List ℕ) (i : ℕ) → set ns i (getD ns i 0) ≡ ns
+  same-set [] i = refl
+  same-set (n ∷ ns) Prim.Native.Nat.zero = refl
+  same-set (n ∷ ns) (suc i) = ap (λ (l : List ℕ). n ∷ l) (same-set ns i)
+
+  pub rest-words : (ns : List ℕ) (k : ℕ) → k ≤ 32 → allOf (rests t) (watchedOf (nodesOf ns) k) ≡ true → lookedWords t k ns ≡ ns
+  unfolding lookedWords
+  rest-words ns k few h = by k (omega arith)
+    where
+      b : allOf (rests t) (take k (nodesOf ns)) ≡ true
+      b = sym (ap (allOf (rests t)) (whole (nodesOf ns) k (places ns) few)) ∙ h
+
+      at : (i : ℕ) → i < k → rests t (nodeAt ns i) ≡ true
+      at i inside =
+          let l : length (take k (nodesOf ns)) ≡ k = length-take-le k (nodesOf ns) (rw (places ns) few) in
+          sym (ap (rests t) (getD-take k (nodesOf ns) i noNode inside ∙ node-at ns i (omega arith)))
+          ∙ all-at (rests t) (take k (nodesOf ns)) i noNode (rw l inside) b
+
+      by : (j : ℕ) → j ≤ k → lookedWords t j ns ≡ ns
+      by Prim.Native.Nat.zero z = refl
+      by (suc j) z =
+          ap (lookWords t j) (by j (omega arith)) ∙ ap (set ns (3 * j + 2)) (rest-time (nodeAt ns j) (at j (omega arith))) ∙ same-set ns (3 * j + 2)
+
+  map-same : (vs : List WatchedNode) → allOf (rests t) vs ≡ true → map (looked t) vs ≡ vs
+  map-same [] h = refl
+  map-same (v ∷ vs) h =
+      ap₂ (λ (v : WatchedNode) (l : List WatchedNode). v ∷ l) (rest-looked v (both-left (rests t v) _ h)) (map-same vs (both-right (rests t v) _ h))
+
+  pub rest-nodes : (ns : List ℕ) (k : ℕ) → k ≤ 32 → allOf (rests t) (watchedOf (nodesOf ns) k) ≡ true → lookedFirst t k (nodesOf ns) ≡ nodesOf ns
+  rest-nodes ns k few h =
+      ap (λ (l : List WatchedNode). l ++ drop k (nodesOf ns))
+      (map-same (take k (nodesOf ns)) (sym (ap (allOf (rests t)) (whole (nodesOf ns) k (places ns) few)) ∙ h))
+      ∙ take-append-drop k (nodesOf ns)
+
+-- the number of a node that passed number 3 is a byte
+small : (n : ℕ) → isNode n ≡ true → n ≤ 255
+small n h = by (leb n 255) refl
+  where
+    gone : (a b : Bool) → either (both a false) (both b false) ≡ false
+    gone true true = refl
+    gone true false = refl
+    gone false true = refl
+    gone false false = refl
+
+    by : (b : Bool) → leb n 255 ≡ b → n ≤ 255
+    by true e = leb-true n 255 e
+    by false e =
+        let u : leb n 240 ≡ false = lt-leb n 240 (omega (arith, leb-false n 255 e)) in
+        absurd (false≢true (sym (ap₂ (λ (a b : Bool). either (both (leb 1 n) a) (both (leb 253 n) b)) u e ∙ gone (leb 1 n) (leb 253 n)) ∙ h))
+
+pub number-small : (ns : List ℕ) (k : ℕ) → k ≤ 32 → wellFormed (watchedOf (nodesOf ns) k) ≡ true → (i : ℕ) → i < k → getD ns (3 * i) 0 ≤ 255
+unfolding wellFormed
+number-small ns k few h i inside =
+    let vs : List WatchedNode = nodesOf ns in
+    let a : allOf fits (watchedOf vs k) ≡ true =
+    both-right (ascending (watchedOf vs k)) _ (both-right (leb (length (watchedOf vs k)) 32) _ h) in
+    let b : allOf fits (take k vs) ≡ true = sym (ap (allOf fits) (whole vs k (places ns) few)) ∙ a in
+    let l : length (take k vs) ≡ k = length-take-le k vs (rw (places ns) few) in
+    let f : fits (getD (take k vs) i noNode) ≡ true = all-at fits (take k vs) i noNode (rw l inside) b in
+    let w : getD (take k vs) i noNode ≡ nodeAt ns i = getD-take k vs i noNode inside ∙ node-at ns i (omega arith) in
+    small (getD ns (3 * i) 0) (both-left (isNode (getD ns (3 * i) 0)) _ (sym (ap fits w) ∙ f))
+
+-- the error of one late node
+module _ (ws : List ℕ) (long : length ws ≡ 52) (n : ℕ) (r : ErrorTaken) (e : r ≡ replied (handled (errorsOf ws) (HeartbeatTimeout (node n)))) (ws₁ : List ℕ) (e₁ : ws₁ ≡ effectWords ws (effect (HeartbeatTimeout (node n)))) (a : Bool) (z : a ≡ acts (r .action)) (f : Dealt) (ws′ : List ℕ) where
+  module _ (w : WatchedNode) (x : w .node ≡ n) where
+    abbrev R : HandledError
+    R = handled (errorsOf ws) (timeoutOf w)
+
+    abbrev E : List ℕ
+    E = effectWords ws (effect (timeoutOf w))
+
+    same : r ≡ replied R
+    same = e ∙ ap (λ (n : ℕ). replied (handled (errorsOf ws) (HeartbeatTimeout (node n)))) (sym x)
+
+    there : ws₁ ≡ E
+    there = e₁ ∙ ap (λ (n : ℕ). effectWords ws (effect (HeartbeatTimeout (node n)))) (sym x)
+
+    counted : headOf ws₁ ≡ with-errors (headOf ws) (R .counters)
+    unfolding handled
+    counted = ap headOf there ∙ effect-written ws long (effect (timeoutOf w)) (timeoutOf w)
+
+    ending : a ≡ endsBy ws (timeoutOf w)
+    ending = z ∙ ap (λ (r : ErrorTaken). acts (r .action)) same
+
+    signals : (b : Bool) → r .signal ≡ b → R .signal ≡ b
+    signals b s = sym (ap (λ (r : ErrorTaken). r .signal) same) ∙ s
+
+    logs : (g : Head) → Finishes g (r .logged) a (dealtOf ws′ f) → Finishes g (R .logged) a (dealtOf ws′ f)
+    logs g k = subst (λ (es : DllErrors). Finishes g es a (dealtOf ws′ f)) (ap (λ (r : ErrorTaken). r .logged) same) k
+
+    pub beat-quiet : r .signal ≡ false → FinishesIn ws₁ (r .logged) a f ws′ → (q m : List ℕ) → TicksIn ws q m (beat (plain (headOf ws) q m) w) f ws′ q m (beatWords ws w)
+    unfolding headOf beatWords
+    beat-quiet s k q m =
+        record {
+          ticks =
+              beat-unsignalled (headOf ws) w R refl a ending (dealtOf ws′ f) (signals false s)
+              (subst (λ (g : Head). Finishes g (R .logged) a (dealtOf ws′ f)) counted (logs (headOf ws₁) (k .finishes))) q m;
+          words =
+              k .words ∙ ap₂ finishedWords ending (there ∙ sym (ap (λ (b : Bool). pick b (signalWords E) E) (signals false s)));
+        }
+
+    pub beat-loud :
+        r .signal ≡ true → (ws₂ : List ℕ) → Turns ws₁ signalled ws₂ (signalWords ws₁) → FinishesIn ws₂ (r .logged) a f ws′ →
+        (q m : List ℕ) → TicksIn ws q m (beat (plain (headOf ws) q m) w) f ws′ q m (beatWords ws w)
+    unfolding headOf beatWords
+    beat-loud s ws₂ u k q m =
+        record {
+          ticks =
+              beat-signalled (headOf ws) w R refl a ending (dealtOf ws′ f) (signals true s) (headOf ws₂)
+              (subst (λ (g : Head). Becomes g signalled (headOf ws₂)) counted (u .becomes)) (logs (headOf ws₂) (k .finishes)) q m;
+          words =
+              k .words
+              ∙ ap₂ finishedWords ending (u .words ∙ ap signalWords there ∙ sym (ap (λ (b : Bool). pick b (signalWords E) E) (signals true s)));
+        }
+
+-- the walk: what it keeps, with the words
+pub record BeatingIn (t : ℕ) (all : List WatchedNode) (ws₀ ws : List ℕ) (d : Dealt) (vs : List WatchedNode) : Type 0 where
+  pub beating : Beating t all (headOf ws₀) (dealtOf ws d) vs
+  pub words : beatAllWords ws₀ (lateOnes t all) ≡ beatAllWords ws (lateOnes t vs)
+
+module _ (ns : List ℕ) (k : ℕ) (few : k ≤ 32) (t : ℕ) (ws₀ : List ℕ) where
+  abbrev nodes : List WatchedNode
+  nodes = nodesOf ns
+
+  abbrev all : List WatchedNode
+  all = watchedOf nodes k
+
+  pub walk-begins : BeatingIn t all ws₀ ws₀ (record { logged = errors.None; ended = false }) (drop 0 (take k nodes))
+  walk-begins =
+      record {
+        beating = beats-begin nodes k (places ns) few t (headOf ws₀) _ refl;
+        words = ap (λ (l : List WatchedNode). beatAllWords ws₀ (lateOnes t l)) (whole nodes k (places ns) few);
+      }
+
+  module _ (ws : List ℕ) (d : Dealt) (i : ℕ) (b : BeatingIn t all ws₀ ws d (drop i (take k nodes))) where
+    pub walk-over : k ≤ i → (q m : List ℕ) → TicksIn ws₀ q m (beatAll (plain (headOf ws₀) q m) (lateOnes t all)) d ws q m (beatAllWords ws₀ (lateOnes t all))
+    unfolding beatAllWords
+    walk-over z q m =
+        record {
+          ticks = beats-over nodes k (places ns) few t (headOf ws₀) (dealtOf ws d) i (b .beating) z q m;
+          words = sym (b .words ∙ ap (λ (l : List WatchedNode). beatAllWords ws (lateOnes t l)) (at-end nodes k (places ns) few i z));
+        }
+
+    module _ (inside : i < k) (z : Bool) (l : z ≡ isLate t (nodeAt ns i)) where
+      abbrev w : WatchedNode
+      w = getD nodes i noNode
+
+      abbrev left : List WatchedNode
+      left = drop (i + 1) (take k nodes)
+
+      read : z ≡ isLate t w
+      read = late-at t ns i (omega arith) z l
+
+      turn : (y : Bool) → z ≡ y → lateOnes t (drop i (take k nodes)) ≡ pick y (w ∷ lateOnes t left) (lateOnes t left)
+      turn y e =
+          ap (lateOnes t) (from-here nodes k (places ns) few i noNode inside)
+          ∙ ap (λ (b : Bool). pick b (w ∷ lateOnes t left) (lateOnes t left)) (sym read ∙ e)
+
+      pub walk-passes : z ≡ false → BeatingIn t all ws₀ ws d left
+      walk-passes e =
+          record {
+            beating = beats-pass nodes k (places ns) few t (headOf ws₀) (dealtOf ws d) i (b .beating) noNode inside z read e;
+            words = b .words ∙ ap (beatAllWords ws) (turn false e);
+          }
+
+      module _ (late : z ≡ true) (r : Dealt) (ws′ : List ℕ) (y : (v : WatchedNode) → v .node ≡ getD ns (3 * i) 0 → (q m : List ℕ) → TicksIn ws q m (beat (plain (headOf ws) q m) v) r ws′ q m (beatWords ws v)) where
+        beaten : (q m : List ℕ) → TicksIn ws q m (beat (plain (headOf ws) q m) w) r ws′ q m (beatWords ws w)
+        beaten = y w (ap (λ (v : WatchedNode). v .node) (node-at ns i (omega arith)))
+
+        ends : r .ended ≡ endsBy ws (timeoutOf w)
+        unfolding headOf beat
+        ends = beaten [] [] .ticks .ended
+
+        abbrev ahead : Bool → List ℕ
+        ahead c = pick c (beatWords ws w) (beatAllWords (beatWords ws w) (lateOnes t left))
+
+        here : (c : Bool) → r .ended ≡ c → beatAllWords ws₀ (lateOnes t all) ≡ ahead c
+        unfolding beatAllWords
+        here c e = b .words ∙ ap (beatAllWords ws) (turn true late) ∙ ap ahead (sym ends ∙ e)
+
+        pub walk-stops : r .ended ≡ true → (q m : List ℕ) → TicksIn ws₀ q m (beatAll (plain (headOf ws₀) q m) (lateOnes t all)) r ws′ q m (beatAllWords ws₀ (lateOnes t all))
+        walk-stops e q m =
+            record {
+              ticks = beats-stop nodes k (places ns) few t (headOf ws₀) (dealtOf ws d) i (b .beating) noNode inside z read late (dealtOf ws′ r) (λ q m. beaten q m .ticks) e q m;
+              words = beaten q m .words ∙ sym (here true e);
+            }
+
+        pub walk-goes-on : r .ended ≡ false → BeatingIn t all ws₀ ws′ r left
+        walk-goes-on e =
+            record {
+              beating = beats-go-on nodes k (places ns) few t (headOf ws₀) (dealtOf ws d) i (b .beating) noNode inside z read late (dealtOf ws′ r) (λ q m. beaten q m .ticks) e;
+              words = here false e ∙ ap (λ (l : List ℕ). beatAllWords l (lateOnes t left)) (sym (beaten [] [] .words));
+            }

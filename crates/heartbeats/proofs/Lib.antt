@@ -1,0 +1,4 @@
+pub mod PartLaws
+pub mod Turns
+pub mod Beats
+pub mod Beatings
