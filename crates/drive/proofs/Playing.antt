@@ -15,7 +15,7 @@ use Rattle.node.specs.Run.{Said}
 use Rattle.watched.specs.Nodes.{nodesOf}
 use Rattle.node.specs.declared.calls.CallAnswer.{CallAnswer}
 use Rattle.node.specs.declared.calls.CallAnswer.the-variants as answer
-use Rattle.node.specs.Started.{StartedIn}
+use Rattle.start.specs.Started.{StartedIn}
 use Rattle.drive.specs.declared.Row.{Row}
 use Rattle.drive.specs.declared.Counts.{Counts}
 use Rattle.drive.specs.Script.{callOf, lentBy, rowAt, numberOf, numbers, written, Turned, Plays, Played, Lent, lent, PlayedAll, Replayed}

@@ -10,7 +10,7 @@ use Rattle.head.specs.declared.state.Dictionary.{Dictionary}
 use Rattle.watched.specs.Watched.{watchedOf}
 use Rattle.node.specs.Plain.{Call, Start}
 use Rattle.node.specs.Run.{Said}
-use Rattle.node.specs.Refines.{startOf}
+use Rattle.start.specs.Started.{startOf}
 use Rattle.head.specs.Words.{headOf}
 use Rattle.watched.specs.Nodes.{nodesOf}
 use Rattle.node.specs.declared.calls.CallAnswer.{CallAnswer}

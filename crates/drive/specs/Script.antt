@@ -25,7 +25,7 @@ use Rattle.node.specs.Refines.{historyUpdate}
 use Rattle.watched.specs.Nodes.{nodesOf}
 use Rattle.node.specs.declared.calls.CallAnswer.{CallAnswer}
 use Rattle.node.specs.declared.calls.CallAnswer.the-variants as answer
-use Rattle.node.specs.Started.{StartedIn}
+use Rattle.start.specs.Started.{StartedIn}
 use Rattle.drive.specs.declared.Row.{Row}
 use Rattle.drive.specs.declared.Counts.{Counts}
 use Rattle.trace.specs.Driven.{Made}

@@ -31,7 +31,7 @@ use node::load::CounterUpdate;
 use node::load::DictionaryUpdate;
 use node::load::ObjectUpdate;
 use node::load::load;
-use node::start::start;
+use start::start::start;
 use tick::tick::TickAnswer;
 use tick::tick::process_tick;
 use types::nmt::flags::FeatureFlags;

@@ -22,9 +22,10 @@ use Rattle.node.specs.Steps.{fresh, started}
 use Rattle.watched.specs.Watched.{wellFormed, watchedOf}
 use Rattle.watched.specs.Nodes.{nodesOf}
 use Rattle.node.specs.Run.{step}
-use Rattle.node.specs.Refines.{plain, Rings, rings, joins, joinsAll, startOf}
+use Rattle.start.specs.Started.{startOf}
+use Rattle.node.specs.Refines.{plain, Rings, rings, joins, joinsAll}
 use Rattle.node.specs.InPlace.{said}
-use Rattle.node.specs.Started.{StartedIn}
+use Rattle.start.specs.Started.{StartedIn}
 use Rattle.node.specs.Examples.{Coming, Example, comings, comesOf, stated, values, swReset, examples}
 use Rattle.node.proofs.Examples.{examples-hold}
 use Rattle.examples.specs.Shown.{placed, Stands, Came}

@@ -15,7 +15,7 @@ use crate::heads::counting;
 use crate::heads::resting;
 use crate::heads::values;
 use head::state::Head;
-use node::start::start;
+use start::start::start;
 use types::nmt::flags::FeatureFlags;
 use types::nmt::states::NmtState;
 use watched::nodes::NodeWords;

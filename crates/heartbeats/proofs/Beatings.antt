@@ -18,12 +18,11 @@ use Rattle.types.specs.declared.frame.error.types.DllErrors.{DllErrors}
 use Rattle.types.specs.declared.frame.error.types.DllErrors.the-variants as errors
 use Rattle.counters.specs.Counters.{effect, handled}
 use Rattle.counters.specs.declared.counters.HandledError.{HandledError}
-use Rattle.head.specs.Head.{Head}
+use Rattle.head.specs.Head.{Head, with-errors}
 use Rattle.watched.specs.declared.nodes.WatchedNode.{WatchedNode}
 use Rattle.watched.specs.Watched.{allOf, ascending, fits, wellFormed, noNode, heardNow, watchedNode, watchedOf}
 use Rattle.node.specs.Tick.{notBefore, isLate, looked, lateOnes, acts, signalled, timeoutOf, beat, beatAll}
 use Rattle.node.specs.Refines.{plain, Becomes}
-use Rattle.head.specs.Head.{with-errors}
 use Rattle.watched.proofs.Lists.{each-turn, from-here, at-end, whole}
 use Rattle.heartbeats.specs.Parts.{Finishes, lookedFirst}
 use Rattle.heartbeats.proofs.Beats.{beat-signalled, beat-unsignalled, Beating, beats-begin, beats-over, beats-pass, beats-stop, beats-go-on}

@@ -17,14 +17,13 @@ use Rattle.counters.specs.Counters.{handled}
 use Rattle.counters.specs.Marks.{errorMarks}
 use Rattle.counters.specs.declared.counters.HandledError.{HandledError}
 use Rattle.entries.specs.declared.status_response.ErrorEntry.{ErrorEntry}
-use Rattle.head.specs.Head.{Head}
+use Rattle.head.specs.Head.{Head, with-errors}
 use Rattle.watched.specs.declared.nodes.WatchedNode.{WatchedNode}
 use Rattle.watched.specs.Watched.{allOf, watchedOf}
 use Rattle.node.specs.Plain.{Plain}
 use Rattle.node.specs.Tick.{Ticked, goesOn, behind, notBefore, isLate, lateOnes, acts, signalled, eventInTick, dealt, beatBy, timeoutOf, beat, beatAll}
 use Rattle.node.specs.Refines.{plain, SamePlaces, Becomes, Rings, rings, joinsAll}
 use Rattle.heartbeats.specs.Parts.{PartLeft, Finishes, Ticks}
-use Rattle.head.specs.Head.{with-errors}
 use Rattle.watched.proofs.Lists.{from-here, at-end, whole}
 use Rattle.heartbeats.proofs.PartLaws.{handled-quiet, Alike}
 

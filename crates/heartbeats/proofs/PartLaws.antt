@@ -18,12 +18,11 @@ use Rattle.counters.specs.declared.counters.CnErrorCounters.{CnErrorCounters}
 use Rattle.counters.specs.declared.counters.HandledError.{HandledError}
 use Rattle.entries.specs.Queue.{capacityOf, waiting}
 use Rattle.entries.specs.History.{history}
-use Rattle.head.specs.Head.{Head}
+use Rattle.head.specs.Head.{Head, ofParts}
 use Rattle.node.specs.Steps.{plainOf}
 use Rattle.node.specs.Tick.{Ticked, acts, checkOff, eventInTick}
 use Rattle.node.specs.Refines.{plain, Becomes}
 use Rattle.heartbeats.specs.Parts.{Finishes, quietEffect, isQuiet}
-use Rattle.head.specs.Head.{ofParts}
 
 module _ (h : Head) where
   -- a head with these parts replaced stands for a plain head with them replaced

@@ -13,11 +13,10 @@ use Rattle.types.specs.declared.nmt.events.NmtEvent.the-variants.{Error}
 use Rattle.types.specs.declared.frame.error.types.DllErrors.{DllErrors}
 use Rattle.nmt.specs.Nmt as Nmt
 use Rattle.nmt.specs.declared.cn_state_machine.NmtAnswer.{NmtAnswer}
-use Rattle.head.specs.Head.{Head}
+use Rattle.head.specs.Head.{Head, with-nmt, with-soc, with-values}
 use Rattle.node.specs.Plain.{Plain}
 use Rattle.node.specs.Tick.{isEven, changed, registered, signalled, checkOff, eventInTick, oneMore}
 use Rattle.node.specs.Refines.{Becomes}
-use Rattle.head.specs.Head.{with-nmt, with-soc, with-values}
 use Rattle.heartbeats.proofs.PartLaws.{event-becomes, finish-on, finish-off}
 use Rattle.head.specs.Places as at
 use Rattle.head.specs.Words.{word, yes, stateOf, nmtOf, socOf, headOf}

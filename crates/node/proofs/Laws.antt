@@ -35,7 +35,7 @@ use Rattle.entries.specs.History as History
 use Rattle.entries.specs.declared.emergency_queue.HandedOut.{HandedOut}
 use Rattle.entries.specs.declared.error_history.ErrorHistory.{ErrorHistory}
 use Rattle.entries.proofs.Lists.{handed-first, rest-waits, handed-capacity, history-loaded}
-use Rattle.head.specs.Head.{Head, with-nmt, with-dll, with-errors, with-soc, with-values, with-queue}
+use Rattle.head.specs.Head.{Head, with-nmt, with-dll, with-errors, with-soc, with-values, with-queue, socWatch}
 use Rattle.head.specs.declared.state.Deadline.the-variants.{At, Nothing}
 use Rattle.head.specs.declared.state.SocWatch.{SocWatch}
 use Rattle.head.specs.declared.state.Dictionary.{Dictionary}
@@ -44,7 +44,6 @@ use Rattle.watched.specs.declared.nodes.WatchedNode.{WatchedNode}
 use Rattle.node.specs.Plain.{Plain, Step, Call, nmtEvent, dllEvent, error, cycleComplete, withdraw, handOut, load, arm, refused, taken, nmtAnswer, dllAnswer, errorAnswer, cycleAnswer, handOutAnswer}
 use Rattle.watched.specs.Watched.{inTime}
 use Rattle.node.specs.Steps.{must, tried, plainOf, withNmt, withSoc, answers, declines, nmtTaken, nmtStep, dllTaken, dllStep, errorTaken, errorStep, cycleTaken, withdrawn, handOutStep, updated, updatedHistory, cycleOf, limitOf, armed}
-use Rattle.head.specs.Head.{socWatch}
 use Rattle.node.specs.Run.{step}
 use Rattle.node.specs.Refines.{plain, Left, left, historyUpdate, loadedPlaces, loadedMemory, Refines, SamePlaces}
 

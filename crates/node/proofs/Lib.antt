@@ -1,8 +1,6 @@
-pub mod Lent
 pub mod Laws
 pub mod Refining
 pub mod Hearing
-pub mod Begun
 pub mod Loading
 pub mod Links
 pub mod Examples

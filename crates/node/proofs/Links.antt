@@ -1,8 +1,7 @@
--- What each call in place ensures, as its contract in src/ is read, is `Refines` on the heads that the words stand for; start's is `Begins`; and
--- none asks anything of its caller.
+-- What each call in place ensures, as its contract in src/ is read, is `Refines` on the heads that the words stand for; and none asks anything
+-- of its caller.
 -- Assumes nothing.
 use Prim.Native.Nat.{ℕ}
-use mathlib.Core.Path.{_≡_}
 use mathlib.Core.List.{List, []}
 use denote.Ref.{now}
 use Rattle.entries.specs.declared.status_response.FoundEntry.{FoundEntry}
@@ -10,14 +9,13 @@ use Rattle.head.specs.Head.{Head}
 use Rattle.node.specs.declared.calls.CallAnswer.{CallAnswer}
 use Rattle.watched.specs.Watched.{watchedOf}
 use Rattle.node.specs.Plain.{Call, taken, cycleAnswer, handOutAnswer}
-use Rattle.node.specs.Refines.{Refines, left, historyUpdate, startOf, Begins}
+use Rattle.node.specs.Refines.{Refines, left, historyUpdate}
 use Rattle.head.specs.Words.{headOf}
 use Rattle.watched.specs.Nodes.{nodesOf}
-use Rattle.node.specs.InPlace.{said, unlessRefused, nmtSaid, dllSaid, errorSaid}
+use Rattle.node.specs.InPlace.{said, nmtSaid, dllSaid, errorSaid}
 use Rattle.node.specs.declared.calls.NmtEventAnswer.{NmtEventAnswer}
 use Rattle.node.specs.declared.calls.DllEventAnswer.{DllEventAnswer}
 use Rattle.node.specs.declared.calls.ErrorAnswer.{ErrorAnswer}
-use Rattle.node.specs.Started.{unheardWords}
 use Rattle.node.proofs.calls.nmt_event.Reads as nmt-event-reads
 use Rattle.node.proofs.calls.dll_event.Reads as dll-event-reads
 use Rattle.node.proofs.calls.handle_error.Reads as handle-error-reads
@@ -27,7 +25,6 @@ use Rattle.node.proofs.calls.hand_out.Reads as hand-out-reads
 use Rattle.node.proofs.calls.arm.Reads as arm-reads
 use Rattle.node.proofs.heard.heard.Reads as heard-reads
 use Rattle.node.proofs.load.load.Reads as load-reads
-use Rattle.node.proofs.start.start.Reads as start-reads
 
 -- κs: the lifetimes; a: the arguments; o: what is returned; x: what is lent, as it is left
 pub nmt-event-refines :
@@ -78,23 +75,8 @@ pub load-refines :
     (left (headOf (now (x .0))) taken) q (now (x .1 .0)) []
 load-refines κs a o x e = e .refines
 
-pub start-begins :
-    (κs : _) (a : _) (o : CallAnswer) (x : _) → start-reads.Learnt κs a o x →
-    Begins
-    (startOf (a .1 .1 .1 .0) (a .1 .1 .1 .1 .0) (a .1 .1 .1 .1 .1 .0) (a .1 .1 .1 .1 .1 .1 .0) (a .1 .1 .1 .1 .1 .1 .1 .0)
-    (watchedOf (nodesOf (now (a .1 .0))) (a .1 .1 .0)))
-    o (headOf (now (x .0))) (watchedOf (nodesOf (now (x .1 .0))) (a .1 .1 .0))
-start-begins κs a o x e = e .begins
-
--- the words of the nodes: a declined start leaves them
-pub start-leaves :
-    (κs : _) (a : _) (o : CallAnswer) (x : _) → start-reads.Learnt κs a o x →
-    now (x .1 .0) ≡ unlessRefused o (now (a .1 .0)) (unheardWords (a .1 .1 .0) (now (a .1 .0)))
-start-leaves κs a o x e = e .nodes
-
 pub asks-nothing :
-    ((κs : _) (a : _) → start-reads.Asked κs a)
-    × ((κs : _) (a : _) → nmt-event-reads.Asked κs a)
+    ((κs : _) (a : _) → nmt-event-reads.Asked κs a)
     × ((κs : _) (a : _) → dll-event-reads.Asked κs a)
     × ((κs : _) (a : _) → handle-error-reads.Asked κs a)
     × ((κs : _) (a : _) → on-cycle-complete-reads.Asked κs a)
@@ -104,4 +86,4 @@ pub asks-nothing :
     × ((κs : _) (a : _) → load-reads.Asked κs a)
     × ((κs : _) (a : _) → arm-reads.Asked κs a)
 asks-nothing =
-    (λ κs a. tt, λ κs a. tt, λ κs a. tt, λ κs a. tt, λ κs a. tt, λ κs a. tt, λ κs a. tt, λ κs a. tt, λ κs a. tt, λ κs a. tt)
+    (λ κs a. tt, λ κs a. tt, λ κs a. tt, λ κs a. tt, λ κs a. tt, λ κs a. tt, λ κs a. tt, λ κs a. tt, λ κs a. tt)

@@ -42,14 +42,13 @@ use Rattle.entries.specs.Queue.{handedOut, lengthOf}
 use Rattle.entries.specs.declared.emergency_queue.EmergencyQueue.{EmergencyQueue}
 use Rattle.entries.specs.declared.emergency_queue.HandedOut.{HandedOut}
 use Rattle.entries.proofs.Lists.{handed-capacity}
-use Rattle.head.specs.Head.{Head}
+use Rattle.head.specs.Head.{Head, with-errors, with-queue}
 use Rattle.head.specs.declared.state.SocWatch.{SocWatch}
 use Rattle.node.specs.Plain.{Call, nmtEvent, dllEvent, error, cycleComplete, withdraw, handOut, arm, Answer, refused, taken, nmtAnswer, dllAnswer, errorAnswer, cycleAnswer, handOutAnswer}
 use Rattle.watched.specs.Watched.{inTime}
 use Rattle.node.specs.Steps.{armed}
 use Rattle.node.specs.Refines.{left, Refines}
 use Rattle.node.proofs.Laws.{Alone, nmt-taken, nmt-refused, dll-taken, dll-refused, error-taken, error-refused, cycle-taken, withdraw-taken, withdraw-refused, arm-taken, arm-refused, hand-out-taken}
-use Rattle.head.specs.Head.{with-errors, with-queue}
 use Rattle.node.specs.declared.calls.ErrorTaken.{ErrorTaken}
 use Rattle.head.specs.Places as at
 use Rattle.head.specs.Words.{word, one, stateOf, nmtOf, dllState, counterAt, errorsOf, socOf, odOf, queueOf, headOf}

@@ -6,5 +6,4 @@ pub mod Examples
 pub mod Refines
 pub mod InPlace
 pub mod Heard
-pub mod Started
 pub mod Loaded

@@ -5,25 +5,14 @@ use mathlib.Core.Path.{_≡_}
 use mathlib.Core.Bool.{Bool, true, false}
 use mathlib.Core.List.{List, [], _∷_}
 use Rattle.types.specs.Pick.{pick}
-use Rattle.types.specs.declared.types.NodeId.{NodeId}
-use Rattle.nmt.specs.Nmt as Nmt
-use Rattle.dll.specs.Dll.{freshMachine}
-use Rattle.counters.specs.Counters.{newCounters}
-use Rattle.types.specs.declared.nmt.flags.FeatureFlags.{FeatureFlags}
-use Rattle.entries.specs.Queue.{queue, capacityOf, waiting, pushed, pushedBytes}
-use Rattle.entries.specs.History.{errorHistory, history, joined, joinedBytes, entriesIn, loaded, loadedBytes}
+use Rattle.entries.specs.Queue.{capacityOf, waiting, pushed, pushedBytes}
+use Rattle.entries.specs.History.{history, joined, joinedBytes, entriesIn, loaded, loadedBytes}
 use Rattle.entries.specs.declared.status_response.ErrorEntry.{ErrorEntry}
 use Rattle.entries.specs.declared.emergency_queue.EmergencyQueue.{EmergencyQueue}
 use Rattle.entries.specs.declared.error_history.ErrorHistory.{ErrorHistory}
-use Rattle.head.specs.declared.state.Deadline.the-variants.{Nothing}
-use Rattle.head.specs.declared.state.Dictionary.{Dictionary}
 use Rattle.head.specs.Head.{Head}
 use Rattle.watched.specs.declared.nodes.WatchedNode.{WatchedNode}
-use Rattle.node.specs.declared.calls.CallAnswer.{CallAnswer}
-use Rattle.node.specs.declared.calls.CallAnswer.the-variants as answer
-use Rattle.node.specs.Plain.{Plain, HistoryUpdate, set, keep, Call, Answer, Start, Begun, begins, declined}
-use Rattle.node.specs.Steps.{started}
-use Rattle.head.specs.Head.{socWatch}
+use Rattle.node.specs.Plain.{Plain, HistoryUpdate, set, keep, Call, Answer}
 use Rattle.node.specs.Run.{step}
 
 -- the plain head that a head, its queue's bytes q and its history's bytes m stand for
@@ -101,35 +90,3 @@ pub record Refines (h : Head) (q m : List ℕ) (c : Call) (o : Left) (q′ m′ 
   pub head : plain (o .head) q′ m′ ≡ step (plain h q m) c .head
   pub answer : o .answer ≡ step (plain h q m) c .answer
   pub lent : l ≡ step (plain h q m) c .lent
-
--- what start is given, from its arguments
-abbrev pub startOf : ℕ → FeatureFlags → ℕ → ℕ → Dictionary → List WatchedNode → Start
-startOf n f t c o ws = record { node = n; flags = f .0; timeout = t; capacity = c; od = o; watched = ws }
-
--- what start answers, with the head that its words stand for
-abbrev pub begunBy : CallAnswer → Head → List ℕ → List ℕ → Begun
-begunBy answer.Taken h q m = begins (plain h q m)
-begunBy (answer.Refused r) h q m = declined r
-
--- the places of a head that start gave: queue and history are empty
-abbrev pub FreshPlaces : CallAnswer → Head → ℕ → Type 0
-FreshPlaces answer.Taken h c = (h .queue ≡ queue 0 0 c) × (h .history ≡ errorHistory 0 0)
-FreshPlaces (answer.Refused r) h c = Unit
-
--- the head that start gives
-abbrev pub freshHead : NodeId → FeatureFlags → ℕ → ℕ → Dictionary → Head
-freshHead n f t c o =
-    record {
-      nmt = Nmt.fresh n f t;
-      dll = freshMachine;
-      errors = newCounters;
-      soc = socWatch 0 false Nothing false;
-      od = o;
-      queue = queue 0 0 c;
-      history = errorHistory 0 0;
-    }
-
--- Of start, whatever stands in the memory that will be lent: the plain start's head or number, and watched nodes.
-pub record Begins (s : Start) (a : CallAnswer) (h : Head) (l : List WatchedNode) : Type 0 where
-  pub begun : (q m : List ℕ) → begunBy a h q m ≡ started s .begun
-  pub lent : l ≡ started s .lent

@@ -68,7 +68,7 @@ impl Session {
         numbers: &Numbers,
         out: &mut Buffer,
     ) -> Self {
-        let answer = node::start::start(
+        let answer = start::start::start(
             head,
             nodes,
             self.count,

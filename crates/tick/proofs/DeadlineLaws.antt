@@ -23,14 +23,13 @@ use Rattle.entries.specs.History.{history}
 use Rattle.watched.specs.Watched.{allOf}
 use Rattle.types.specs.declared.frame.cs_state_machine.DllCsEvent.the-variants.{SocTimeout}
 use Rattle.head.specs.declared.state.Deadline.the-variants.{At, Nothing}
-use Rattle.head.specs.Head.{Head}
+use Rattle.head.specs.Head.{Head, with-dll}
 use Rattle.node.specs.Plain.{Plain}
 use Rattle.node.specs.Steps.{plainOf, withSoc, withDll, cycleOf, toleranceOf, limitOf}
 use Rattle.node.specs.Tick.{Ticked, goesOn, behind, checkOff, withDeadline, nextDeadline, rescheduled, withinLimit, socTimeout, dealAll, lost, socCheck, atNotActive, setsBasic, timesOut, eventInTick, passed, byDeadline}
 use Rattle.node.specs.Refines.{plain, Becomes, rings, joinsAll}
 use Rattle.heartbeats.specs.Parts.{PartLeft, Ticks, isQuiet}
 use Rattle.tick.specs.Ticks.{Loses}
-use Rattle.head.specs.Head.{with-dll}
 
 -- the cycles that have begun end at most one cycle after now
 pub ahead : (e k : ℕ) → (e / k + 1) * k ≤ e + k

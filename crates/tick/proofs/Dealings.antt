@@ -21,12 +21,11 @@ use Rattle.entries.specs.declared.status_response.ErrorEntry.{ErrorEntry}
 use Rattle.entries.specs.declared.emergency_queue.Pushed.{Pushed}
 use Rattle.entries.specs.declared.error_history.ErrorHistory.{ErrorHistory}
 use Rattle.entries.proofs.Lists.{pushed-capacity}
-use Rattle.head.specs.Head.{Head}
+use Rattle.head.specs.Head.{Head, withStatistic, ofParts, with-errors, with-od}
 use Rattle.watched.specs.Watched.{allOf}
 use Rattle.node.specs.Steps.{withErrors}
 use Rattle.node.specs.Tick.{acts, oneMore, statistics, counter1, signalled, queued, deal, dealAll}
 use Rattle.node.specs.Refines.{plain, Becomes, rings, joins}
-use Rattle.head.specs.Head.{withStatistic, ofParts, with-errors, with-od}
 use Rattle.head.specs.declared.state.Statistic.the-variants.{Counter3}
 use Rattle.head.proofs.Laws.{statistic-written}
 use Rattle.tick.specs.declared.soc.NextError.{NextError}

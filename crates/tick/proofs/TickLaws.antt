@@ -26,7 +26,7 @@ use Rattle.entries.specs.declared.emergency_queue.EmergencyQueue.{EmergencyQueu
 use Rattle.entries.specs.declared.emergency_queue.Pushed.{Pushed}
 use Rattle.entries.specs.declared.error_history.ErrorHistory.{ErrorHistory}
 use Rattle.entries.proofs.Lists.{kept-exactly, waiting-pushed, pushed-capacity, history-joined}
-use Rattle.head.specs.Head.{Head}
+use Rattle.head.specs.Head.{Head, ofParts}
 use Rattle.node.specs.Plain.{Plain}
 use Rattle.node.specs.Steps.{plainOf, withErrors}
 use Rattle.node.specs.Tick.{Ticked, acts, dealt, dealBy, deal, dealAll, goesOn, behind, oneMore, signalled, eventInTick, statistics, counter1, kept, droppedOne, queued}
@@ -37,7 +37,6 @@ use Rattle.tick.specs.Ticks.{errorAt}
 use Rattle.tick.specs.declared.soc.NextError.{NextError}
 use Rattle.tick.specs.declared.soc.NextError.the-variants as next
 use Rattle.watched.specs.Watched.{allOf}
-use Rattle.head.specs.Head.{ofParts}
 
 -- where an entry is dropped, no byte is written
 dropped-bytes : (q : List ℕ) (k : EmergencyQueue) (e : ErrorEntry) → pushed k .kept ≡ false → pushedBytes q k e ≡ q

@@ -21,10 +21,9 @@ use Rattle.node.specs.Run.{step}
 use Rattle.node.specs.Refines.{plain, left, rings, joinsAll, Refines}
 use Rattle.heartbeats.specs.Parts.{PartLeft, Ticks, lookedFirst}
 use Rattle.node.proofs.Laws.{refined}
-use Rattle.watched.proofs.Lists.{few}
+use Rattle.watched.proofs.Lists.{few, each-nodes}
 use Rattle.heartbeats.proofs.PartLaws.{handled-quiet}
 use Rattle.tick.proofs.DeadlineLaws.{ticks-as}
-use Rattle.watched.proofs.Lists.{each-nodes}
 
 -- heartbeats that end nothing log nothing, and none has an entry
 beat-quiet : (p : Plain) (w : WatchedNode) → beat p w .ended ≡ false → beat p w .logged ≡ []

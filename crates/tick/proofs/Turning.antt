@@ -14,11 +14,9 @@ use Rattle.entries.specs.History.{errorHistory}
 use Rattle.head.specs.declared.state.Deadline.{Deadline}
 use Rattle.head.specs.declared.state.Deadline.the-variants.{At, Nothing}
 use Rattle.head.specs.declared.state.Statistic.the-variants.{Counter1}
-use Rattle.head.specs.Head.{Head}
+use Rattle.head.specs.Head.{Head, socWatch, ofParts, with-soc}
 use Rattle.node.specs.Steps.{withSoc, cycleOf, limitOf}
-use Rattle.head.specs.Head.{socWatch}
 use Rattle.node.specs.Tick.{checkOff, withDeadline, eventInTick, statistics, counter1, oneMore, nextDeadline, rescheduled, withinLimit, setsBasic, timesOut}
-use Rattle.head.specs.Head.{ofParts, with-soc}
 use Rattle.tick.proofs.DeadlineLaws.{resched-on, resched-off, within-none, within-ahead, within-late, basic-on, basic-none, timed-out, never-out}
 use Rattle.head.specs.Places as at
 use Rattle.head.specs.Words.{word, timeOf, socOf, odOf, headOf}

@@ -10,17 +10,19 @@ use Rattle.watched.specs.Watched.{watchedOf}
 use Rattle.node.specs.Plain.{Call, Start, declined}
 use Rattle.node.specs.Steps.{started}
 use Rattle.node.specs.Run.{Said}
-use Rattle.node.specs.Refines.{plain, Refines, left, startOf, begunBy}
+use Rattle.start.specs.Started.{startOf, begunBy}
+use Rattle.node.specs.Refines.{plain, Refines, left}
 use Rattle.head.specs.Words.{headOf}
 use Rattle.watched.specs.Nodes.{nodesOf}
 use Rattle.node.specs.declared.calls.CallAnswer.the-variants as answer
-use Rattle.node.specs.Started.{unheardWords}
+use Rattle.start.specs.Started.{unheardWords}
 use Rattle.node.specs.InPlace.{unlessRefused}
-use Rattle.node.proofs.start.start.Reads as start-reads
+use Rattle.start.proofs.start.start.Reads as start-reads
 use Rattle.trace.specs.Claim.{Claim}
 use Rattle.trace.proofs.Follows.{Follows, finished, begins-fresh, followed}
 use Rattle.trace.specs.Driven.{Made, Driven, stop, next}
 use Rattle.node.proofs.Links as Links
+use Rattle.start.proofs.Links.{start-begins, start-leaves}
 use Rattle.tick.proofs.Links.{process-tick-refines}
 
 -- what a contract in src/ ensures is `Refines`
@@ -71,7 +73,7 @@ module _ (κs : _) (a : _) (o : CallAnswer) (x : _) (e : start-reads.Learnt κs 
   demand-3 {ws} {q₀} {m₀} t d =
       followed given
       (begins-fresh given (plain (headOf (now (x .0))) q₀ m₀)
-      (ap (λ (r : CallAnswer). begunBy r (headOf (now (x .0))) q₀ m₀) (sym t) ∙ Links.start-begins κs a o x e .begun q₀ m₀))
+      (ap (λ (r : CallAnswer). begunBy r (headOf (now (x .0))) q₀ m₀) (sym t) ∙ start-begins κs a o x e .begun q₀ m₀))
       (follows d)
 
   -- a start that is declined has no list: its number is the plain start's, and the nodes' words are unchanged
@@ -80,10 +82,10 @@ module _ (κs : _) (a : _) (o : CallAnswer) (x : _) (e : start-reads.Learnt κs 
       o ≡ answer.Refused r →
       (declined r ≡ started given .begun) × (now (x .1 .0) ≡ now (a .1 .0))
   start-declined r t = (
-    ap (λ (r : CallAnswer). begunBy r (headOf (now (x .0))) [] []) (sym t) ∙ Links.start-begins κs a o x e .begun [] [],
-    Links.start-leaves κs a o x e ∙ ap (λ (r : CallAnswer). unlessRefused r (now (a .1 .0)) (unheardWords (a .1 .1 .0) (now (a .1 .0)))) t,
+    ap (λ (r : CallAnswer). begunBy r (headOf (now (x .0))) [] []) (sym t) ∙ start-begins κs a o x e .begun [] [],
+    start-leaves κs a o x e ∙ ap (λ (r : CallAnswer). unlessRefused r (now (a .1 .0)) (unheardWords (a .1 .1 .0) (now (a .1 .0)))) t,
   )
 
   -- what was lent to start is left as the plain start leaves it
   pub start-lent : watchedOf (nodesOf (now (x .1 .0))) (a .1 .1 .0) ≡ started given .lent
-  start-lent = Links.start-begins κs a o x e .lent
+  start-lent = start-begins κs a o x e .lent

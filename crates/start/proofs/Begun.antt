@@ -1,4 +1,4 @@
--- Start in words: the words of a fresh head are computed, whatever the arguments; the rest is by the laws of start on a head by its parts (Lent).
+-- Start in words: the words of a fresh head are computed, whatever the arguments; the rest is by the laws of start on a head by its parts (Starting).
 -- Assumes nothing.
 use Prim.Native.Nat.{ℕ, _+_, _*_, _%_, _≤_, _<_}
 use mathlib.Core.Path.{_≡_, refl, sym, ap, _∙_}
@@ -26,16 +26,15 @@ use Rattle.head.specs.declared.state.ObjectValue.{ObjectValue}
 use Rattle.head.specs.declared.state.ObjectValue.the-variants.{Unsigned32, Missing}
 use Rattle.watched.specs.declared.nodes.WatchedNode.{WatchedNode}
 use Rattle.watched.specs.Watched.{wellFormed, noNode, heardNow, watchedOf, unheardFirst}
-use Rattle.node.specs.Refines.{freshHead}
+use Rattle.start.specs.Started.{freshHead, freshWords, unheardWords, StartedIn}
 use Rattle.watched.proofs.Lists.{each-turn}
-use Rattle.node.proofs.Lent.{start-no-node, start-no-room, start-unformed, start-taken}
+use Rattle.start.proofs.Starting.{start-no-node, start-no-room, start-unformed, start-taken}
 use Rattle.head.specs.Places as at
 use Rattle.head.specs.Words.{headOf}
 use Rattle.head.specs.Written.{nmtWritten, identityWritten, thresholdsWritten, odWritten}
 use Rattle.watched.specs.Nodes.{nodesOf}
 use Rattle.node.specs.declared.calls.CallAnswer.the-variants as answer
 use Rattle.watched.proofs.Watching.{places, heard-written}
-use Rattle.node.specs.Started.{freshWords, unheardWords, StartedIn}
 
 -- computed: four cases, by the two objects that may be missing
 fresh-read :

@@ -1,14 +1,13 @@
--- `node::start::start` meets its contract: numbers 1, 2 and 3 in this order, then every word.
+-- `start::start::start` meets its contract: numbers 1, 2 and 3 in this order, then every word.
 -- Assumes nothing.
 use denote.Ref.{now}
 use borrow.Author.Needs.{needs}
 use mathlib.Core.Path.{sym, _∙_}
-use Rattle.watched.proofs.Lists.{not-true, not-false}
-use Rattle.watched.proofs.Lists.{few}
+use Rattle.watched.proofs.Lists.{not-true, not-false, few}
 use Rattle.watched.specs.Nodes.{nodesOf}
-use Rattle.node.proofs.Begun.{no-node, no-room, unformed, begun}
-use Rattle.node.proofs.start.start.Statement.{statement}
-use Rattle.node.proofs.start.start.Tie as tie
+use Rattle.start.proofs.Begun.{no-node, no-room, unformed, begun}
+use Rattle.start.proofs.start.start.Statement.{statement}
+use Rattle.start.proofs.start.start.Tie as tie
 
 pub start-spec : {M : Type 1} → statement M
 start-spec =

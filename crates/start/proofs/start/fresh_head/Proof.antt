@@ -1,10 +1,10 @@
--- `node::start::fresh_head` meets its contract: the writers one after the other.
+-- `start::start::fresh_head` meets its contract: the writers one after the other.
 -- Assumes nothing.
 use native.Mathlib.Omega.{arith}
 use borrow.Author.Needs.{needs}
-use Rattle.node.proofs.Begun.{fresh-is}
-use Rattle.node.proofs.start.fresh_head.Statement.{statement}
-use Rattle.node.proofs.start.fresh_head.Tie as tie
+use Rattle.start.proofs.Begun.{fresh-is}
+use Rattle.start.proofs.start.fresh_head.Statement.{statement}
+use Rattle.start.proofs.start.fresh_head.Tie as tie
 
 pub fresh-head-spec : {M : Type 1} → statement M
 fresh-head-spec =

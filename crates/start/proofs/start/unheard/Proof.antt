@@ -1,4 +1,4 @@
--- `node::start::unheard` meets its contract. The invariant: the first i nodes are set, as words and as nodes.
+-- `start::start::unheard` meets its contract. The invariant: the first i nodes are set, as words and as nodes.
 -- Assumes nothing.
 use denote.Ref.{now}
 use native.Mathlib.Omega.{arith}
@@ -8,10 +8,10 @@ use mathlib.Core.Path.{_≡_, refl, ap, _∙_}
 use lib.ListN.{length}
 use Rattle.watched.specs.Watched.{unheardFirst}
 use Rattle.watched.specs.Nodes.{nodesOf}
-use Rattle.node.specs.Started.{unheardWords}
-use Rattle.node.proofs.Begun.{unheard-begins, unheard-words, unheard-nodes, unheard-long}
-use Rattle.node.proofs.start.unheard.Statement.{statement}
-use Rattle.node.proofs.start.unheard.Tie as tie
+use Rattle.start.specs.Started.{unheardWords}
+use Rattle.start.proofs.Begun.{unheard-begins, unheard-words, unheard-nodes, unheard-long}
+use Rattle.start.proofs.start.unheard.Statement.{statement}
+use Rattle.start.proofs.start.unheard.Tie as tie
 
 abbrev Inv-loop : tie.InvT-loop
 Inv-loop nodes₀ count i₀ nodes i =
