@@ -3,6 +3,7 @@
 use denote.Ref.{now}
 use borrow.Author.Needs.{needs}
 use mathlib.Core.Path.{sym, _∙_}
+use native.Mathlib.Omega.{arith}
 use Rattle.watched.proofs.Lists.{not-true, not-false, few}
 use Rattle.watched.specs.Nodes.{nodesOf}
 use Rattle.start.proofs.Begun.{no-node, no-room, unformed, begun}
@@ -34,7 +35,7 @@ start-spec =
     let v3 = c .before .before .before in
     let v4 = v3 .before in
     let v11 = v4 .before .before .before .before .before .before .before in
-    few (nodesOf (now (v11 .args .nodes))) (v11 .args .count) (v4 .well-formed .result) (v4 .well-formed .ensures) (not-false (v4 .well-formed .result) (v3 .if2 .left)))
+    omega (arith, few (nodesOf (now (v11 .args .nodes))) (v11 .args .count) (v4 .well-formed .result) (v4 .well-formed .ensures) (not-false (v4 .well-formed .result) (v3 .if2 .left))))
     (λ c.
     let v2 = c .before .before in
     let v4 = v2 .before .before in
