@@ -1,7 +1,9 @@
-//! Prints what the original Rust reads each 8-bit number as, the code of each kind of error, its
-//! feature flags and its times at their limits, one form a line. Every answer is computed by calling the original code.
+//! Prints what the original Rust reads each 8-bit number as, its named node numbers, the events of each kind of frame, the
+//! code of each kind of error, its feature flags and its times at their limits, one form a line. Every answer is computed
+//! by calling the original code.
 
 mod forms;
+mod frames;
 
 use forms::{ERRORS, hex};
 use powerlink_rs::NodeId;
@@ -9,10 +11,15 @@ use powerlink_rs::common::NetTime;
 use powerlink_rs::nmt::events::{NmtManagingCommand, NmtStateCommand};
 use powerlink_rs::nmt::flags::FeatureFlags;
 use powerlink_rs::nmt::states::NmtState;
+use powerlink_rs::types::{
+    C_ADR_BROADCAST_NODE_ID, C_ADR_DIAG_DEF_NODE_ID, C_ADR_MN_DEF_NODE_ID, C_ADR_RT1_DEF_NODE_ID,
+    MessageType,
+};
 
 fn main() {
     forms::check_order();
     print_nodes();
+    print_addresses();
     print_readings("state", |number| {
         NmtState::try_from(number).ok().map(|state| state as u8)
     });
@@ -26,6 +33,10 @@ fn main() {
             .ok()
             .map(|command| command as u8)
     });
+    print_readings("message", |number| {
+        MessageType::try_from(number).ok().map(|kind| kind as u8)
+    });
+    frames::print_frames();
     print_codes();
     print_flags();
     print_times();
@@ -41,6 +52,20 @@ fn print_nodes() {
             "refused"
         };
         println!("(node {number} {answer})");
+    }
+}
+
+/// The node numbers that have a name and that our code has, in the order of their declaration.
+const ADDRESSES: [u8; 4] = [
+    C_ADR_MN_DEF_NODE_ID,
+    C_ADR_DIAG_DEF_NODE_ID,
+    C_ADR_RT1_DEF_NODE_ID,
+    C_ADR_BROADCAST_NODE_ID,
+];
+
+fn print_addresses() {
+    for (place, number) in ADDRESSES.iter().enumerate() {
+        println!("(address {place} {number})");
     }
 }
 

@@ -1,5 +1,6 @@
-// What each 8-bit number is read as, the code of each kind of error, the feature flags and times at their limits, one form a line. The stored output was printed by the
-// Rust (compare/), so a run shows that both agree.
+// What each 8-bit number is read as, the named node numbers, the events of each kind of frame, the code of each kind of error, the feature flags and times at their limits,
+// one form a line. The stored output was printed by the Rust (compare/), so a run shows that both agree.
+mod frames;
 mod times;
 
 use libc::STDOUT_FILENO;
@@ -12,6 +13,10 @@ use types::nmt::events::NmtStateCommandRead;
 use types::nmt::flags::FeatureFlags;
 use types::nmt::states::NmtState;
 use types::nmt::states::NmtStateRead;
+use types::types::C_ADR_BROADCAST_NODE_ID;
+use types::types::C_ADR_DIAG_DEF_NODE_ID;
+use types::types::C_ADR_MN_DEF_NODE_ID;
+use types::types::C_ADR_RT1_DEF_NODE_ID;
 use types::types::NodeId;
 use types::types::NodeIdRead;
 
@@ -43,6 +48,28 @@ fn print_node(n: u8) {
 fn print_nodes() {
     for n in 0..=255u8 {
         print_node(n);
+    }
+}
+
+// The node numbers that have a name, in the order of their declaration.
+const ADDRESSES: [u8; 4] = [
+    C_ADR_MN_DEF_NODE_ID,
+    C_ADR_DIAG_DEF_NODE_ID,
+    C_ADR_RT1_DEF_NODE_ID,
+    C_ADR_BROADCAST_NODE_ID,
+];
+
+fn print_address(k: usize, number: u8) {
+    say(b"(address ");
+    say_number(k as u64);
+    say(b" ");
+    say_number(number as u64);
+    say(b")\n");
+}
+
+fn print_addresses() {
+    for k in 0..4usize {
+        print_address(k, ADDRESSES[k]);
     }
 }
 
@@ -159,7 +186,10 @@ fn print_flags() {
 
 fn main() {
     print_nodes();
+    print_addresses();
     print_readings();
+    frames::print_messages();
+    frames::print_frames();
     print_codes();
     print_flags();
     times::print_times();

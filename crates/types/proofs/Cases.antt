@@ -14,15 +14,19 @@ use Rattle.types.specs.Pick.{pick}
 use Rattle.types.specs.States.{states}
 use Rattle.types.specs.Events.{events}
 use Rattle.types.specs.CsEvents.{csEvents}
+use Rattle.types.specs.Frames.{messages}
 use Rattle.types.specs.declared.nmt.states.NmtState.{NmtState}
 use Rattle.types.specs.declared.nmt.states.NmtState.the-variants.{NmtGsOff, NmtGsInitialising, NmtGsResetApplication, NmtGsResetCommunication, NmtGsResetConfiguration, NmtNotActive, NmtPreOperational1, NmtPreOperational2, NmtReadyToOperate, NmtOperational, NmtCsStopped, NmtBasicEthernet}
 use Rattle.types.specs.declared.nmt.events.NmtEvent.{NmtEvent}
 use Rattle.types.specs.declared.nmt.events.NmtEvent.the-variants.{StartNode, StopNode, EnterPreOperational2, EnableReadyToOperate, Reset, SwReset, ResetNode, ResetCommunication, ResetConfiguration, EnterEplMode, Timeout, Error, SoAReceived, SocReceived, PowerlinkFrameReceived, CnConfigurationComplete, AllCnsIdentified, ConfigurationCompleteCnsReady, AllMandatoryCnsOperational}
 use Rattle.types.specs.declared.frame.cs_state_machine.DllCsEvent.{DllCsEvent}
 use Rattle.types.specs.declared.frame.cs_state_machine.DllCsEvent.the-variants.{Soc, Preq, Pres, Soa, Asnd, SocTimeout}
+use Rattle.types.specs.declared.types.MessageType.{MessageType}
+use Rattle.types.specs.declared.types.MessageType.the-variants.{SoC, PReq, PRes, SoA, ASnd}
 use Rattle.types.proofs.nmt.states.NmtState as NmtStateType
 use Rattle.types.proofs.frame.cs_state_machine.DllCsEvent as DllCsEventType
 use Rattle.types.proofs.nmt.events.NmtEvent as NmtEventType
+use Rattle.types.proofs.types.MessageType as MessageTypeType
 
 first-same : {B : Type 0} {a b : B} {xs ys : List B} → a ∷ xs ≡ b ∷ ys → a ≡ b
 first-same e = cc
@@ -130,3 +134,13 @@ cs-event-back SocTimeout = refl
 
 abbrev pub DllCsEvents : Enum DllCsEvent
 DllCsEvents = record { position = tagOf DllCsEventType.the-type; first = Soc; items = csEvents; back = cs-event-back }
+
+pub message-back : (x : MessageType) → getD messages (tagOf MessageTypeType.the-type x) SoC ≡ x
+message-back SoC = refl
+message-back PReq = refl
+message-back PRes = refl
+message-back SoA = refl
+message-back ASnd = refl
+
+abbrev pub MessageTypes : Enum MessageType
+MessageTypes = record { position = tagOf MessageTypeType.the-type; first = SoC; items = messages; back = message-back }

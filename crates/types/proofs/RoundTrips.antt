@@ -7,6 +7,7 @@ use Rattle.types.specs.Types.{readNode}
 use Rattle.types.specs.States.{stateNumber, states, readState}
 use Rattle.types.specs.Events.{commandNumber, commands, readCommand, managingNumber, managings, readManaging, eventNumber, events, readEvent}
 use Rattle.types.specs.CsEvents.{csEventNumber, csEvents, readCsEvent}
+use Rattle.types.specs.Frames.{messageNumber, messages, readMessage}
 use Rattle.types.specs.Errors.{Kind, kinds, carried, errorKind, readError}
 use Rattle.types.specs.declared.refusals.Refusal.{Refusal}
 use Rattle.types.specs.declared.refusals.Refusal.the-variants.{UnknownNumber}
@@ -21,11 +22,12 @@ use Rattle.types.specs.declared.nmt.events.NmtManagingCommand.{NmtManagi
 use Rattle.types.specs.declared.nmt.events.NmtManagingCommand.the-variants.{NmtNetHostNameSet, NmtFlushArpEntry}
 use Rattle.types.specs.declared.nmt.events.NmtManagingCommandRead.the-variants as managing
 use Rattle.types.specs.declared.frame.cs_state_machine.DllCsEventRead.the-variants as cs-event
+use Rattle.types.specs.declared.types.MessageTypeRead.the-variants as message
 use Rattle.types.specs.declared.frame.error.types.DllError.{DllError}
 use Rattle.types.specs.declared.frame.error.types.DllError.the-variants.{LossOfLink, BadPhysicalMode, MacBuffer, Crc, Collision, InvalidFormat, LossOfSoc, LossOfSoa, LossOfPreq, LossOfPres, LossOfStatusRes, CycleTimeExceeded, LatePres, SoCJitter, MsWaitSoc, MultipleMn, AddressConflict, MevAsndTimeout, UnexpectedEventInState, PdoMapVersion, PdoPayloadShort, HeartbeatTimeout}
 use Rattle.types.specs.declared.frame.error.types.DllErrorRead.{DllErrorRead}
 use Rattle.types.specs.declared.frame.error.types.DllErrorRead.the-variants.{Taken, Refused}
-use Rattle.types.proofs.Cases.{everywhere, NmtStates, NmtEvents, DllCsEvents}
+use Rattle.types.proofs.Cases.{everywhere, NmtStates, NmtEvents, DllCsEvents, MessageTypes}
 use Rattle.types.proofs.ErrorCases.{carriedA, carriedB}
 use Rattle.types.proofs.Reading.{Faithful, faithful, reads-holds}
 
@@ -79,6 +81,13 @@ cs-events-faithful =
     faithful csEventNumber cs-event.Taken (cs-event.Refused UnknownNumber) (λ x y e. cc) csEvents
     (λ y e. let z : _≡_ {A = ℕ} 0 1 = cc in omega arith)
     (everywhere DllCsEvents (λ e. readCsEvent (csEventNumber e)) cs-event.Taken refl refl)
+
+pub messages-faithful : Faithful messageNumber message.Taken readMessage
+unfolding readMessage
+messages-faithful =
+    faithful messageNumber message.Taken message.Unknown (λ x y e. cc) messages
+    (λ y e. let z : _≡_ {A = ℕ} 0 1 = cc in omega arith)
+    (everywhere MessageTypes (λ x. readMessage (messageNumber x)) message.Taken refl refl)
 
 -- the error itself, or the refusal of its node
 abbrev pub admitted : DllError → DllErrorRead

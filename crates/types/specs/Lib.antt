@@ -6,4 +6,5 @@ pub mod Flags
 pub mod States
 pub mod Events
 pub mod CsEvents
+pub mod Frames
 pub mod Errors
