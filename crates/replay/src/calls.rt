@@ -1,22 +1,42 @@
-// The calls on a head: each is made and its answer printed.
-use crate::answers::say_answer;
-use crate::answers::say_cleared;
-use crate::answers::say_dll;
-use crate::answers::say_handed;
-use crate::answers::say_handled;
-use crate::answers::say_nmt;
-use crate::answers::say_taken;
-use crate::answers::say_ticked;
-use crate::history::EntryBuffer;
-use crate::print::Buffer;
-use crate::script::Line;
-use crate::values::KEPT;
-use crate::values::Numbers;
+// The calls on a head: each is made, and its answer written as numbers.
+use crate::load::EntryBuffer;
+use crate::load::KEPT;
 use crate::values::byte;
+use crate::values::dictionary;
 use crate::values::number;
 use crate::values::updates;
+use crate::values::word;
+use crate::words::Given;
+use answers::Numbers;
 use head::state::Head;
+use node::calls::CallAnswer;
+use tick::tick::TickAnswer;
+use types::nmt::events::NmtStateCommand;
+use types::nmt::events::NmtStateCommandRead;
+use types::nmt::flags::FeatureFlags;
+use types::nmt::states::NmtState;
+use types::nmt::states::NmtStateRead;
 use watched::nodes::NodeWords;
+
+pub(crate) fn start(
+    head: &mut Head,
+    nodes: &mut NodeWords,
+    count: usize,
+    given: Given,
+    answer: &mut Numbers,
+) {
+    let said = start::start::start(
+        head,
+        nodes,
+        count,
+        byte(number(given, 0)),
+        FeatureFlags::from_bits_truncate(word(number(given, 1))),
+        word(number(given, 2)),
+        number(given, 3),
+        dictionary(given),
+    );
+    answers::call(said, answer)
+}
 
 // As many of the first bytes as a load's history has.
 fn front(bytes: &[u8], length: u64) -> &[u8] {
@@ -29,27 +49,26 @@ fn front(bytes: &[u8], length: u64) -> &[u8] {
 fn load(
     head: &mut Head,
     history: &mut [u8; 5080],
-    numbers: &Numbers,
+    given: Given,
     bytes: &EntryBuffer,
-    out: &mut Buffer,
+    answer: &mut Numbers,
 ) {
-    let length = number(numbers, 7);
-    let with_history = length != KEPT;
+    let length = number(given, 7);
     let entries = front(bytes, length);
-    node::load::load(head, history, updates(numbers), with_history, entries);
-    say_taken(out)
+    node::load::load(head, history, updates(given), length != KEPT, entries);
+    answers::call(CallAnswer::Taken, answer)
 }
 
-fn nmt(head: &mut Head, event: u64, out: &mut Buffer) {
-    say_nmt(out, node::calls::nmt_event(head, event))
+fn nmt_event(head: &mut Head, event: u64, answer: &mut Numbers) {
+    answers::nmt_event(node::calls::nmt_event(head, event), answer)
 }
 
-fn dll(head: &mut Head, event: u64, expected: bool, out: &mut Buffer) {
-    say_dll(out, node::calls::dll_event(head, event, expected))
+fn dll_event(head: &mut Head, event: u64, expected: bool, answer: &mut Numbers) {
+    answers::dll_event(node::calls::dll_event(head, event, expected), answer)
 }
 
-fn error(head: &mut Head, kind: u64, a: u8, b: u8, out: &mut Buffer) {
-    say_handled(out, node::calls::handle_error(head, kind, a, b))
+fn error(head: &mut Head, kind: u64, a: u8, b: u8, answer: &mut Numbers) {
+    answers::error(node::calls::handle_error(head, kind, a, b), answer)
 }
 
 fn tick(
@@ -59,54 +78,78 @@ fn tick(
     nodes: &mut NodeWords,
     count: usize,
     time: u64,
-    out: &mut Buffer,
+    answer: &mut Numbers,
 ) {
-    let answer = tick::tick::process_tick(head, queue, history, nodes, count, time);
-    say_ticked(out, answer)
-}
-
-// The calls that need no watched node and no history.
-fn call_on_head(
-    call: Line,
-    numbers: &Numbers,
-    head: &mut Head,
-    queue: &[u8; 640],
-    out: &mut Buffer,
-) {
-    let n = number(numbers, 0);
-    match call {
-        Line::Nmt => return nmt(head, n, out),
-        Line::Dll => return dll(head, n, number(numbers, 1) == 1, out),
-        Line::Error => return error(head, n, byte(numbers, 1), byte(numbers, 2), out),
-        Line::Cycle => return say_cleared(out, node::calls::on_cycle_complete(head)),
-        Line::Withdraw => return say_answer(out, node::calls::withdraw(head)),
-        Line::HandOut => return say_handed(out, node::calls::hand_out(head, queue)),
-        _ => return say_answer(out, node::calls::arm(head, n)),
+    match tick::tick::process_tick(head, queue, history, nodes, count, time) {
+        TickAnswer::Taken(errors) => answers::logged(errors, answer),
+        TickAnswer::Refused(refusal) => answers::declined(refusal, answer),
     }
 }
 
-// Makes a call on a head with its memory, `queue` and `history`, and with the first `count` nodes.
-pub fn make(
-    call: Line,
-    numbers: &Numbers,
+fn heard(nodes: &mut NodeWords, count: usize, given: Given, answer: &mut Numbers) {
+    let said = node::heard::heard(nodes, count, byte(number(given, 0)), number(given, 1));
+    answers::call(said, answer)
+}
+
+// The reading of a number as an NMT state, which becomes the answer's first state.
+fn read_state(n: u64, answer: &mut Numbers) {
+    match NmtState::try_from(n) {
+        NmtStateRead::Taken(state) => {
+            answer[0] = 0;
+            answer[4] = state.as_u8() as u64;
+        }
+        NmtStateRead::Refused(refusal) => answer[0] = refusal.number() as u64,
+    }
+}
+
+// The same as a state command.
+fn read_command(n: u64, answer: &mut Numbers) {
+    match NmtStateCommand::try_from(n) {
+        NmtStateCommandRead::Taken(command) => {
+            answer[0] = 0;
+            answer[4] = command.as_u8() as u64;
+        }
+        NmtStateCommandRead::Refused(refusal) => answer[0] = refusal.number() as u64,
+    }
+}
+
+// The calls that need the head alone, with their first number, and the readings.
+fn call_on_head(key: u8, n: u64, given: Given, head: &mut Head, answer: &mut Numbers) {
+    match key {
+        b'n' => nmt_event(head, n, answer),
+        b'd' => dll_event(head, n, number(given, 1) == 1, answer),
+        b'e' => error(
+            head,
+            n,
+            byte(number(given, 1)),
+            byte(number(given, 2)),
+            answer,
+        ),
+        b'c' => answers::cycle(node::calls::on_cycle_complete(head), answer),
+        b'w' => answers::call(node::calls::withdraw(head), answer),
+        b'a' => answers::call(node::calls::arm(head, n), answer),
+        b's' => read_state(n, answer),
+        _ => read_command(n, answer),
+    }
+}
+
+// Makes the call of a line on a head with its memory, `queue` and `history`, and with the first `count` nodes.
+pub(crate) fn make(
+    key: u8,
+    given: Given,
     bytes: &EntryBuffer,
     head: &mut Head,
     queue: &mut [u8; 640],
     history: &mut [u8; 5080],
     nodes: &mut NodeWords,
     count: usize,
-    out: &mut Buffer,
+    answer: &mut Numbers,
 ) {
-    match call {
-        Line::Heard => {
-            let answer = node::heard::heard(nodes, count, byte(numbers, 0), number(numbers, 1));
-            return say_answer(out, answer);
-        }
-        Line::Tick => {
-            let time = number(numbers, 0);
-            return tick(head, queue, history, nodes, count, time, out);
-        }
-        Line::Load => return load(head, history, numbers, bytes, out),
-        _ => return call_on_head(call, numbers, head, queue, out),
+    let n = number(given, 0);
+    match key {
+        b'h' => heard(nodes, count, given, answer),
+        b't' => tick(head, queue, history, nodes, count, n, answer),
+        b'l' => load(head, history, given, bytes, answer),
+        _ => call_on_head(key, n, given, head, answer),
     }
 }

@@ -1,70 +1,100 @@
-// Reading a `load`: the values that it names, and its history. Here a place beyond the line's end says that a word was
-// unreadable.
-ghost use Prim.Native.Nat.{_≤_};
-use crate::history::EntriesRead;
-use crate::history::EntryBuffer;
-use crate::history::entries;
-use crate::script::Line;
-use crate::script::next_object;
-use crate::script::next_within;
-use crate::values::KEPT;
-use crate::values::Numbers;
-use crate::words::Behind;
-use crate::words::Number;
-use crate::words::next_word;
-use crate::words::word_end;
+// Reading a `load`: the values that it names, and the entries of its history, each a word of 40 hexadecimal digits.
+ghost use Prim.Native.Nat.{_+_, _*_, _≤_};
+ghost use lib.ListN.{length};
+use crate::script::NO_LINE;
+use crate::words::Given;
+use crate::words::UNREADABLE;
+use crate::words::digit_of;
+use crate::words::match_at;
+use bytes::scan::find;
 
-// The next word as the value at a place of the load.
-fn next_value(line: &[u8], at: usize, place: usize) -> Number {
-    match place {
-        0 => next_within(line, at, 255),
-        1 | 2 => next_object(line, at),
-        _ => next_within(line, at, 4294967295),
-    }
-}
+// In place of a value that a load does not name.
+pub const KEPT: u64 = 8589934592;
 
-// Reads the value of a name, if that is the next word; the place behind.
-fn value_named(line: &[u8], at: usize, name: &[u8], place: usize, numbers: &mut Numbers) -> usize
+// The bytes of as many entries as a load may have, 300.
+pub type EntryBuffer = [u8; 6000];
+
+// Reads a value that may be named at a place; the place behind.
+fn read_value(row: &[u8], line: &[u8], at: usize, given: &mut Given, place: usize) -> usize
     requires { ⌜ place ≤ 10 ⌝ }
 {
-    let Behind::At(behind) = next_word(line, at, name) else {
-        numbers[place] = KEPT;
+    let end = match_at(row, line, at, given, place);
+    if end == UNREADABLE {
+        given[place] = KEPT;
         return at;
-    };
-    let Number::Taken(n, end) = next_value(line, behind, place) else {
-        return line.len() + 1;
-    };
-    numbers[place] = n;
+    }
     end
 }
 
-// Reads the values that are named, by the seven names in their order; the place behind them.
-fn values_named(names: &[u8], line: &[u8], at: usize, numbers: &mut Numbers) -> usize {
-    let mut at = at;
-    let mut from = 0;
+// Reads the values that are named, by the seven rows in their order; the place behind them.
+fn read_values(rows: &[u8], line: &[u8], from: usize, given: &mut Given) -> usize {
+    let mut at = from;
+    let mut row = 0;
     for place in 0..7usize {
-        if names.len() <= from {
+        if rows.len() <= row {
             return at;
         }
-        let end = word_end(names, from);
-        at = value_named(line, at, &names[from..end], place, numbers);
-        from = end + 1;
+        let end = find(rows, row, rows.len(), b';');
+        at = read_value(&rows[row..end], line, at, given, place);
+        row = end + 1;
     }
     at
 }
 
-pub fn read_load(line: &[u8], at: usize, numbers: &mut Numbers, bytes: &mut EntryBuffer) -> Line {
-    let at = values_named(b"register cycle tolerance c1 c2 c3 c5", line, at, numbers);
-    let Behind::At(at) = next_word(line, at, b"history") else {
-        numbers[7] = KEPT;
-        if at == line.len() {
-            return Line::Load;
+// Reads as many entries as follow a place, each behind a space: whether all of them are entries.
+fn read_entries(line: &[u8], at: usize, count: usize, bytes: &mut EntryBuffer) -> bool
+    requires { ⌜ (at + 41 * count ≤ length (now line)) × (count ≤ 300) ⌝ }
+{
+    for i in 0..20 * count {
+        let from = at + 41 * (i / 20) + 2 * (i % 20);
+        if i % 20 == 0 {
+            if line[from] != b' ' {
+                return false;
+            }
         }
-        return Line::Unreadable;
-    };
-    let EntriesRead::Taken(length) = entries(line, at, bytes) else {
-        return Line::Unreadable;
-    };
-    numbers[7] = length as u64;
-    Line::Load
+        let high = digit_of(line[from + 1]);
+        let low = digit_of(line[from + 2]);
+        if 15 < high {
+            return false;
+        }
+        if 15 < low {
+            return false;
+        }
+        bytes[i] = 16 * high + low;
+    }
+    true
+}
+
+// Reads the history, which goes up to the line's end.
+fn read_history(line: &[u8], at: usize, given: &mut Given, bytes: &mut EntryBuffer) -> u8 {
+    if line.len() < at {
+        return NO_LINE;
+    }
+    let count = (line.len() - at) / 41;
+    if at + 41 * count != line.len() {
+        return NO_LINE;
+    }
+    if 300 < count {
+        return NO_LINE;
+    }
+    if !read_entries(line, at, count, bytes) {
+        return NO_LINE;
+    }
+    given[7] = 20 * count as u64;
+    b'l'
+}
+
+pub(crate) fn read_load(line: &[u8], at: usize, given: &mut Given, bytes: &mut EntryBuffer) -> u8 {
+    let at = read_values(
+        b" register B; cycle O; tolerance O; c1 W; c2 W; c3 W; c5 W",
+        line,
+        at,
+        given,
+    );
+    given[7] = KEPT;
+    if at == line.len() {
+        return b'l';
+    }
+    let behind = match_at(b" history", line, at, given, 7);
+    read_history(line, behind, given, bytes)
 }

@@ -1,39 +1,63 @@
 // Drives a head by a call script from standard input and prints what each call answers (docs/CALLS.md).
-mod answers;
 mod calls;
-mod history;
 mod lines;
 mod load;
 mod print;
 mod run;
+mod said;
 mod script;
 mod session;
 mod show;
 mod values;
 mod words;
 
-// Owns all memory: the head's, that of the watched nodes, and the buffers of the script and of what is printed.
+use lines::Gathered;
+use session::Session;
+
+// Owns all memory: the head's, that of the watched nodes, and the buffers of the script and of what is printed. The script's last
+// line may lack its newline.
 fn main() {
     let mut part = [0u8; 65536];
     let mut text = [0u8; 16384];
-    let mut numbers = [0u64; 11];
+    let mut given = [0u64; 11];
     let mut bytes = [0u8; 6000];
     let mut head = [0u32; 52];
     let mut queue = [0u8; 640];
     let mut history = [0u8; 5080];
     let mut nodes = [0u64; 96];
     let mut rest = [0u64; 24];
+    let mut answer = [0u64; 21];
     let mut out = [0u8; 65538];
-    lines::play_all(
-        &mut part,
-        &mut text,
-        &mut numbers,
-        &mut bytes,
-        &mut head,
-        &mut queue,
-        &mut history,
-        &mut nodes,
-        &mut rest,
-        &mut out,
-    );
+    let mut session = Session {
+        started: false,
+        count: 0,
+    };
+    let mut line = Gathered {
+        length: 0,
+        whole: true,
+        at: 0,
+        count: 0,
+    };
+    'script: for place in 1..u64::MAX {
+        line = lines::next_line(line, &mut part, &mut text, &mut out);
+        let read = script::read(&text, line.length, &mut given, &mut bytes);
+        let key = session::key_after(session, read);
+        session = session.play(
+            key,
+            place,
+            given,
+            &bytes,
+            &mut head,
+            &mut queue,
+            &mut history,
+            &mut nodes,
+            &mut rest,
+            &mut answer,
+            &mut out,
+        );
+        if !line.whole {
+            break 'script;
+        }
+    }
+    print::flush(&mut out);
 }

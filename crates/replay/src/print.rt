@@ -1,22 +1,16 @@
 // What is printed gathers in a buffer, which is written when it is full and whenever the program waits for more of the
 // script.
-ghost use Prim.Native.Nat.{_≤_};
-use crate::values::MISSING;
+ghost use Prim.Native.Nat.{_+_, _≤_, _<_};
+use answers::NOTHING;
+use bytes::scan::find;
 use libc::STDOUT_FILENO;
 
 // As many bytes as a u16 has values, so that each value is a place; and behind them the place of the next byte, in two
 // bytes, the low one first.
 pub type Buffer = [u8; 65538];
 
-// In place of a number that is not there.
-pub const NOTHING: u64 = u64::MAX;
-
 fn place_of(low: u8, high: u8) -> u16 {
     low as u16 + 256 * (high as u16)
-}
-
-fn place(out: &Buffer) -> u16 {
-    place_of(out[65536], out[65537])
 }
 
 fn set_place(out: &mut Buffer, at: u16) {
@@ -32,13 +26,14 @@ fn write_front(out: &Buffer, count: u32) {
 }
 
 // Writes what has gathered.
-pub fn flush(out: &mut Buffer) {
-    write_front(out, place(out) as u32);
+pub(crate) fn flush(out: &mut Buffer) {
+    let at = place_of(out[65536], out[65537]);
+    write_front(out, at as u32);
     set_place(out, 0);
 }
 
-pub fn put(out: &mut Buffer, byte: u8) {
-    let at = place(out);
+fn put(out: &mut Buffer, byte: u8) {
+    let at = place_of(out[65536], out[65537]);
     out[at as usize] = byte;
     if at == 65535 {
         write_front(out, 65536);
@@ -48,7 +43,7 @@ pub fn put(out: &mut Buffer, byte: u8) {
     set_place(out, at + 1);
 }
 
-pub fn say(out: &mut Buffer, text: &[u8]) {
+pub(crate) fn say(out: &mut Buffer, text: &[u8]) {
     for i in 0..text.len() {
         put(out, text[i]);
     }
@@ -60,76 +55,94 @@ fn say_number(out: &mut Buffer, n: u64) {
     say(out, &text[..k]);
 }
 
-// An object's value.
-fn say_object(out: &mut Buffer, n: u64) {
-    if n == MISSING {
-        say(out, b"missing");
-        return;
-    }
-    say_number(out, n)
-}
-
-// A number by its mark: # decimal, % and @ in two and in four hexadecimal digits, ! an object's value. Any other character is
-// printed as it is.
+// A number by its mark: # decimal, % and @ in two and in four hexadecimal digits, - not at all. What opens and closes a group is not
+// printed, and any other character is printed as it is.
 fn say_mark(out: &mut Buffer, mark: u8, n: u64) {
     match mark {
         b'#' => say_number(out, n),
         b'%' => say(out, &forms::hex2(n)),
         b'@' => say(out, &forms::hex4(n)),
-        b'!' => say_object(out, n),
+        b'-' | b'[' | b']' | b'{' | b'}' => {}
         _ => put(out, mark),
     }
 }
 
-// Behind a space, where the number is there.
-fn say_if_there(out: &mut Buffer, mark: u8, n: u64) {
-    if n == NOTHING {
-        return;
-    }
-    put(out, b' ');
-    say_mark(out, mark, n)
-}
-
-// A character of a form. Two more marks stand for a space and a number, or for nothing: ? for #, ^ for %.
-fn say_part(out: &mut Buffer, part: u8, n: u64) {
-    match part {
-        b'?' => say_if_there(out, b'#', n),
-        b'^' => say_if_there(out, b'%', n),
-        _ => say_mark(out, part, n),
-    }
-}
-
 // How many numbers a character of a form stands for.
-fn numbers_in(part: u8) -> usize
+fn numbers_in(mark: u8) -> usize
     ensures { λ r. ⌜ r ≤ 1 ⌝ }
 {
-    match part {
-        b'#' | b'%' | b'@' | b'!' | b'?' | b'^' => 1,
+    match mark {
+        b'#' | b'%' | b'@' | b'-' => 1,
         _ => 0,
     }
 }
 
-// The number at a place; there are as many as marks, and behind the last it is 0.
+// How many groups hide what follows, after one more is opened.
+fn opened(hidden: usize, hides: bool) -> usize
+    requires { ⌜ hidden < 18446744073709551615 ⌝ }
+    ensures { λ r. ⌜ r ≤ hidden + 1 ⌝ }
+{
+    if 0 < hidden {
+        return hidden + 1;
+    }
+    if hides {
+        return 1;
+    }
+    0
+}
+
+// The same behind a character of a form: [..] is hidden where the number that follows is not there, {..} where it is.
+fn hiding(hidden: usize, mark: u8, n: u64) -> usize
+    requires { ⌜ hidden < 18446744073709551615 ⌝ }
+    ensures { λ r. ⌜ r ≤ hidden + 1 ⌝ }
+{
+    match mark {
+        b'[' => opened(hidden, n == NOTHING),
+        b'{' => opened(hidden, n != NOTHING),
+        b']' | b'}' => {
+            if 0 < hidden {
+                return hidden - 1;
+            }
+            0
+        }
+        _ => hidden,
+    }
+}
+
+// The number at a place; behind the last it is 0.
 fn number_at(numbers: &[u64], place: usize) -> u64 {
     if place < numbers.len() {
         return numbers[place];
     }
     0
 }
-
 // A form with a number for each of its marks.
-pub fn say_form(out: &mut Buffer, form: &[u8], numbers: &[u64]) {
+pub(crate) fn say_form(out: &mut Buffer, form: &[u8], numbers: &[u64]) {
     let mut next = 0;
+    let mut hidden = 0;
     for i in 0..form.len() {
-        let part = form[i];
-        say_part(out, part, number_at(numbers, next));
-        next += numbers_in(part);
+        let mark = form[i];
+        let n = number_at(numbers, next);
+        hidden = hiding(hidden, mark, n);
+        if hidden == 0 {
+            say_mark(out, mark, n);
+        }
+        next += numbers_in(mark);
     }
 }
 
-// A form with one mark.
-pub fn say_one(out: &mut Buffer, form: &[u8], n: u64) {
-    say_form(out, form, &[n])
+// The form of a key in a table, whose rows are a key and a form; * stands for every key.
+pub(crate) fn say_by(out: &mut Buffer, rows: &[u8], key: u8, numbers: &[u64]) {
+    let mut from = 0;
+    while from < rows.len() {
+        let form = from + 1;
+        let end = find(rows, form, rows.len(), b';');
+        let row = rows[from];
+        if (row == key) | (row == b'*') {
+            return say_form(out, &rows[form..end], numbers);
+        }
+        from = end + 1;
+    }
 }
 
 // Two hexadecimal digits, without the 0x.
@@ -139,8 +152,10 @@ fn say_digits(out: &mut Buffer, byte: u8) {
     put(out, form[3]);
 }
 
-pub fn say_bytes(out: &mut Buffer, bytes: &[u8]) {
-    for i in 0..bytes.len() {
+// An entry behind a space.
+pub(crate) fn say_entry(out: &mut Buffer, bytes: &[u8; 20]) {
+    put(out, b' ');
+    for i in 0..20usize {
         say_digits(out, bytes[i]);
     }
 }

@@ -1,206 +1,63 @@
-// What a line of a script says: its name, and its numbers in a lent array, in their order.
+// What a line of a script says: its key, and the numbers that it gives.
 ghost use Prim.Native.Nat.{_≤_};
-use crate::history::EntryBuffer;
+ghost use lib.ListN.{length};
+use crate::lines::LineBuffer;
+use crate::load::EntryBuffer;
 use crate::load::read_load;
-use crate::values::MISSING;
-use crate::values::Numbers;
-use crate::values::number;
-use crate::words::Behind;
-use crate::words::Number;
-use crate::words::next_number;
-use crate::words::next_word;
-use crate::words::word_at;
-use crate::words::word_end;
+use crate::words::Given;
+use crate::words::UNREADABLE;
+use crate::words::match_at;
+use bytes::scan::find;
 
-pub enum Line {
-    // An empty line, or a comment.
-    Passed,
-    Unreadable,
-    Watch,
-    Unwatch,
-    Start,
-    // What follows needs a head: before the first accepted start it is unreadable.
-    Show,
-    State,
-    Command,
-    Heard,
-    Tick,
-    Nmt,
-    Dll,
-    Error,
-    Cycle,
-    Withdraw,
-    HandOut,
-    Arm,
-    Load,
-}
+// The key of a line that can't be read. That of a comment is a space, that of a load l, and the others stand in the table in
+// `read_line`.
+pub const NO_LINE: u8 = b'?';
 
-// A line by its name, and the place behind that.
-enum Named {
-    Line(Line, usize),
-    Other,
-}
-
-// The line whose name stands at a place among the names in `read`.
-fn line_of(place: usize) -> Line {
-    match place {
-        0 => Line::Watch,
-        1 => Line::Unwatch,
-        2 => Line::Start,
-        3 => Line::Show,
-        4 => Line::State,
-        5 => Line::Command,
-        6 => Line::Heard,
-        7 => Line::Tick,
-        8 => Line::Nmt,
-        9 => Line::Dll,
-        10 => Line::Error,
-        11 => Line::Cycle,
-        12 => Line::Withdraw,
-        13 => Line::HandOut,
-        14 => Line::Arm,
-        _ => Line::Load,
-    }
-}
-
-// The line by the first of the names that it begins with.
-fn line_among(names: &[u8], line: &[u8]) -> Named {
-    let mut place = 0;
+// Reads a line by a table, whose rows are a key and a pattern.
+fn read_by(rows: &[u8], line: &[u8], given: &mut Given) -> u8 {
     let mut from = 0;
-    while from < names.len() {
-        let end = word_end(names, from);
-        if let Behind::At(at) = word_at(line, 0, &names[from..end]) {
-            return Named::Line(line_of(place), at);
+    while from < rows.len() {
+        let key = rows[from];
+        let pattern = from + 1;
+        let end = find(rows, pattern, rows.len(), b';');
+        if match_at(&rows[pattern..end], line, 0, given, 0) == line.len() {
+            return key;
         }
-        place += 1;
         from = end + 1;
     }
-    Named::Other
+    NO_LINE
 }
 
-// How many numbers stand behind a name.
-fn count(read: Line) -> usize
-    ensures { λ r. ⌜ r ≤ 11 ⌝ }
+// Reads the line that the first characters of a text are.
+fn read_line(text: &[u8], count: usize, given: &mut Given, bytes: &mut EntryBuffer) -> u8
+    requires { ⌜ count ≤ length (now text) ⌝ }
 {
-    match read {
-        Line::State | Line::Command | Line::Tick | Line::Nmt | Line::Arm => 1,
-        Line::Heard | Line::Dll => 2,
-        Line::Watch | Line::Error => 3,
-        Line::Start => 11,
-        _ => 0,
+    let line = &text[0..count];
+    let at = match_at(b"load", line, 0, given, 0);
+    if at != UNREADABLE {
+        return read_load(line, at, given, bytes);
     }
-}
-
-// The largest number at a place of a line.
-fn largest(read: Line, place: usize) -> u64 {
-    match read {
-        Line::Watch | Line::Heard => {
-            if place == 0 {
-                return 255;
-            }
-            u64::MAX
-        }
-        Line::Dll => {
-            if place == 1 {
-                return 1;
-            }
-            u64::MAX
-        }
-        Line::Start => match place {
-            0 | 4 => 255,
-            3 => u64::MAX,
-            _ => 4294967295,
-        },
-        _ => u64::MAX,
-    }
-}
-
-// The next word as a number up to the largest.
-pub fn next_within(line: &[u8], at: usize, largest: u64) -> Number {
-    let Number::Taken(n, at) = next_number(line, at) else {
-        return Number::Unreadable;
-    };
-    if largest < n {
-        return Number::Unreadable;
-    }
-    Number::Taken(n, at)
-}
-
-// The next word as the value of an object: a number of 32 bits, or `-` for a missing one.
-pub fn next_object(line: &[u8], at: usize) -> Number {
-    if let Behind::At(at) = next_word(line, at, b"-") {
-        return Number::Taken(MISSING, at);
-    }
-    next_within(line, at, 4294967295)
-}
-
-// The next word as the number at a place of a line: a start has objects, its cycle and its tolerance, at 5 and 6.
-fn next_at(read: Line, place: usize, line: &[u8], at: usize) -> Number {
-    if let Line::Start = read {
-        if place == 5 {
-            return next_object(line, at);
-        }
-        if place == 6 {
-            return next_object(line, at);
-        }
-    }
-    next_within(line, at, largest(read, place))
-}
-
-// A line with its numbers, which have to be all that follows its name.
-fn read_numbers(read: Line, line: &[u8], from: usize, numbers: &mut Numbers) -> Line {
-    let mut at = from;
-    for i in 0..count(read) {
-        let Number::Taken(n, end) = next_at(read, i, line, at) else {
-            return Line::Unreadable;
-        };
-        numbers[i] = n;
-        at = end;
-    }
-    if at < line.len() {
-        return Line::Unreadable;
-    }
-    read
-}
-
-// Whether the numbers that an error's kind carries have 8 bits; another is not looked at.
-fn carries_bytes(kind: u64, a: u64, b: u64) -> bool {
-    match kind {
-        9 | 10 | 12 | 19 | 20 | 21 => a <= 255,
-        18 => {
-            if 255 < a {
-                return false;
-            }
-            b <= 255
-        }
-        _ => true,
-    }
-}
-
-fn read_error(line: &[u8], at: usize, numbers: &mut Numbers) -> Line {
-    let read = read_numbers(Line::Error, line, at, numbers);
-    if carries_bytes(number(numbers, 0), number(numbers, 1), number(numbers, 2)) {
-        return read;
-    }
-    Line::Unreadable
-}
-
-pub fn read(line: &[u8], numbers: &mut Numbers, bytes: &mut EntryBuffer) -> Line {
-    if line.len() == 0 {
-        return Line::Passed;
-    }
-    if line[0] == b'#' {
-        return Line::Passed;
-    }
-    let Named::Line(named, at) = line_among(
-        b"watch unwatch start show state command heard tick nmt dll error cycle withdraw handout arm load",
+    read_by(
+        b"nnmt L;Wwatch B L L;ddll L F;pshow;ttick L;ccycle;aarm L;eerror L X Y;hheard B L;ohandout;wwithdraw;\
+        Uunwatch;Sstart B W W L B O O W W W W;kcommand L;sstate L; ",
         line,
-    ) else {
-        return Line::Unreadable;
-    };
-    match named {
-        Line::Load => read_load(line, at, numbers, bytes),
-        Line::Error => read_error(line, at, numbers),
-        _ => read_numbers(named, line, at, numbers),
+        given,
+    )
+}
+
+// Reads a line of some length. One that is longer than the buffer may still be a comment. Of an empty line the first character is of
+// an earlier one; if that is a comment, both are passed over alike.
+pub(crate) fn read(
+    text: &LineBuffer,
+    count: usize,
+    given: &mut Given,
+    bytes: &mut EntryBuffer,
+) -> u8 {
+    if text[0] == b'#' {
+        return b' ';
     }
+    if 16384 < count {
+        return NO_LINE;
+    }
+    read_line(text, count, given, bytes)
 }

@@ -1,13 +1,12 @@
 // The forms of a head and of the lent run.
-ghost use Prim.Native.Nat.{_+_, _≤_};
+ghost use Prim.Native.Nat.{_+_, _*_, _≤_};
 ghost use lib.ListN.{length};
-use crate::answers::say_found;
 use crate::print::Buffer;
 use crate::print::say;
 use crate::print::say_form;
-use crate::print::say_one;
 use crate::run::Rest;
-use crate::values::object_number;
+use crate::said::say_found;
+use answers::NOTHING;
 use head::parts::dll_of;
 use head::parts::errors_of;
 use head::parts::history_of;
@@ -17,6 +16,7 @@ use head::parts::queue_of;
 use head::parts::soc_of;
 use head::state::Deadline;
 use head::state::Head;
+use head::state::ObjectValue;
 use watched::nodes::NodeWords;
 
 fn show_machines(out: &mut Buffer, head: &Head) {
@@ -75,23 +75,32 @@ fn show_counters(out: &mut Buffer, head: &Head) {
     )
 }
 
+fn deadline_number(deadline: Deadline) -> u64 {
+    match deadline {
+        Deadline::At(time) => time,
+        Deadline::Nothing => NOTHING,
+    }
+}
+
 fn show_soc(out: &mut Buffer, head: &Head) {
     let soc = soc_of(head);
-    let last = soc.last_soc_reception_time_us;
-    let check = soc.soc_timeout_check_active as u64;
-    let changed = soc.error_status_changed as u64;
     let deadline = soc.next_tick_us;
-    match deadline {
-        Deadline::At(time) => say_form(
-            out,
-            b"(soc (last #) (check #) (deadline #) (status_changed #))\n",
-            &[last, check, time, changed],
-        ),
-        Deadline::Nothing => say_form(
-            out,
-            b"(soc (last #) (check #) (deadline none) (status_changed #))\n",
-            &[last, check, changed],
-        ),
+    say_form(
+        out,
+        b"(soc (last #) (check #) (deadline {none}[#]) (status_changed #))\n",
+        &[
+            soc.last_soc_reception_time_us,
+            soc.soc_timeout_check_active as u64,
+            deadline_number(deadline),
+            soc.error_status_changed as u64,
+        ],
+    )
+}
+
+fn object_number(value: ObjectValue) -> u64 {
+    match value {
+        ObjectValue::Unsigned32(n) => n as u64,
+        ObjectValue::Missing => NOTHING,
     }
 }
 
@@ -101,7 +110,8 @@ fn show_dictionary(out: &mut Buffer, head: &Head) {
     let tolerance = od.tolerance;
     say_form(
         out,
-        b"(dictionary (register #) (cycle !) (tolerance !) (c1 #) (c2 #) (c3 #) (c5 #))\n",
+        b"(dictionary (register #) (cycle {missing}[#]) (tolerance {missing}[#]) (c1 #) (c2 #) (c3 #) (c5 #))\n\
+        (queue (capacity #)",
         &[
             od.error_register as u64,
             object_number(cycle),
@@ -110,6 +120,7 @@ fn show_dictionary(out: &mut Buffer, head: &Head) {
             od.counter_2 as u64,
             od.counter_3 as u64,
             od.counter_5 as u64,
+            queue_of(head).capacity as u64,
         ],
     )
 }
@@ -117,53 +128,56 @@ fn show_dictionary(out: &mut Buffer, head: &Head) {
 // The entries that wait, oldest first: at most 32.
 fn show_queue(out: &mut Buffer, head: &Head, memory: &[u8; 640]) {
     let queue = queue_of(head);
-    say_one(out, b"(queue (capacity #)", queue.capacity as u64);
     'waiting: for i in 0..32usize {
         if !say_found(out, queue.get(memory, i)) {
             break 'waiting;
         }
     }
-    say(out, b")\n")
+    say(out, b")\n(history")
 }
 
 // The history's entries, newest first: at most 254.
 fn show_history(out: &mut Buffer, head: &Head, memory: &[u8; 5080]) {
     let history = history_of(head);
-    say(out, b"(history");
     'past: for i in 0..254usize {
         if !say_found(out, history.get(memory, i)) {
             break 'past;
         }
     }
-    say(out, b")\n")
+    say(out, b")\n(watched")
 }
 
 // A record, whose words stand from a place on.
-fn say_record(out: &mut Buffer, words: &[u64], at: usize)
+fn show_record(out: &mut Buffer, words: &[u64], at: usize)
     requires { ⌜ at + 3 ≤ length (now words) ⌝ }
 {
     say_form(out, b" (# # #)", &words[at..at + 3])
 }
 
-// The record at a place of the run.
-fn show_record(out: &mut Buffer, nodes: &NodeWords, rest: &Rest, place: usize) {
-    if place < 32 {
-        return say_record(out, nodes, 3 * place);
-    }
-    if place < 40 {
-        return say_record(out, rest, 3 * (place - 32));
+// The first records.
+fn show_records(out: &mut Buffer, words: &[u64], count: usize)
+    requires { ⌜ 3 * count ≤ length (now words) ⌝ }
+{
+    for i in 0..count {
+        show_record(out, words, 3 * i);
     }
 }
 
-fn show_watched(out: &mut Buffer, nodes: &NodeWords, rest: &Rest, count: usize) {
-    say(out, b"(watched");
-    for i in 0..count {
-        show_record(out, nodes, rest, i);
-    }
+// The smaller number.
+fn least(a: usize, b: usize) -> usize
+    ensures { λ r. ⌜ (r ≤ a) × (r ≤ b) ⌝ }
+{
+    if a < b { a } else { b }
+}
+
+fn show_run(out: &mut Buffer, nodes: &NodeWords, rest: &Rest, count: usize) {
+    let first = least(count, 32);
+    show_records(out, nodes, first);
+    show_records(out, rest, least(count - first, 8));
     say(out, b")\n")
 }
 
-pub fn show(
+pub(crate) fn show(
     out: &mut Buffer,
     head: &Head,
     queue: &[u8; 640],
@@ -178,5 +192,5 @@ pub fn show(
     show_dictionary(out, head);
     show_queue(out, head, queue);
     show_history(out, head, history);
-    show_watched(out, nodes, rest, count)
+    show_run(out, nodes, rest, count)
 }

@@ -1,5 +1,8 @@
-// The numbers of a line as the values that its call takes, each by its place.
+// The numbers of a line as the values that its call takes.
 ghost use Prim.Native.Nat.{_≤_};
+use crate::load::KEPT;
+use crate::words::Given;
+use answers::NOTHING;
 use head::state::Dictionary;
 use head::state::ObjectValue;
 use node::load::ByteUpdate;
@@ -7,104 +10,74 @@ use node::load::CounterUpdate;
 use node::load::DictionaryUpdate;
 use node::load::ObjectUpdate;
 
-// As many as a start has. Those of a load are its seven values, and how many bytes the entries of its history have.
-pub type Numbers = [u64; 11];
-
-// In place of a 32-bit number: that of a missing object, and what a load does not name.
-pub const MISSING: u64 = 4294967296;
-
-pub const KEPT: u64 = 8589934592;
-
-pub(crate) fn number(numbers: &Numbers, place: usize) -> u64
+pub(crate) fn number(given: Given, place: usize) -> u64
     requires { ⌜ place ≤ 10 ⌝ }
 {
-    numbers[place]
+    given[place]
 }
 
 // A number that was read as one of 8 bits.
-pub(crate) fn byte(numbers: &Numbers, place: usize) -> u8
-    requires { ⌜ place ≤ 10 ⌝ }
-{
-    (numbers[place] % 256) as u8
+pub(crate) fn byte(n: u64) -> u8 {
+    (n % 256) as u8
 }
 
 // A number that was read as one of 32 bits.
-pub(crate) fn word(numbers: &Numbers, place: usize) -> u32
-    requires { ⌜ place ≤ 10 ⌝ }
-{
-    (numbers[place] % 4294967296) as u32
+pub(crate) fn word(n: u64) -> u32 {
+    (n % 4294967296) as u32
 }
 
-fn object(numbers: &Numbers, place: usize) -> ObjectValue
-    requires { ⌜ place ≤ 10 ⌝ }
-{
-    let n = numbers[place];
-    if n < MISSING {
-        return ObjectValue::Unsigned32(n as u32);
+fn object(n: u64) -> ObjectValue {
+    if n == NOTHING {
+        return ObjectValue::Missing;
     }
-    ObjectValue::Missing
+    ObjectValue::Unsigned32(word(n))
 }
 
-pub fn object_number(value: ObjectValue) -> u64 {
-    match value {
-        ObjectValue::Unsigned32(n) => n as u64,
-        ObjectValue::Missing => MISSING,
-    }
-}
-
-// The dictionary of a start.
-pub fn dictionary(numbers: &Numbers) -> Dictionary {
-    let cycle_time = object(numbers, 5);
-    let tolerance = object(numbers, 6);
+// The dictionary values of a start.
+pub(crate) fn dictionary(given: Given) -> Dictionary {
+    let cycle_time = object(number(given, 5));
+    let tolerance = object(number(given, 6));
     Dictionary {
-        error_register: byte(numbers, 4),
+        error_register: byte(number(given, 4)),
         cycle_time,
         tolerance,
-        counter_1: word(numbers, 7),
-        counter_2: word(numbers, 8),
-        counter_3: word(numbers, 9),
-        counter_5: word(numbers, 10),
+        counter_1: word(number(given, 7)),
+        counter_2: word(number(given, 8)),
+        counter_3: word(number(given, 9)),
+        counter_5: word(number(given, 10)),
     }
 }
 
-fn byte_update(numbers: &Numbers, place: usize) -> ByteUpdate
-    requires { ⌜ place ≤ 10 ⌝ }
-{
-    let n = numbers[place];
+fn byte_update(n: u64) -> ByteUpdate {
     if n == KEPT {
         return ByteUpdate::Keep;
     }
-    ByteUpdate::Set((n % 256) as u8)
+    ByteUpdate::Set(byte(n))
 }
 
-fn counter_update(numbers: &Numbers, place: usize) -> CounterUpdate
-    requires { ⌜ place ≤ 10 ⌝ }
-{
-    let n = numbers[place];
-    if n < MISSING {
-        return CounterUpdate::Set(n as u32);
+fn counter_update(n: u64) -> CounterUpdate {
+    if n == KEPT {
+        return CounterUpdate::Keep;
     }
-    CounterUpdate::Keep
+    CounterUpdate::Set(word(n))
 }
 
-fn object_update(numbers: &Numbers, place: usize) -> ObjectUpdate
-    requires { ⌜ place ≤ 10 ⌝ }
-{
-    if number(numbers, place) == KEPT {
+fn object_update(n: u64) -> ObjectUpdate {
+    if n == KEPT {
         return ObjectUpdate::Keep;
     }
-    ObjectUpdate::Set(object(numbers, place))
+    ObjectUpdate::Set(object(n))
 }
 
 // What a load names.
-pub fn updates(numbers: &Numbers) -> DictionaryUpdate {
-    let error_register = byte_update(numbers, 0);
-    let cycle_time = object_update(numbers, 1);
-    let tolerance = object_update(numbers, 2);
-    let counter_1 = counter_update(numbers, 3);
-    let counter_2 = counter_update(numbers, 4);
-    let counter_3 = counter_update(numbers, 5);
-    let counter_5 = counter_update(numbers, 6);
+pub(crate) fn updates(given: Given) -> DictionaryUpdate {
+    let error_register = byte_update(number(given, 0));
+    let cycle_time = object_update(number(given, 1));
+    let tolerance = object_update(number(given, 2));
+    let counter_1 = counter_update(number(given, 3));
+    let counter_2 = counter_update(number(given, 4));
+    let counter_3 = counter_update(number(given, 5));
+    let counter_5 = counter_update(number(given, 6));
     DictionaryUpdate {
         error_register,
         cycle_time,

@@ -1,66 +1,23 @@
-// The words of a line. `at` is the place behind the last word that was read: there a space begins the next word, or the
-// line ends. A number that was read comes with the place behind it.
-ghost use Prim.Native.Nat.{_≤_};
+// Matching a line with a pattern. In a pattern a capital letter stands for a number by its width, and any other character for
+// itself. The place behind what was matched is UNREADABLE where it does not match, and so is every place from there on.
+ghost use Prim.Native.Nat.{_≤_, _<_};
 ghost use lib.ListN.{length};
+use answers::NOTHING;
 
-pub enum Number {
-    Taken(u64, usize),
-    Unreadable,
-}
+// The numbers of a line; as many as a start has. Those of a load are its seven values, and how many bytes the entries of its
+// history have.
+pub type Given = [u64; 11];
 
-// Where a word is the one that is looked for, the place behind it.
-pub enum Behind {
-    At(usize),
-    Other,
-}
+pub const UNREADABLE: usize = usize::MAX;
 
-// A number with a further digit, where it fits.
-enum Grown {
-    Number(u64),
-    TooWide,
-}
-
-// The place behind the text, if it stands at a place of the line.
-pub fn text_at(line: &[u8], from: usize, text: &[u8]) -> Behind {
-    let mut at = from;
-    for i in 0..text.len() {
-        if line.len() <= at {
-            return Behind::Other;
-        }
-        if line[at] != text[i] {
-            return Behind::Other;
-        }
-        at += 1;
-    }
-    Behind::At(at)
-}
-
-// The place behind the word, if it stands at a place of the line, followed by a space or the line's end.
-pub fn word_at(line: &[u8], from: usize, word: &[u8]) -> Behind {
-    match text_at(line, from, word) {
-        Behind::At(at) => {
-            if line.len() <= at {
-                return Behind::At(at);
-            }
-            if line[at] == b' ' {
-                return Behind::At(at);
-            }
-            Behind::Other
-        }
-        Behind::Other => Behind::Other,
-    }
-}
-
-// The place behind the word, if it is the next one.
-pub fn next_word(line: &[u8], at: usize, word: &[u8]) -> Behind {
-    if line.len() <= at {
-        return Behind::Other;
-    }
-    word_at(line, at + 1, word)
+// A number and the place behind its digits.
+struct Number {
+    n: u64,
+    end: usize,
 }
 
 // The value of a hexadecimal digit of either case; 16 of any other character.
-pub fn digit_of(c: u8) -> u8
+pub(crate) fn digit_of(c: u8) -> u8
     ensures { λ r. ⌜ r ≤ 16 ⌝ }
 {
     match c {
@@ -71,75 +28,143 @@ pub fn digit_of(c: u8) -> u8
     }
 }
 
-// Where the word ends that stands at a place of a text.
-pub(crate) fn word_end(text: &[u8], from: usize) -> usize
-    requires { ⌜ from ≤ length (now text) ⌝ }
-    ensures { λ r. ⌜ (from ≤ r) × (r ≤ length (now (text .entry))) ⌝ }
+// A number with a digit behind it, which ends at a place, where it fits 64 bits.
+fn grown(n: u64, digit: u8, base: u8, end: usize) -> Number
+    requires { ⌜ digit ≤ 15 ⌝ }
+{
+    let d = digit as u64;
+    if base == 16 {
+        if u64::MAX / 16 < n {
+            return Number { n, end: UNREADABLE };
+        }
+        return Number { n: 16 * n + d, end };
+    }
+    if (u64::MAX - d) / 10 < n {
+        return Number { n, end: UNREADABLE };
+    }
+    Number { n: 10 * n + d, end }
+}
+
+// The number whose digits stand from a place on, up to another character; there has to be one.
+fn digits(line: &[u8], from: usize, base: u8) -> Number
+    requires { ⌜ base ≤ 16 ⌝ }
+{
+    let mut number = Number {
+        n: 0,
+        end: UNREADABLE,
+    };
+    for at in from..line.len() {
+        let digit = digit_of(line[at]);
+        if base <= digit {
+            return number;
+        }
+        number = grown(number.n, digit, base, at + 1);
+        if number.end == UNREADABLE {
+            return number;
+        }
+    }
+    number
+}
+
+// The number at a place: hexadecimal behind 0x, or decimal.
+fn number_at(line: &[u8], at: usize) -> Number
+    requires { ⌜ at < length (now line) ⌝ }
+{
+    let next = at + 1;
+    if next < line.len() {
+        if line[next] == b'x' {
+            if line[at] == b'0' {
+                return digits(line, next + 1, 16);
+            }
+        }
+    }
+    digits(line, at, 10)
+}
+
+// The largest number of a width: a flag, a byte, a word or an object's value of 32 bits, a long word of 64. X and Y are what an
+// error carries: a byte where its kind does, else a number that is not looked at.
+fn largest(width: u8, kind: u64) -> u64 {
+    match width {
+        b'F' => 1,
+        b'B' => 255,
+        b'W' | b'O' => 4294967295,
+        b'X' => match kind {
+            9 | 10 | 12 | 18 | 19 | 20 | 21 => 255,
+            _ => u64::MAX,
+        },
+        b'Y' => match kind {
+            18 => 255,
+            _ => u64::MAX,
+        },
+        _ => u64::MAX,
+    }
+}
+
+// Reads the number at a place, which becomes the given one at `place`; that of an object may be `-`, missing.
+fn read_number(line: &[u8], at: usize, width: u8, given: &mut Given, place: usize) -> usize {
+    if line.len() <= at {
+        return UNREADABLE;
+    }
+    if 10 < place {
+        return UNREADABLE;
+    }
+    if width == b'O' {
+        if line[at] == b'-' {
+            given[place] = NOTHING;
+            return at + 1;
+        }
+    }
+    let number = number_at(line, at);
+    if largest(width, given[0]) < number.n {
+        return UNREADABLE;
+    }
+    given[place] = number.n;
+    number.end
+}
+
+// How many numbers a character of a pattern stands for.
+fn numbers_in(c: u8) -> usize
+    ensures { λ r. ⌜ r ≤ 1 ⌝ }
+{
+    match c {
+        b'A'..=b'Z' => 1,
+        _ => 0,
+    }
+}
+
+// Matches one character of a pattern.
+fn match_one(c: u8, line: &[u8], at: usize, given: &mut Given, place: usize) -> usize {
+    if numbers_in(c) == 1 {
+        return read_number(line, at, c, given, place);
+    }
+    if line.len() <= at {
+        return UNREADABLE;
+    }
+    if line[at] != c {
+        return UNREADABLE;
+    }
+    at + 1
+}
+
+// Matches the line from a place on; its numbers become those given from `first` on.
+pub(crate) fn match_at(
+    pattern: &[u8],
+    line: &[u8],
+    from: usize,
+    given: &mut Given,
+    first: usize,
+) -> usize
+    requires { ⌜ first ≤ 10 ⌝ }
 {
     let mut at = from;
-    while at < text.len() {
-        if text[at] == b' ' {
+    let mut place = first;
+    for i in 0..pattern.len() {
+        let c = pattern[i];
+        at = match_one(c, line, at, given, place);
+        if at == UNREADABLE {
             return at;
         }
-        at += 1;
+        place += numbers_in(c);
     }
     at
-}
-
-fn sum(a: u64, b: u64) -> Grown {
-    if u64::MAX - b < a {
-        return Grown::TooWide;
-    }
-    Grown::Number(a + b)
-}
-
-// The number with a digit behind it. The product is written for each base, since it has to fit 64 bits.
-fn with_digit(value: u64, base: u8, digit: u8) -> Grown {
-    if base == 16 {
-        if u64::MAX / 16 < value {
-            return Grown::TooWide;
-        }
-        return sum(value * 16, digit as u64);
-    }
-    if u64::MAX / 10 < value {
-        return Grown::TooWide;
-    }
-    sum(value * 10, digit as u64)
-}
-
-// The number whose digits stand from a place up to the word's end; there has to be one.
-fn digits(line: &[u8], from: usize, base: u8) -> Number {
-    let mut value = 0;
-    let mut at = from;
-    'word: while at < line.len() {
-        let c = line[at];
-        if c == b' ' {
-            break 'word;
-        }
-        let d = digit_of(c);
-        if base <= d {
-            return Number::Unreadable;
-        }
-        let Grown::Number(next) = with_digit(value, base, d) else {
-            return Number::Unreadable;
-        };
-        value = next;
-        at += 1;
-    }
-    if at <= from {
-        return Number::Unreadable;
-    }
-    Number::Taken(value, at)
-}
-
-// The next word as a number.
-pub fn next_number(line: &[u8], at: usize) -> Number {
-    if line.len() <= at {
-        return Number::Unreadable;
-    }
-    let from = at + 1;
-    match text_at(line, from, b"0x") {
-        Behind::At(hex) => digits(line, hex, 16),
-        Behind::Other => digits(line, from, 10),
-    }
 }

@@ -1,0 +1,57 @@
+// What is printed of answers.
+use crate::print::Buffer;
+use crate::print::say;
+use crate::print::say_by;
+use crate::print::say_entry;
+use answers::Numbers;
+use entries::status_response::FoundEntry;
+use head::state::Head;
+
+// Prints the form that a key has in the table, by the numbers of an answer in their order; the last row is that of every other key. An
+// NMT event that is a reset enters states; of another one the errors are printed.
+pub(crate) fn say_as(out: &mut Buffer, key: u8, answer: &Numbers) {
+    say_by(
+        out,
+        b"!(refused #)\n;\
+        c---(taken (cleared #))\n;\
+        n----(taken{ (errors}[ (entered[ %][ %][ %][ %][ %]) (restore[ (@ @)][ (@ @)][ (@ @)]][ (#[ %][ #])][ (#[ %][ #])]))\n;\
+        d---------------(taken (errors[ (#[ %][ #])][ (#[ %][ #])]))\n;\
+        t---------------(taken (logged[ (#[ %][ #])][ (#[ %][ #])]))\n;\
+        e--(taken (action #) (signal #)----------- (logged[ (#[ %][ #])][ (#[ %][ #])]))\n;\
+        s----(taken %)\n;\
+        k----(taken %)\n;\
+        ?(unreadable #)\n;\
+        *(taken)\n",
+        key,
+        answer,
+    )
+}
+
+// Prints the answer of a line by its key.
+pub(crate) fn say_answer(out: &mut Buffer, key: u8, answer: &Numbers) {
+    if answer[0] != 0 {
+        return say_as(out, b'!', answer);
+    }
+    say_as(out, key, answer)
+}
+
+// Whether there is an entry, which is printed behind a space.
+pub(crate) fn say_found(out: &mut Buffer, found: FoundEntry) -> bool {
+    let mut bytes = [0u8; 20];
+    if answers::found(found, &mut bytes) {
+        say_entry(out, &bytes);
+        return true;
+    }
+    false
+}
+
+// An entry leaves the queue, and is printed.
+pub(crate) fn hand_out(out: &mut Buffer, head: &mut Head, queue: &[u8; 640]) {
+    let mut bytes = [0u8; 20];
+    if answers::found(node::calls::hand_out(head, queue), &mut bytes) {
+        say(out, b"(taken (entry");
+        say_entry(out, &bytes);
+        return say(out, b"))\n");
+    }
+    say(out, b"(taken none)\n")
+}
