@@ -1,7 +1,8 @@
 # make run      drives a node by a short call script and prints what each call answers
 # make test     every check; the last line is 'N passed, 0 failed'
 # make compare  builds the original Rust and compares it with the stored outputs, and our node with it at ten million generated
-#               calls, some minutes (needs cargo and the Rust source; 'make compare SEEDS="1 2" CALLS=200000' makes fewer)
+#               calls, some minutes (needs cargo and the Rust source; 'make compare SEEDS="1 2" CALLS=200000' makes fewer);
+#               before that it drives the lent forms of nodes and counter beside the other ones (compare/lent.sh, which needs the kit alone)
 # make compare-oracle  replays and generates call scripts on the original Rust (the same needs)
 
 SHELL := bash
@@ -19,12 +20,15 @@ test:
 	@rt fmt --check
 	@echo "Checking public contracts and the documents' references."
 	@sh tests/documents.sh
+	@echo "Checking that the laws which a script writes are what it writes."
+	@python3 scripts/lent_laws.py --check
 	@echo "Checking the script that replay is run on."
 	@compare/joined.sh --check
 	@echo "Proving every crate, trying the must-fail edits, running the programs (about 22 minutes on two cores)."
 	@rt ci
 
 compare:
+	@compare/lent.sh
 	@compare/run.sh
 	@compare/replay.sh
 

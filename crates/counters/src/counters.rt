@@ -1,6 +1,6 @@
 // The threshold counters (EPSG DS 301, Section 4.7.4.1) and those of a controlled node (Section 4.7.8).
 ghost use mathlib.Core.Path.{_≡_};
-ghost use Rattle.counters.specs.Counters.{addTop, newCounter, incremented, decremented, checked, active, newCounters, counter, replaced, unsignalled, signalled, counted, effect, effectOf, handled, lowered, anyActive, completed};
+ghost use Rattle.counters.specs.Counters.{addTop, newCounter, incremented, decremented, checked, afterError, active, newCounters, counter, replaced, unsignalled, signalled, counted, effect, effectOf, handled, lowered, anyActive, completed};
 use types::frame::error::types::DllError;
 use types::frame::error::types::DllErrors;
 use types::frame::error::types::NmtAction;
@@ -73,6 +73,13 @@ impl ThresholdCounter {
                 reached: false,
             }
         }
+    }
+
+    // An error that counts: the level rises, and is checked.
+    pub fn count_error(self) -> ThresholdCheck
+        ensures { λ r. ⌜ r ≡ afterError self ⌝ }
+    {
+        self.increment().check_and_reset()
     }
 
     pub fn is_active(self) -> bool

@@ -162,4 +162,4 @@ module _ {k n t c : ℕ} {f : FeatureFlags} {o : Dictionary} {a : CallAnswer} (s
       Replayed k n f t c o script bytes (answer.Refused r) (lent ws ns q m out) (lent ws′ ns′ q m out)
   declined {ws} {ns} {ws′} {ns′} {q} {m} {out} {r} s e =
       let d : StartedIn ws ns k n f t c o (answer.Refused r) ws′ ns′ = subst (λ (y : CallAnswer). StartedIn ws ns k n f t c o y ws′ ns′) e s in
-      (d, ap₂ (λ (w v : List ℕ). lent w v q m out) (d .words) (d .nodes))
+      (d, ap₂ (λ (w v : List ℕ). lent w v q m out) (d .on .words) (d .nodes))

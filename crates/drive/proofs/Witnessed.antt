@@ -1,7 +1,7 @@
 -- Demand 3 of a list of calls that really ran: what `drive` ensures, as its contract in src/ is read, is a list of the calls, and the claim holds of it.
 -- Assumes nothing.
 use Prim.Native.Nat.{ℕ}
-use mathlib.Core.Path.{_≡_, refl, subst}
+use mathlib.Core.Path.{_≡_, subst}
 use mathlib.Core.List.{List, []}
 use denote.Ref.{now}
 use Rattle.types.specs.declared.refusals.Refusal.{Refusal}
@@ -16,7 +16,7 @@ use Rattle.watched.specs.Nodes.{nodesOf}
 use Rattle.node.specs.declared.calls.CallAnswer.{CallAnswer}
 use Rattle.node.specs.declared.calls.CallAnswer.the-variants as answer
 use Rattle.trace.specs.Claim.{Claim}
-use Rattle.trace.specs.Driven.{Driven, stop}
+use Rattle.trace.specs.Driven.{Began, Driven, stop}
 use Rattle.drive.specs.Script.{Played, Lent, lent, Ran, Replayed}
 use Rattle.drive.proofs.Making.{lying}
 use Rattle.trace.proofs.Driven.{and-then, demand-3}
@@ -36,8 +36,10 @@ pub ran-claims :
     {k n t c : ℕ} {f : FeatureFlags} {o : Dictionary} {script bytes : List ℕ} {x x′ : Lent} (r : Ran k n f t c o script bytes x x′) →
     Claim (startOf n f t c o (watchedOf (nodesOf (x .nodes)) k)) (r .rows .calls) (r .rows .says) (headOf (x′ .head)) (x′ .queue) (x′ .history)
 ran-claims {k} {n} {t} {c} {f} {o} {x = x} r =
-    demand-3 ([], ([], tt)) (lying (x .head), (lying (x .nodes), (k, (n, (f, (t, (c, (o, tt)))))))) answer.Taken
-    (lying (r .words), (lying (r .nodes), (k, (n, (f, (t, (c, (o, tt)))))))) (r .started) refl (played-driven (r .rows .played))
+    demand-3
+    (Began.start ([], ([], tt)) (lying (x .head), (lying (x .nodes), (k, (n, (f, (t, (c, (o, tt)))))))) answer.Taken
+    (lying (r .words), (lying (r .nodes), (k, (n, (f, (t, (c, (o, tt)))))))) (r .started))
+    (played-driven (r .rows .played))
 
 -- κs: the lifetimes; a: the arguments; o: what is returned; x: what is lent, as it is left
 module _ (κs : _) (a : _) (o : CallAnswer) (x : _) (e : drive-reads.Learnt κs a o x) where

@@ -95,7 +95,7 @@ module _ (ws ws′ stated : List ℕ) (a b : Answer) {x y : Bool} (s : Exactly x
       TickedIn ws q m ns k t r ws′ q′ m′ ns′ →
       Came ws q m (Call.tick t (watchedOf (nodesOf ns) k)) b stated ws′ q′ m′ (watchedOf (nodesOf ns′) k) (x && y)
   came-tick q m ns k t r q′ m′ ns′ f w =
-      record { head = w .refines .head; places = w .rings; lent = w .refines .lent; tells = tells _ (f ∙ w .refines .answer) }
+      record { head = w .on .refines .head; places = w .on .rings; lent = w .on .refines .lent; tells = tells _ (f ∙ w .on .refines .answer) }
 
 -- heard is lent no head
 pub came-heard :

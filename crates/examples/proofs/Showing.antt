@@ -141,13 +141,13 @@ begun ws ns od answer.Taken ws′ ns′ e s = (
   refl,
   λ q m.
       record {
-        whole = same-begun (s .begins .begun q m) ∙ ap (λ (o : Dictionary). fresh (startOf 1 (flags 0) 5 1 o [])) e;
-        queue = s .places .0;
-        history = s .places .1;
+        whole = same-begun (s .on .begins .begun q m) ∙ ap (λ (o : Dictionary). fresh (startOf 1 (flags 0) 5 1 o [])) e;
+        queue = s .on .places .0;
+        history = s .on .places .1;
         coming = holds 0;
       },
 )
   where
     same-begun : {p p′ : Plain} → begins p ≡ begins p′ → p ≡ p′
     same-begun e = cc
-begun ws ns od (answer.Refused r) ws′ ns′ e s = absurd (let b = s .begins .begun [] [] in clash (cc))
+begun ws ns od (answer.Refused r) ws′ ns′ e s = absurd (let b = s .on .begins .begun [] [] in clash (cc))

@@ -48,7 +48,7 @@ module _ (t o l : ℕ) where
   look-heard h b c e z =
       sym (ap (λ (c : Bool). pick (either c late) t l) (ne-eqb l 0 h) ∙ ap (λ (c : Bool). pick c t l) (sym e ∙ z))
 
-looked-by : (t : ℕ) (w : WatchedNode) → heardNow (lookedTime t (w .timeout) (w .«last_heard»)) w ≡ looked t w
+pub looked-by : (t : ℕ) (w : WatchedNode) → heardNow (lookedTime t (w .timeout) (w .«last_heard»)) w ≡ looked t w
 looked-by t w = by (either (eqb (w .«last_heard») 0) (isLate t w))
   where
     by : (b : Bool) → heardNow (pick b t (w .«last_heard»)) w ≡ pick b (heardNow t w) w

@@ -130,7 +130,7 @@ module _ (p : Plain) (w : WatchedNode) (n : beat p w .ended ≡ false) where
   unfolding beat
   beat-logged = handled-quiet (p .errors) (timeoutOf w) refl n .logged
 
-  beats-on : (ws : List WatchedNode) → Alike (beatAll p (w ∷ ws)) (beatAll (beat p w .head) ws)
+  pub beats-on : (ws : List WatchedNode) → Alike (beatAll p (w ∷ ws)) (beatAll (beat p w .head) ws)
   unfolding beatAll
   beats-on ws =
       let d = beat p w in
@@ -143,7 +143,7 @@ module _ (p : Plain) (w : WatchedNode) (n : beat p w .ended ≡ false) where
         ended = ap (λ (k : Ticked). k .ended) s;
       }
 
-beats-end : (p : Plain) (w : WatchedNode) (ws : List WatchedNode) → beat p w .ended ≡ true → beatAll p (w ∷ ws) ≡ beat p w
+pub beats-end : (p : Plain) (w : WatchedNode) (ws : List WatchedNode) → beat p w .ended ≡ true → beatAll p (w ∷ ws) ≡ beat p w
 unfolding beatAll
 beats-end p w ws n = ap (λ (b : Bool). pick b (beat p w) (behind (beat p w) (beatAll (beat p w .head) ws))) n
 
@@ -156,7 +156,7 @@ pub record Beating (t : ℕ) (ws : List WatchedNode) (h₀ : Head) (d : PartLeft
   pub ended : d .ended ≡ false
 
 -- alike in all but their marks, in two steps
-alike-then : (a b c : Ticked) → Alike a b → Alike b c → Alike a c
+pub alike-then : (a b c : Ticked) → Alike a b → Alike b c → Alike a c
 alike-then a b c x y =
     record {
       head = x .head ∙ y .head;
@@ -165,7 +165,7 @@ alike-then a b c x y =
       ended = x .ended ∙ y .ended;
     }
 
-same-alike : (a b : Ticked) → a ≡ b → Alike a b
+pub same-alike : (a b : Ticked) → a ≡ b → Alike a b
 same-alike a b e =
     record {
       head = ap (λ (k : Ticked). k .head) e;
@@ -175,7 +175,7 @@ same-alike a b e =
     }
 
 -- a part of the tick, read as one that is alike
-alike-ticks :
+pub alike-ticks :
     (h : Head) (q m : List ℕ) (a b : Ticked) (r : PartLeft) → Alike a b → Ticks h q m b r q m → Ticks h q m a r q m
 alike-ticks h q m a b r x k =
     record {

@@ -27,7 +27,7 @@ use watched::nodes::NodeWords;
 use watched::nodes::all_places;
 
 // A node that was heard once, and then not for longer than its timeout.
-fn is_late(timeout: u64, last_heard: u64, time: u64) -> bool
+pub fn is_late(timeout: u64, last_heard: u64, time: u64) -> bool
     ensures { λ r. ⌜ r ≡ isLate time (watchedNode 0 timeout «last_heard») ⌝ }
 {
     if last_heard == 0 {
@@ -40,7 +40,7 @@ fn is_late(timeout: u64, last_heard: u64, time: u64) -> bool
 }
 
 // A node that was never heard, or is late, counts as heard now.
-fn looked(timeout: u64, last_heard: u64, time: u64) -> u64
+pub fn looked(timeout: u64, last_heard: u64, time: u64) -> u64
     ensures { λ r. ⌜ r ≡ lookedTime time timeout «last_heard» ⌝ }
 {
     if last_heard == 0 {
@@ -66,7 +66,7 @@ pub fn look_all(nodes: &mut NodeWords, count: usize, time: u64)
 }
 
 // Where a node has a timeout and was heard, the time is not before that.
-fn heard_by(timeout: u64, last_heard: u64, time: u64) -> bool
+pub fn heard_by(timeout: u64, last_heard: u64, time: u64) -> bool
     ensures { λ r. ⌜ r ≡ notBefore time (watchedNode 0 timeout «last_heard») ⌝ }
 {
     if timeout == 0 {

@@ -106,7 +106,7 @@ processed-keeps m e =
     (entered-keeps m (statesEntered e)) (applied-keeps m e (Nmt.rowOf (m .«current_state») e))
 
 -- an error keeps the threshold of its counter
-check-keeps : (c : ThresholdCounter) → Counters.afterError c .counter .threshold ≡ c .threshold
+pub check-keeps : (c : ThresholdCounter) → Counters.afterError c .counter .threshold ≡ c .threshold
 unfolding Counters.afterError
 check-keeps c =
     picked (λ (t : ThresholdCheck). t .counter .threshold ≡ c .threshold) (Counters.reaches (Counters.incremented c)) _ _ refl refl

@@ -142,7 +142,7 @@ pub fn dll_event(head: &mut Head, event: u64, expect_preq: bool) -> DllEventAnsw
 fn count(head: &mut Head, kind: CounterKind) -> bool
     ensures { λ r. ⌜ (r ≡ afterError (counterAt (now (head .entry)) (at.counter kind)) .reached) × (now (head .exit) ≡ effectWords (now (head .entry)) (counts kind)) ⌝ }
 {
-    let check = counter_of(head, kind).increment().check_and_reset();
+    let check = counter_of(head, kind).count_error();
     let counter = check.counter;
     set_counter(head, kind, counter);
     check.reached

@@ -2,7 +2,7 @@
 ghost use mathlib.Core.Path.{_≡_};
 ghost use Prim.Native.Nat.{_+_, _*_, _<_};
 ghost use lib.ListN.{set};
-ghost use Rattle.node.specs.Heard.{Heard};
+ghost use Rattle.node.specs.Heard.{heardAnswer, Heard};
 use crate::calls::CallAnswer;
 use types::refusals::Refusal;
 use watched::nodes::Found;
@@ -19,6 +19,22 @@ fn set_heard(nodes: &mut NodeWords, place: usize, time: u64)
     nodes[3 * place + 2] = time;
 }
 
+// Numbers 3, 5 and 7, by what was found of the watched nodes: whether they pass number 3, and whether the node is among them.
+pub fn try_heard(formed: bool, time: u64, watched: bool) -> CallAnswer
+    ensures { λ r. ⌜ r ≡ heardAnswer formed time watched ⌝ }
+{
+    if !formed {
+        return CallAnswer::Refused(Refusal::WatchedNodes);
+    }
+    if !in_time(time) {
+        return CallAnswer::Refused(Refusal::TimeLimit);
+    }
+    if !watched {
+        return CallAnswer::Refused(Refusal::NotWatched);
+    }
+    CallAnswer::Taken
+}
+
 // A watched node was heard.
 pub fn heard(nodes: &mut NodeWords, count: usize, node: u8, time: u64) -> CallAnswer
     ensures { λ r. ⌜ Heard (now (nodes .entry)) count node time r (now (nodes .exit)) ⌝ }
@@ -26,14 +42,16 @@ pub fn heard(nodes: &mut NodeWords, count: usize, node: u8, time: u64) -> CallAn
     all_places(nodes);
     let found = find(nodes, count, node as u64);
     let Found::Formed(place) = found else {
-        return CallAnswer::Refused(Refusal::WatchedNodes);
+        return try_heard(false, time, false);
     };
-    if !in_time(time) {
-        return CallAnswer::Refused(Refusal::TimeLimit);
+    let answer = try_heard(true, time, place < count);
+    match answer {
+        CallAnswer::Taken => {
+            set_heard(nodes, place, time);
+            return CallAnswer::Taken;
+        }
+        CallAnswer::Refused(refusal) => {
+            return CallAnswer::Refused(refusal);
+        }
     }
-    if place < count {
-        set_heard(nodes, place, time);
-        return CallAnswer::Taken;
-    }
-    CallAnswer::Refused(Refusal::NotWatched)
 }

@@ -1,20 +1,16 @@
 -- Start in words: the words of a fresh head are computed, whatever the arguments; the rest is by the laws of start on a head by its parts (Starting).
 -- Assumes nothing.
 use Prim.Native.Nat.{ℕ, _+_, _*_, _%_, _≤_, _<_}
-use mathlib.Core.Path.{_≡_, refl, sym, ap, _∙_}
-use mathlib.Core.Bool.{Bool, true, false}
+use mathlib.Core.Path.{_≡_, refl, sym, ap, subst, _∙_}
+use mathlib.Core.Bool.{Bool}
 use mathlib.Core.List.{List}
 use native.Mathlib.Omega.{arith}
 use native.Mathlib.Numerals.{add-one}
 use lib.ListN.{length, getD, set, replicate, length-set}
-use Rattle.types.specs.Pick.{pick}
-use Rattle.types.specs.Types.{node, isNode, readNode}
+use Rattle.types.specs.Types.{node}
 use Rattle.types.specs.States.{readState}
 use Rattle.types.specs.declared.types.NodeId.{NodeId}
-use Rattle.types.specs.declared.types.NodeIdRead.{NodeIdRead}
-use Rattle.types.specs.declared.types.NodeIdRead.the-variants as node-id
 use Rattle.types.specs.declared.refusals.Refusal.{Refusal}
-use Rattle.types.specs.declared.refusals.Refusal.the-variants.{NodeNumber, QueueCapacity, WatchedNodes}
 use Rattle.types.specs.declared.nmt.flags.FeatureFlags.{FeatureFlags}
 use Rattle.nmt.specs.Nmt as Nmt
 use Rattle.nmt.specs.declared.cn_state_machine.CnNmtStateMachine.{CnNmtStateMachine}
@@ -25,14 +21,15 @@ use Rattle.head.specs.Head.{dictionary}
 use Rattle.head.specs.declared.state.ObjectValue.{ObjectValue}
 use Rattle.head.specs.declared.state.ObjectValue.the-variants.{Unsigned32, Missing}
 use Rattle.watched.specs.declared.nodes.WatchedNode.{WatchedNode}
-use Rattle.watched.specs.Watched.{wellFormed, noNode, heardNow, watchedOf, unheardFirst}
-use Rattle.start.specs.Started.{freshHead, freshWords, unheardWords, StartedIn}
-use Rattle.watched.proofs.Lists.{each-turn}
-use Rattle.start.proofs.Starting.{start-no-node, start-no-room, start-unformed, start-taken}
+use Rattle.watched.specs.Watched.{wellFormed, noNode, heardNow, unheard, watchedOf, unheardFirst}
+use Rattle.start.specs.Started.{freshHead, freshWords, unheardWords, StartedIn, BeginsBy}
+use Rattle.watched.proofs.Lists.{each-turn, each-nodes, few}
+use Rattle.start.proofs.Starting.{taken-formed}
 use Rattle.head.specs.Places as at
 use Rattle.head.specs.Words.{headOf}
 use Rattle.head.specs.Written.{nmtWritten, identityWritten, thresholdsWritten, odWritten}
 use Rattle.watched.specs.Nodes.{nodesOf}
+use Rattle.node.specs.declared.calls.CallAnswer.{CallAnswer}
 use Rattle.node.specs.declared.calls.CallAnswer.the-variants as answer
 use Rattle.watched.proofs.Watching.{places, heard-written}
 
@@ -96,49 +93,26 @@ module _ (ns₀ ns : List ℕ) (i : ℕ) (inside : i < 32) (long : length ns ≡
   pub unheard-long : length (set ns (3 * i + 2) 0) ≡ 96
   unheard-long = length-set ns (3 * i + 2) 0 ∙ long
 
--- a node number that was read
-read-is : (n : ℕ) (x : NodeId) → readNode n ≡ node-id.Taken x → node n ≡ x
-unfolding readNode
-read-is n x h = by (isNode n) h
-  where
-    by : (b : Bool) → pick {A = NodeIdRead} b (node-id.Taken (node n)) (node-id.Refused NodeNumber) ≡ node-id.Taken x → node n ≡ x
-    by true e = cc
-    by false e = absurd (let z : _≡_ {A = ℕ} 0 1 = cc in let f : ⊥ = omega arith in f)
-
--- numbers 1, 2 and 3, and what is taken
-module _ (ws ns : List ℕ) (k n : ℕ) (f : FeatureFlags) (t c : ℕ) (o : Dictionary) (i : NodeIdRead) (e : i ≡ readNode n) where
+-- the nodes in words
+module _ (ws ns : List ℕ) (k n : ℕ) (f : FeatureFlags) (t c : ℕ) (o : Dictionary) (formed : Bool) (e : formed ≡ wellFormed (watchedOf (nodesOf ns) k)) (r : CallAnswer) (ws′ : List ℕ) (b : BeginsBy ws n f t c o formed r ws′) where
   abbrev vs : List WatchedNode
-  vs = nodesOf ns
+  vs = watchedOf (nodesOf ns) k
 
-  pub no-node : (x : Refusal) → i ≡ node-id.Refused x → StartedIn ws ns k n f t c o (answer.Refused x) ws ns
-  no-node x g =
-      let s = start-no-node n f t c o vs k i e x (headOf ws) g in
-      record { begins = s .0; places = s .1; words = refl; nodes = refl }
+  pub declined : (x : Refusal) → r ≡ answer.Refused x → StartedIn ws ns k n f t c o (answer.Refused x) ws′ ns
+  declined x g = record { on = subst (λ (r : CallAnswer). BeginsBy ws n f t c o formed r ws′) g b .on vs e vs refl; nodes = refl }
 
-  module _ (x : NodeId) (g : i ≡ node-id.Taken x) where
-    pub no-room : 32 < c → StartedIn ws ns k n f t c o (answer.Refused QueueCapacity) ws ns
-    no-room h =
-        let s = start-no-room n f t c o vs k i e x g (headOf ws) h in
-        record { begins = s .0; places = s .1; words = refl; nodes = refl }
+  pub below : r ≡ answer.Taken → k ≤ 32
+  below g = few (nodesOf ns) k formed e (taken-formed n c formed (sym (b .answer) ∙ g))
 
-    module _ (h : c ≤ 32) where
-      pub unformed : wellFormed (watchedOf vs k) ≡ false → StartedIn ws ns k n f t c o (answer.Refused WatchedNodes) ws ns
-      unformed a =
-          let s = start-unformed n f t c o vs k i e x g h (headOf ws) a in
-          record { begins = s .0; places = s .1; words = refl; nodes = refl }
-
-      pub begun :
-          wellFormed (watchedOf vs k) ≡ true →
-          (ws′ : List ℕ) →
-          (headOf ws′ ≡ freshHead x f t c o) × (ws′ ≡ freshWords x f t c o) →
-          (ns′ : List ℕ) →
-          (ns′ ≡ unheardWords k ns) × (nodesOf ns′ ≡ unheardFirst k vs) →
-          StartedIn ws ns k n f t c o answer.Taken ws′ ns′
-      begun a ws′ r ns′ u =
-          let s = start-taken n f t c o vs k i e x g h a (places ns) (headOf ws′) (nodesOf ns′) (r .0) (u .1) in
-          record {
-            begins = s .0;
-            places = s .1;
-            words = r .1 ∙ ap (λ (x : NodeId). freshWords x f t c o) (sym (read-is n x (sym e ∙ g)));
-            nodes = u .0;
-          }
+  pub begun :
+      r ≡ answer.Taken →
+      (ns′ : List ℕ) →
+      (ns′ ≡ unheardWords k ns) × (nodesOf ns′ ≡ unheardFirst k (nodesOf ns)) →
+      StartedIn ws ns k n f t c o answer.Taken ws′ ns′
+  begun g ns′ u =
+      let listed : watchedOf (nodesOf ns′) k ≡ unheard vs =
+      ap (λ (l : List WatchedNode). watchedOf l k) (u .1) ∙ each-nodes (nodesOf ns) k (places ns) (below g) (heardNow 0) in
+      record {
+        on = subst (λ (r : CallAnswer). BeginsBy ws n f t c o formed r ws′) g b .on vs e (watchedOf (nodesOf ns′) k) listed;
+        nodes = u .0;
+      }

@@ -17,7 +17,7 @@ pub start-begins :
     (startOf (a .1 .1 .1 .0) (a .1 .1 .1 .1 .0) (a .1 .1 .1 .1 .1 .0) (a .1 .1 .1 .1 .1 .1 .0) (a .1 .1 .1 .1 .1 .1 .1 .0)
     (watchedOf (nodesOf (now (a .1 .0))) (a .1 .1 .0)))
     o (headOf (now (x .0))) (watchedOf (nodesOf (now (x .1 .0))) (a .1 .1 .0))
-start-begins κs a o x e = e .begins
+start-begins κs a o x e = e .on .begins
 
 -- the words of the nodes: a declined start leaves them
 pub start-leaves :

@@ -1,12 +1,11 @@
--- The refinement of start, over plain variables.
+-- The refinement of start, over plain variables: whatever form the watched nodes have, they are a list.
 -- Assumes nothing.
 use Prim.Native.Nat.{ℕ, _≤_, _<_, min}
-use mathlib.Core.Path.{_≡_, refl, sym, ap, _∙_}
+use mathlib.Core.Path.{_≡_, refl, sym, ap, ap₂, subst, _∙_}
 use mathlib.Core.Bool.{Bool, true, false}
 use mathlib.Core.List.{List, []}
 use native.Mathlib.Omega.{arith}
 use lib.Dec.{leb}
-use lib.ListN.{length}
 use borrow.Author.Tests.{le-leb, lt-leb}
 use Rattle.types.specs.Pick.{pick}
 use Rattle.types.specs.Types.{node, isNode, readNode}
@@ -23,21 +22,27 @@ use Rattle.entries.proofs.Lists.{waiting-new, history-new}
 use Rattle.head.specs.declared.state.Deadline.the-variants.{Nothing}
 use Rattle.head.specs.declared.state.Dictionary.{Dictionary}
 use Rattle.head.specs.Head.{Head, socWatch}
+use Rattle.head.specs.Words.{headOf}
 use Rattle.watched.specs.declared.nodes.WatchedNode.{WatchedNode}
 use Rattle.node.specs.declared.calls.CallAnswer.{CallAnswer}
 use Rattle.node.specs.declared.calls.CallAnswer.the-variants as answer
-use Rattle.watched.specs.Watched.{wellFormed, heardNow, unheard, watchedOf, unheardFirst}
+use Rattle.watched.specs.Watched.{wellFormed, unheard}
 use Rattle.node.specs.Plain.{Plain, Start, begins, declined, FirstStep}
 use Rattle.node.specs.Steps.{plainOf, fresh, started}
-use Rattle.start.specs.Started.{startOf, freshHead, FreshPlaces, Begins}
+use Rattle.start.specs.Started.{startOf, freshHead, freshWords, startAnswer, StartedOn, BeginsBy}
 use Rattle.node.specs.Refines.{plain}
-use Rattle.watched.proofs.Lists.{each-nodes, few}
+
+-- a node number that was read
+read-is : (n : ℕ) (x : NodeId) → readNode n ≡ node-id.Taken x → node n ≡ x
+unfolding readNode
+read-is n x h = by (isNode n) h
+  where
+    by : (b : Bool) → pick {A = NodeIdRead} b (node-id.Taken (node n)) (node-id.Refused NodeNumber) ≡ node-id.Taken x → node n ≡ x
+    by true e = cc
+    by false e = absurd (let z : _≡_ {A = ℕ} 0 1 = cc in let f : ⊥ = omega arith in f)
 
 -- start: number 1 by the reading of the node number, then 2 and 3
-module _ (n : ℕ) (f : FeatureFlags) (t c : ℕ) (o : Dictionary) (ns : List WatchedNode) (k : ℕ) where
-  abbrev vs : List WatchedNode
-  vs = watchedOf ns k
-
+module _ (ws : List ℕ) (vs : List WatchedNode) (n : ℕ) (f : FeatureFlags) (t c : ℕ) (o : Dictionary) where
   abbrev s : Start
   s = startOf n f t c o vs
 
@@ -65,51 +70,121 @@ module _ (n : ℕ) (f : FeatureFlags) (t c : ℕ) (o : Dictionary) (ns : List Wa
       by true = refl
       by false = refl
 
-  -- what start owes of the plain start, where the head h and the first k nodes of l are left
-  abbrev pub StartedBy : CallAnswer → Head → List WatchedNode → Type 0
-  StartedBy a h l = Begins s a h (watchedOf l k) × FreshPlaces a h c
-
   module _ (i : NodeIdRead) (e : i ≡ readNode n) where
-    start-declined : (x : Refusal) (h : Head) → started s ≡ no x → StartedBy (answer.Refused x) h ns
-    start-declined x h g = (
-      record {
-        begun = λ q m. sym (ap (λ (b : FirstStep). b .begun) g);
-        lent = sym (ap (λ (b : FirstStep). b .lent) g);
-      },
-      tt,
-    )
+    start-declined : (x : Refusal) → started s ≡ no x → StartedOn ws vs n f t c o (answer.Refused x) ws vs
+    start-declined x g =
+        record {
+          begins = record {
+            begun = λ q m. sym (ap (λ (b : FirstStep). b .begun) g);
+            lent = sym (ap (λ (b : FirstStep). b .lent) g);
+          };
+          places = tt;
+          words = refl;
+        }
 
-    pub start-no-node : (x : Refusal) (h : Head) → i ≡ node-id.Refused x → StartedBy (answer.Refused x) h ns
-    start-no-node x h g = start-declined x h (started-by ∙ ap byNode (sym e ∙ g))
+    pub start-no-node : (x : Refusal) → i ≡ node-id.Refused x → StartedOn ws vs n f t c o (answer.Refused x) ws vs
+    start-no-node x g = start-declined x (started-by ∙ ap byNode (sym e ∙ g))
 
     module _ (x : NodeId) (g : i ≡ node-id.Taken x) where
       after-node : started s ≡ byNode (node-id.Taken x)
       after-node = started-by ∙ ap byNode (sym e ∙ g)
 
-      pub start-no-room : (h : Head) → 32 < c → StartedBy (answer.Refused QueueCapacity) h ns
-      start-no-room h z = start-declined QueueCapacity h (after-node ∙ rw (lt-leb c 32 z))
+      pub start-no-room : 32 < c → StartedOn ws vs n f t c o (answer.Refused QueueCapacity) ws vs
+      start-no-room z = start-declined QueueCapacity (after-node ∙ rw (lt-leb c 32 z))
 
       module _ (z : c ≤ 32) where
-        pub start-unformed : (h : Head) → wellFormed vs ≡ false → StartedBy (answer.Refused WatchedNodes) h ns
-        start-unformed h a = start-declined WatchedNodes h (after-node ∙ rw (le-leb c 32 z, a))
+        pub start-unformed : wellFormed vs ≡ false → StartedOn ws vs n f t c o (answer.Refused WatchedNodes) ws vs
+        start-unformed a = start-declined WatchedNodes (after-node ∙ rw (le-leb c 32 z, a))
 
         pub start-taken :
             wellFormed vs ≡ true →
-            length ns ≡ 32 →
-            (h : Head) (l : List WatchedNode) →
-            h ≡ freshHead x f t c o →
-            l ≡ unheardFirst k ns →
-            StartedBy answer.Taken h l
-        start-taken a long h l b d =
+            (ws′ : List ℕ) →
+            (headOf ws′ ≡ freshHead x f t c o) × (ws′ ≡ freshWords x f t c o) →
+            (l : List WatchedNode) →
+            l ≡ unheard vs →
+            StartedOn ws vs n f t c o answer.Taken ws′ l
+        start-taken a ws′ r l d =
             let steps : started s ≡ yes x = after-node ∙ rw (le-leb c 32 z, a) in
             let all : min c 32 ≡ c = omega arith in
-            let below : k ≤ 32 = few ns k true (sym a) refl in
-            let listed : watchedOf l k ≡ unheard vs =
-            ap (λ (l : List WatchedNode). watchedOf l k) d ∙ each-nodes ns k long below (heardNow 0) in
-            let stands : (q m : List ℕ) → plain h q m ≡ freshWith x = λ q m. rw (b, all, waiting-new q c, history-new m) in (
-              record {
+            let b = r .0 in
+            let stands : (q m : List ℕ) → plain (headOf ws′) q m ≡ freshWith x = λ q m. rw (b, all, waiting-new q c, history-new m) in
+            record {
+              begins = record {
                 begun = λ q m. ap begins (stands q m) ∙ sym (ap (λ (b : FirstStep). b .begun) steps);
-                lent = listed ∙ sym (ap (λ (b : FirstStep). b .lent) steps);
-              },
-              (ap (λ (h : Head). h .queue) b, ap (λ (h : Head). h .history) b),
-            )
+                lent = d ∙ sym (ap (λ (b : FirstStep). b .lent) steps);
+              };
+              places = (ap (λ (h : Head). h .queue) b, ap (λ (h : Head). h .history) b);
+              words = r .1 ∙ ap (λ (x : NodeId). freshWords x f t c o) (sym (read-is n x (sym e ∙ g)));
+            }
+
+-- what the tests say
+abbrev byTests : Bool → Bool → Bool → CallAnswer
+byTests a b f = pick a (pick b (pick f answer.Taken (answer.Refused WatchedNodes)) (answer.Refused QueueCapacity)) (answer.Refused NodeNumber)
+
+pub taken-formed : (n c : ℕ) (f : Bool) → startAnswer n c f ≡ answer.Taken → f ≡ true
+taken-formed n c f e = by (isNode n) (leb c 32) f e
+  where
+    by : (a b f : Bool) → byTests a b f ≡ answer.Taken → f ≡ true
+    by true true true e = refl
+    by true true false e = absurd (let z : _≡_ {A = ℕ} 0 1 = cc in let x : ⊥ = omega arith in x)
+    by true false f e = absurd (let z : _≡_ {A = ℕ} 0 1 = cc in let x : ⊥ = omega arith in x)
+    by false b f e = absurd (let z : _≡_ {A = ℕ} 0 1 = cc in let x : ⊥ = omega arith in x)
+
+-- start without the nodes, test by test
+module _ (ws : List ℕ) (n : ℕ) (f : FeatureFlags) (t c : ℕ) (o : Dictionary) (formed : Bool) (i : NodeIdRead) (e : i ≡ readNode n) where
+  abbrev readBy : Bool → NodeIdRead
+  readBy b = pick b (node-id.Taken (node n)) (node-id.Refused NodeNumber)
+
+  no-node : (x : Refusal) → i ≡ node-id.Refused x → (isNode n ≡ false) × (x ≡ NodeNumber)
+  unfolding readNode
+  no-node x g = by (isNode n) (sym e ∙ g)
+    where
+      by : (b : Bool) → readBy b ≡ node-id.Refused x → (b ≡ false) × (x ≡ NodeNumber)
+      by true h = absurd (let z : _≡_ {A = ℕ} 0 1 = cc in let x : ⊥ = omega arith in x)
+      by false h = (refl, cc)
+
+  a-node : (x : NodeId) → i ≡ node-id.Taken x → isNode n ≡ true
+  unfolding readNode
+  a-node x g = by (isNode n) (sym e ∙ g)
+    where
+      by : (b : Bool) → readBy b ≡ node-id.Taken x → b ≡ true
+      by true h = refl
+      by false h = absurd (let z : _≡_ {A = ℕ} 0 1 = cc in let x : ⊥ = omega arith in x)
+
+  declines :
+      (x : Refusal) → answer.Refused x ≡ startAnswer n c formed →
+      ((vs : List WatchedNode) → formed ≡ wellFormed vs → StartedOn ws vs n f t c o (answer.Refused x) ws vs) →
+      BeginsBy ws n f t c o formed (answer.Refused x) ws
+  declines x a k =
+      record {
+        answer = a;
+        on = λ vs g l y. subst (StartedOn ws vs n f t c o (answer.Refused x) ws) (sym y) (k vs g);
+      }
+
+  pub begins-no-node : (x : Refusal) → i ≡ node-id.Refused x → BeginsBy ws n f t c o formed (answer.Refused x) ws
+  begins-no-node x g =
+      let p = no-node x g in
+      declines x (ap answer.Refused (p .1) ∙ sym (ap (λ (b : Bool). byTests b (leb c 32) formed) (p .0)))
+      (λ vs _. start-no-node ws vs n f t c o i e x g)
+
+  module _ (x : NodeId) (g : i ≡ node-id.Taken x) where
+    tests : (b : Bool) → leb c 32 ≡ b → byTests true b formed ≡ startAnswer n c formed
+    tests b h = sym (ap₂ (λ (a b : Bool). byTests a b formed) (a-node x g) h)
+
+    pub begins-no-room : 32 < c → BeginsBy ws n f t c o formed (answer.Refused QueueCapacity) ws
+    begins-no-room z = declines QueueCapacity (tests false (lt-leb c 32 z)) (λ vs _. start-no-room ws vs n f t c o i e x g z)
+
+    module _ (z : c ≤ 32) where
+      pub begins-unformed : formed ≡ false → BeginsBy ws n f t c o formed (answer.Refused WatchedNodes) ws
+      begins-unformed a =
+          declines WatchedNodes (sym (ap (byTests true true) a) ∙ tests true (le-leb c 32 z))
+          (λ vs h. start-unformed ws vs n f t c o i e x g z (sym h ∙ a))
+
+      pub begins-taken :
+          formed ≡ true → (ws′ : List ℕ) → (headOf ws′ ≡ freshHead x f t c o) × (ws′ ≡ freshWords x f t c o) →
+          BeginsBy ws n f t c o formed answer.Taken ws′
+      begins-taken a ws′ r =
+          record {
+            answer = sym (ap (byTests true true) a) ∙ tests true (le-leb c 32 z);
+            on = λ vs h l y. start-taken ws vs n f t c o i e x g z (sym h ∙ a) ws′ r l y;
+          }

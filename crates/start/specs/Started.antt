@@ -2,32 +2,34 @@
 -- Assumes nothing.
 use Prim.Native.Nat.{ℕ, zero, suc, _+_, _*_}
 use mathlib.Core.Path.{_≡_}
-use mathlib.Core.List.{List}
+use mathlib.Core.Bool.{Bool, false}
+use mathlib.Core.List.{List, [], _∷_}
+use lib.Dec.{leb}
 use lib.ListN.{set, replicate}
-use Rattle.types.specs.Types.{node}
+use Rattle.types.specs.Types.{node, isNode}
 use Rattle.types.specs.declared.types.NodeId.{NodeId}
+use Rattle.types.specs.declared.refusals.Refusal.the-variants.{NodeNumber, QueueCapacity, WatchedNodes}
 use Rattle.types.specs.declared.nmt.flags.FeatureFlags.{FeatureFlags}
 use Rattle.nmt.specs.Nmt as Nmt
-use Rattle.counters.specs.Counters.{newCounters}
-use Rattle.head.specs.declared.state.Dictionary.{Dictionary}
-use Rattle.watched.specs.Watched.{watchedOf}
-use Rattle.head.specs.Places as at
-use Rattle.head.specs.Words.{headOf}
-use Rattle.head.specs.Written.{nmtWritten, identityWritten, thresholdsWritten, odWritten}
-use Rattle.watched.specs.Nodes.{nodesOf}
-use Rattle.node.specs.declared.calls.CallAnswer.{CallAnswer}
-use Rattle.node.specs.InPlace.{unlessRefused}
-use mathlib.Core.Bool.{false}
 use Rattle.dll.specs.Dll.{freshMachine}
+use Rattle.counters.specs.Counters.{newCounters}
 use Rattle.entries.specs.Queue.{queue}
 use Rattle.entries.specs.History.{errorHistory}
 use Rattle.head.specs.declared.state.Deadline.the-variants.{Nothing}
+use Rattle.head.specs.declared.state.Dictionary.{Dictionary}
 use Rattle.head.specs.Head.{Head, socWatch}
+use Rattle.head.specs.Places as at
+use Rattle.head.specs.Words.{headOf}
+use Rattle.head.specs.Written.{nmtWritten, identityWritten, thresholdsWritten, odWritten}
 use Rattle.watched.specs.declared.nodes.WatchedNode.{WatchedNode}
+use Rattle.watched.specs.Watched.{wellFormed, unheard, watchedOf}
+use Rattle.watched.specs.Nodes.{nodesOf}
+use Rattle.node.specs.declared.calls.CallAnswer.{CallAnswer}
 use Rattle.node.specs.declared.calls.CallAnswer.the-variants as answer
 use Rattle.node.specs.Plain.{Start, Begun, begins, declined}
-use Rattle.node.specs.Steps.{started}
+use Rattle.node.specs.Steps.{must, tried, started}
 use Rattle.node.specs.Refines.{plain}
+use Rattle.node.specs.InPlace.{unlessRefused}
 
 -- what start is given, from its arguments
 abbrev pub startOf : ℕ → FeatureFlags → ℕ → ℕ → Dictionary → List WatchedNode → Start
@@ -72,9 +74,29 @@ unfoldable pub unheardWords : ℕ → List ℕ → List ℕ
 unheardWords zero ns = ns
 unheardWords (suc i) ns = set (unheardWords i ns) (3 * i + 2) 0
 
--- Of start on the words ws and ns, of which the first k nodes are watched: the plain start's head or number and nodes, and every word.
-pub record StartedIn (ws ns : List ℕ) (k n : ℕ) (f : FeatureFlags) (t c : ℕ) (o : Dictionary) (a : CallAnswer) (ws′ ns′ : List ℕ) : Type 0 where
-  pub begins : Begins (startOf n f t c o (watchedOf (nodesOf ns) k)) a (headOf ws′) (watchedOf (nodesOf ns′) k)
+-- numbers 1, 2 and 3, where it is known whether the nodes pass number 3
+abbrev pub startAnswer : ℕ → ℕ → Bool → CallAnswer
+startAnswer n c formed =
+    tried (must (isNode n) NodeNumber ∷ must (leb c 32) QueueCapacity ∷ must formed WatchedNodes ∷ []) answer.Refused answer.Taken
+
+-- the nodes that start leaves
+abbrev pub startLeft : CallAnswer → List WatchedNode → List WatchedNode
+startLeft answer.Taken vs = unheard vs
+startLeft (answer.Refused r) vs = vs
+
+-- Of start on the words ws and the nodes vs, which answered a and left the words ws′ and the nodes vs′: the plain start's head or number and nodes, and
+-- every word of the head.
+pub record StartedOn (ws : List ℕ) (vs : List WatchedNode) (n : ℕ) (f : FeatureFlags) (t c : ℕ) (o : Dictionary) (a : CallAnswer) (ws′ : List ℕ) (vs′ : List WatchedNode) : Type 0 where
+  pub begins : Begins (startOf n f t c o vs) a (headOf ws′) vs′
   pub places : FreshPlaces a (headOf ws′) c
   pub words : ws′ ≡ unlessRefused a ws (freshWords (node n) f t c o)
+
+-- The same of nodes in the words ns, of which the first k are watched; and every word of theirs.
+pub record StartedIn (ws ns : List ℕ) (k n : ℕ) (f : FeatureFlags) (t c : ℕ) (o : Dictionary) (a : CallAnswer) (ws′ ns′ : List ℕ) : Type 0 where
+  pub on : StartedOn ws (watchedOf (nodesOf ns) k) n f t c o a ws′ (watchedOf (nodesOf ns′) k)
   pub nodes : ns′ ≡ unlessRefused a ns (unheardWords k ns)
+
+-- Of start without the nodes, whose form it need not know: what it answers, and what start leaves of any nodes that pass number 3 or don't, as was said.
+pub record BeginsBy (ws : List ℕ) (n : ℕ) (f : FeatureFlags) (t c : ℕ) (o : Dictionary) (formed : Bool) (a : CallAnswer) (ws′ : List ℕ) : Type 0 where
+  pub answer : a ≡ startAnswer n c formed
+  pub on : (vs : List WatchedNode) → formed ≡ wellFormed vs → (l : List WatchedNode) → l ≡ startLeft a vs → StartedOn ws vs n f t c o a ws′ l

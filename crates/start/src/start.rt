@@ -2,7 +2,7 @@
 ghost use mathlib.Core.Path.{_≡_};
 ghost use Prim.Native.Nat.{_≤_};
 ghost use Rattle.watched.specs.Watched.{unheardFirst};
-ghost use Rattle.start.specs.Started.{freshHead, freshWords, unheardWords, StartedIn};
+ghost use Rattle.start.specs.Started.{freshHead, freshWords, unheardWords, BeginsBy, StartedIn};
 ghost use Rattle.head.specs.Words.{headOf};
 ghost use Rattle.watched.specs.Nodes.{nodesOf};
 use counters::counters::CnErrorCounters;
@@ -62,6 +62,43 @@ fn unheard(nodes: &mut NodeWords, count: usize)
     }
 }
 
+// Numbers 1, 2 and 3, then the fresh head. Of the watched nodes it is told whether they pass number 3, whatever form they have.
+pub fn begin(
+    head: &mut Head,
+    node: u8,
+    feature_flags: FeatureFlags,
+    basic_ethernet_timeout: u32,
+    queue_capacity: u64,
+    od: Dictionary,
+    formed: bool,
+) -> CallAnswer
+    ensures { λ r. ⌜ BeginsBy (now (head .entry)) node «feature_flags» «basic_ethernet_timeout» «queue_capacity» od formed r (now (head .exit)) ⌝ }
+{
+    match NodeId::try_from(node) {
+        NodeIdRead::Taken(node_id) => {
+            if 32 < queue_capacity {
+                return CallAnswer::Refused(Refusal::QueueCapacity);
+            }
+            if !formed {
+                return CallAnswer::Refused(Refusal::WatchedNodes);
+            }
+            let capacity = queue_capacity as u8;
+            fresh_head(
+                head,
+                node_id,
+                feature_flags,
+                basic_ethernet_timeout,
+                capacity,
+                od,
+            );
+            return CallAnswer::Taken;
+        }
+        NodeIdRead::Refused(refusal) => {
+            return CallAnswer::Refused(refusal);
+        }
+    }
+}
+
 // A fresh head, with an empty queue and an empty history; no watched node was heard yet.
 pub fn start(
     head: &mut Head,
@@ -75,27 +112,22 @@ pub fn start(
 ) -> CallAnswer
     ensures { λ r. ⌜ StartedIn (now (head .entry)) (now (nodes .entry)) count node «feature_flags» «basic_ethernet_timeout» «queue_capacity» od r (now (head .exit)) (now (nodes .exit)) ⌝ }
 {
-    match NodeId::try_from(node) {
-        NodeIdRead::Taken(node_id) => {
-            if 32 < queue_capacity {
-                return CallAnswer::Refused(Refusal::QueueCapacity);
-            }
-            if !well_formed(nodes, count) {
-                return CallAnswer::Refused(Refusal::WatchedNodes);
-            }
-            let capacity = queue_capacity as u8;
-            fresh_head(
-                head,
-                node_id,
-                feature_flags,
-                basic_ethernet_timeout,
-                capacity,
-                od,
-            );
+    let formed = well_formed(nodes, count);
+    let answer = begin(
+        head,
+        node,
+        feature_flags,
+        basic_ethernet_timeout,
+        queue_capacity,
+        od,
+        formed,
+    );
+    match answer {
+        CallAnswer::Taken => {
             unheard(nodes, count);
             return CallAnswer::Taken;
         }
-        NodeIdRead::Refused(refusal) => {
+        CallAnswer::Refused(refusal) => {
             return CallAnswer::Refused(refusal);
         }
     }

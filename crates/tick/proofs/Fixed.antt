@@ -26,10 +26,10 @@ pub tick-fixes :
     TickedIn ws q m ns k t b ws₂ q₂ m₂ ns₂ →
     (a ≡ b) × (ws₁ ≡ ws₂) × (q₁ ≡ q₂) × (m₁ ≡ m₂) × (ns₁ ≡ ns₂)
 tick-fixes {a = a} {b = b} x y =
-    let e : a ≡ b = tick-said-fixed a b (x .refines .answer ∙ sym (y .refines .answer)) in
-    let r = x .rings ∙ sym (y .rings) in (
+    let e : a ≡ b = tick-said-fixed a b (x .on .refines .answer ∙ sym (y .on .refines .answer)) in
+    let r = x .on .rings ∙ sym (y .on .rings) in (
       e,
-      x .words ∙ leaves-same e _ _ ∙ sym (y .words),
+      x .on .words ∙ leaves-same e _ _ ∙ sym (y .on .words),
       ap (λ (r : Rings). r .queueBytes) r,
       ap (λ (r : Rings). r .historyBytes) r,
       x .nodes ∙ leaves-same e _ _ ∙ sym (y .nodes),

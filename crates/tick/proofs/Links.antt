@@ -17,7 +17,7 @@ pub process-tick-refines :
     Refines (headOf (now (a .0))) (now (a .1 .0)) (now (a .1 .1 .0))
     (Call.tick (a .1 .1 .1 .1 .1 .0) (watchedOf (nodesOf (now (a .1 .1 .1 .0))) (a .1 .1 .1 .1 .0)))
     (left (headOf (now (x .0))) (tickSaid o)) (now (x .1 .0)) (now (x .1 .1 .0)) (watchedOf (nodesOf (now (x .1 .1 .1 .0))) (a .1 .1 .1 .1 .0))
-process-tick-refines κs a o x e = e .refines
+process-tick-refines κs a o x e = e .on .refines
 
 pub asks-nothing : (κs : _) (a : _) → process-tick-reads.Asked κs a
 asks-nothing κs a = tt

@@ -4,7 +4,6 @@ use Prim.Native.Nat.{ℕ}
 use mathlib.Core.Path.{_≡_, refl, sym, ap, ap₂, _∙_}
 use mathlib.Core.Bool.{Bool, true, false, true≢false}
 use mathlib.Core.List.{List, [], _∷_, _++_, map}
-use lib.ListN.{length}
 use Rattle.types.specs.Pick.{pick}
 use Rattle.types.specs.Errors.{reported}
 use Rattle.types.specs.declared.refusals.Refusal.{Refusal}
@@ -13,15 +12,14 @@ use Rattle.types.specs.declared.frame.error.types.DllError.{DllError}
 use Rattle.entries.specs.declared.status_response.ErrorEntry.{ErrorEntry}
 use Rattle.head.specs.Head.{Head}
 use Rattle.watched.specs.declared.nodes.WatchedNode.{WatchedNode}
-use Rattle.watched.specs.Watched.{inTime, allOf, wellFormed, watchedOf}
+use Rattle.watched.specs.Watched.{inTime, allOf, wellFormed}
 use Rattle.node.specs.Plain.{Plain, tick, Answer, refused, tickAnswer, Step}
 use Rattle.node.specs.Steps.{declines}
 use Rattle.node.specs.Tick.{Ticked, goesOn, behind, checksHeartbeats, notBefore, looked, lateOnes, beat, beatAll, timeoutOf, byDeadline, tickTaken, tickAnswered, lookedAt}
 use Rattle.node.specs.Run.{step}
 use Rattle.node.specs.Refines.{plain, left, rings, joinsAll, Refines}
-use Rattle.heartbeats.specs.Parts.{PartLeft, Ticks, lookedFirst}
+use Rattle.heartbeats.specs.Parts.{PartLeft, Ticks}
 use Rattle.node.proofs.Laws.{refined}
-use Rattle.watched.proofs.Lists.{few, each-nodes}
 use Rattle.heartbeats.proofs.PartLaws.{handled-quiet}
 use Rattle.tick.proofs.DeadlineLaws.{ticks-as}
 
@@ -113,55 +111,45 @@ module _ (h : Head) (q m : List ℕ) (t : ℕ) (ws : List WatchedNode) where
                 ∙ ap (joinsAll (rings h q m)) (sym (ap (λ (l : List ErrorEntry). l ++ rest (b₀ .head) .crossings) (beats-no-entry p late)));
           })
 
--- the tick as a call: numbers 3, 5 and 6, and what is taken
-module _ (h : Head) (q m : List ℕ) (ns : List WatchedNode) (k t : ℕ) where
+-- the tick as a call: numbers 3, 5 and 6, and what is taken, whatever form the nodes vs have
+module _ (h : Head) (q m : List ℕ) (vs : List WatchedNode) (t : ℕ) where
   abbrev p₀ : Plain
   p₀ = plain h q m
 
-  abbrev ws₀ : List WatchedNode
-  ws₀ = watchedOf ns k
-
-  -- what a tick owes of the plain tick, where it answered a and left the head g, its memory, and the first k nodes of l
+  -- what a tick owes of the plain tick, where it answered a and left the head g, its memory, and the nodes l
   abbrev pub TickLeft : Answer → Head → List ℕ → List ℕ → List WatchedNode → Type 0
   TickLeft a g q′ m′ l =
-      Refines h q m (tick t ws₀) (left g a) q′ m′ (watchedOf l k)
-      × (rings g q′ m′ ≡ joinsAll (rings h q m) (step p₀ (tick t ws₀) .crossings))
+      Refines h q m (tick t vs) (left g a) q′ m′ l × (rings g q′ m′ ≡ joinsAll (rings h q m) (step p₀ (tick t vs) .crossings))
 
-  tick-declined : (x : Refusal) → step p₀ (tick t ws₀) ≡ declines p₀ ws₀ x → TickLeft (refused x) h q m ns
+  tick-declined : (x : Refusal) → step p₀ (tick t vs) ≡ declines p₀ vs x → TickLeft (refused x) h q m vs
   tick-declined x s = (
-    refined h q m (tick t ws₀) _ q m ws₀ (declines p₀ ws₀ x) s refl refl refl,
+    refined h q m (tick t vs) _ q m vs (declines p₀ vs x) s refl refl refl,
     sym (ap (λ (k : Step). joinsAll (rings h q m) (k .crossings)) s),
   )
 
-  pub tick-unformed : wellFormed ws₀ ≡ false → TickLeft (refused WatchedNodes) h q m ns
+  pub tick-unformed : wellFormed vs ≡ false → TickLeft (refused WatchedNodes) h q m vs
   tick-unformed a = tick-declined WatchedNodes (rw a)
 
-  pub tick-late : wellFormed ws₀ ≡ true → inTime t ≡ false → TickLeft (refused TimeLimit) h q m ns
+  pub tick-late : wellFormed vs ≡ true → inTime t ≡ false → TickLeft (refused TimeLimit) h q m vs
   tick-late a b = tick-declined TimeLimit (rw (a, b))
 
-  module _ (a : wellFormed ws₀ ≡ true) (b : inTime t ≡ true) where
+  module _ (a : wellFormed vs ≡ true) (b : inTime t ≡ true) where
     abbrev checks : Bool
     checks = checksHeartbeats (h .nmt .«current_state»)
 
-    pub tick-before : pick checks (allOf (notBefore t) ws₀) true ≡ false → TickLeft (refused BeforeHeard) h q m ns
+    pub tick-before : pick checks (allOf (notBefore t) vs) true ≡ false → TickLeft (refused BeforeHeard) h q m vs
     tick-before d = tick-declined BeforeHeard (rw (a, b, d))
 
     -- from the phases, and the look at the nodes
     pub tick-accepted :
-        pick checks (allOf (notBefore t) ws₀) true ≡ true →
-        length ns ≡ 32 →
+        pick checks (allOf (notBefore t) vs) true ≡ true →
         (d : PartLeft) (q′ m′ : List ℕ) →
-        Ticks h q m (tickTaken p₀ t ws₀) d q′ m′ →
+        Ticks h q m (tickTaken p₀ t vs) d q′ m′ →
         (l : List WatchedNode) →
-        l ≡ pick checks (lookedFirst t k ns) ns →
+        l ≡ pick checks (map (looked t) vs) vs →
         TickLeft (tickAnswer (reported (d .logged))) (d .head) q′ m′ l
-    tick-accepted f long d q′ m′ w l n =
-        let s : step p₀ (tick t ws₀) ≡ tickAnswered (tickTaken p₀ t ws₀) (lookedAt p₀ t ws₀) = rw (a, b, f) in (
-          refined h q m (tick t ws₀) _ q′ m′ (watchedOf l k) (tickAnswered (tickTaken p₀ t ws₀) (lookedAt p₀ t ws₀)) s (w .head)
-              (ap tickAnswer (w .logged)) (ap (λ (l : List WatchedNode). watchedOf l k) n ∙ looks checks),
+    tick-accepted f d q′ m′ w l n =
+        let s : step p₀ (tick t vs) ≡ tickAnswered (tickTaken p₀ t vs) (lookedAt p₀ t vs) = rw (a, b, f) in (
+          refined h q m (tick t vs) _ q′ m′ l (tickAnswered (tickTaken p₀ t vs) (lookedAt p₀ t vs)) s (w .head) (ap tickAnswer (w .logged)) n,
           w .joined ∙ sym (ap (λ (k : Step). joinsAll (rings h q m) (k .crossings)) s),
         )
-      where
-        looks : (c : Bool) → watchedOf (pick c (lookedFirst t k ns) ns) k ≡ pick c (map (looked t) ws₀) ws₀
-        looks true = each-nodes ns k long (few ns k true (sym a) refl) (looked t)
-        looks false = refl

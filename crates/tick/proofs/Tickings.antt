@@ -4,16 +4,16 @@
 use Prim.Native.Nat.{ℕ, _≤_}
 use mathlib.Core.Path.{_≡_, refl, sym, ap, subst, _∙_}
 use mathlib.Core.Bool.{Bool, true, false, not, true≢false}
-use mathlib.Core.List.{List}
+use mathlib.Core.List.{List, map}
 use Rattle.types.specs.Pick.{pick, both}
 use Rattle.types.specs.declared.refusals.Refusal.the-variants.{WatchedNodes, TimeLimit, BeforeHeard}
 use Rattle.watched.specs.declared.nodes.WatchedNode.{WatchedNode}
 use Rattle.watched.specs.Watched.{inTime, allOf, wellFormed, watchedOf}
-use Rattle.node.specs.Tick.{checksHeartbeats, notBefore, lateOnes, beatAll, byDeadline, tickTaken}
+use Rattle.node.specs.Tick.{checksHeartbeats, notBefore, looked, lateOnes, beatAll, byDeadline, tickTaken}
 use Rattle.node.specs.Refines.{plain}
 use Rattle.heartbeats.specs.Parts.{lookedFirst}
 use Rattle.tick.specs.declared.tick.TickAnswer.the-variants as answer
-use Rattle.watched.proofs.Lists.{few}
+use Rattle.watched.proofs.Lists.{few, each-nodes}
 use Rattle.tick.proofs.TickRefines.{tick-idle, tick-ended, tick-goes-on, tick-unformed, tick-late, tick-before, tick-accepted}
 use Rattle.head.specs.Words.{nmtOf, socOf, headOf}
 use Rattle.watched.specs.Nodes.{nodesOf, rests}
@@ -25,7 +25,7 @@ use Rattle.heartbeats.specs.declared.dealt.Dealt.{Dealt}
 use Rattle.heartbeats.specs.PartWords.{beatAllWords, lookedWords}
 use Rattle.tick.specs.TickWords.{restWords, tickWords}
 use Rattle.heartbeats.specs.PartsIn.{dealtOf, TicksIn}
-use Rattle.tick.specs.TickIn.{rousedOf, TickedIn}
+use Rattle.tick.specs.TickIn.{rousedOf, TickedOn, TickedIn}
 use Rattle.heartbeats.proofs.Beatings.{both-left, rest-before, rest-late, rest-words, rest-nodes}
 use Rattle.tick.proofs.Passings.{on}
 
@@ -50,7 +50,7 @@ module _ (ws q m : List ℕ) (t : ℕ) (vs : List WatchedNode) where
   unfolding tickWords
   by-state b e = ap (λ (b : Bool). pick b (beaten over) (restWords ws q m t)) e
 
-  idle :
+  pub idle :
       C ≡ false → (d : Dealt) (ws′ q′ m′ : List ℕ) →
       TicksIn ws q m (byDeadline (plain (headOf ws) q m) t (socOf ws .«next_tick_us»)) d ws′ q′ m′ (restWords ws q m t) →
       TicksIn ws q m (tickTaken (plain (headOf ws) q m) t vs) d ws′ q′ m′ (tickWords ws q m t vs)
@@ -112,7 +112,36 @@ module _ (ws q m : List ℕ) (t : ℕ) (vs : List WatchedNode) where
         by true false z = refl
         by false r z = refl
 
--- the tick: numbers 3, 5 and 6, and what is taken
+-- the tick: numbers 3, 5 and 6, and what is taken, whatever form the nodes vs have
+module _ (ws q m : List ℕ) (vs : List WatchedNode) (t : ℕ) where
+  pub run-unformed : wellFormed vs ≡ false → TickedOn ws q m vs t (answer.Refused WatchedNodes) ws q m vs
+  run-unformed a = let x = tick-unformed (headOf ws) q m vs t a in record { refines = x .0; rings = x .1; words = refl }
+
+  module _ (a : wellFormed vs ≡ true) where
+    pub run-late : inTime t ≡ false → TickedOn ws q m vs t (answer.Refused TimeLimit) ws q m vs
+    run-late b = let x = tick-late (headOf ws) q m vs t a b in record { refines = x .0; rings = x .1; words = refl }
+
+    module _ (b : inTime t ≡ true) where
+      abbrev checks : Bool
+      checks = checksHeartbeats (nmtOf ws .«current_state»)
+
+      pub run-before : pick checks (allOf (notBefore t) vs) true ≡ false → TickedOn ws q m vs t (answer.Refused BeforeHeard) ws q m vs
+      unfolding headOf
+      run-before d = let x = tick-before (headOf ws) q m vs t a b d in record { refines = x .0; rings = x .1; words = refl }
+
+      pub run-accepted :
+          pick checks (allOf (notBefore t) vs) true ≡ true →
+          (d : Dealt) (ws′ q′ m′ : List ℕ) →
+          TicksIn ws q m (tickTaken (plain (headOf ws) q m) t vs) d ws′ q′ m′ (tickWords ws q m t vs) →
+          (l : List WatchedNode) →
+          l ≡ pick checks (map (looked t) vs) vs →
+          TickedOn ws q m vs t (answer.Taken (d .logged)) ws′ q′ m′ l
+      unfolding headOf
+      run-accepted f d ws′ q′ m′ h l n =
+          let x = tick-accepted (headOf ws) q m vs t a b f (dealtOf ws′ d) q′ m′ (h .ticks) l n in
+          record { refines = x .0; rings = x .1; words = h .words }
+
+-- the nodes in words
 module _ (ws q m ns : List ℕ) (k t : ℕ) where
   abbrev vs : List WatchedNode
   vs = watchedOf (nodesOf ns) k
@@ -130,31 +159,25 @@ module _ (ws q m ns : List ℕ) (k t : ℕ) where
         (x .0, x .1 ∙ ap (λ (c : Bool). both c (not (allOf (rests t) vs))) (e ∙ ap checksHeartbeats f))
 
   pub unformed : wellFormed vs ≡ false → TickedIn ws q m ns k t (answer.Refused WatchedNodes) ws q m ns
-  unformed a =
-      let x = tick-unformed (headOf ws) q m (nodesOf ns) k t a in
-      record { refines = x .0; rings = x .1; words = refl; nodes = refl }
+  unformed a = record { on = run-unformed ws q m vs t a; nodes = refl }
 
   module _ (a : wellFormed vs ≡ true) where
     pub late : inTime t ≡ false → TickedIn ws q m ns k t (answer.Refused TimeLimit) ws q m ns
-    late b =
-        let x = tick-late (headOf ws) q m (nodesOf ns) k t a b in
-        record { refines = x .0; rings = x .1; words = refl; nodes = refl }
+    late b = record { on = run-late ws q m vs t a b; nodes = refl }
 
     module _ (b : inTime t ≡ true) (awake : Bool) (c : awake ≡ both (checksHeartbeats (nmtOf ws .«current_state»)) (not (allOf (rests t) vs))) where
-      abbrev checks : Bool
-      checks = checksHeartbeats (nmtOf ws .«current_state»)
-
       below : k ≤ 32
       below = few (nodesOf ns) k true (sym a) refl
 
-      same-times : pick awake (allOf (notBefore t) vs) true ≡ pick checks (allOf (notBefore t) vs) true
+      same-times : pick awake (allOf (notBefore t) vs) true ≡ pick (checks ws q m vs t a b) (allOf (notBefore t) vs) true
       same-times = same-choice ws q m t vs awake c (allOf (notBefore t) vs) true (λ r. sym (rest-before t vs r))
 
       pub before : pick awake (allOf (notBefore t) vs) true ≡ false → TickedIn ws q m ns k t (answer.Refused BeforeHeard) ws q m ns
-      unfolding headOf
-      before d =
-          let x = tick-before (headOf ws) q m (nodesOf ns) k t a b (sym same-times ∙ d) in
-          record { refines = x .0; rings = x .1; words = refl; nodes = refl }
+      before d = record { on = run-before ws q m vs t a b (sym same-times ∙ d); nodes = refl }
+
+      looks : (c : Bool) → watchedOf (pick c (lookedFirst t k (nodesOf ns)) (nodesOf ns)) k ≡ pick c (map (looked t) vs) vs
+      looks true = each-nodes (nodesOf ns) k (places ns) below (looked t)
+      looks false = refl
 
       pub accepted :
           pick awake (allOf (notBefore t) vs) true ≡ true →
@@ -163,14 +186,12 @@ module _ (ws q m ns : List ℕ) (k t : ℕ) where
           (ns′ : List ℕ) →
           (ns′ ≡ pick awake (lookedWords t k ns) ns) × (nodesOf ns′ ≡ pick awake (lookedFirst t k (nodesOf ns)) (nodesOf ns)) →
           TickedIn ws q m ns k t (answer.Taken (d .logged)) ws′ q′ m′ ns′
-      unfolding headOf
       accepted f d ws′ q′ m′ h ns′ l =
-          let n : nodesOf ns′ ≡ pick checks (lookedFirst t k (nodesOf ns)) (nodesOf ns) =
+          let n : nodesOf ns′ ≡ pick (checks ws q m vs t a b) (lookedFirst t k (nodesOf ns)) (nodesOf ns) =
           l .1 ∙ same-choice ws q m t vs awake c (lookedFirst t k (nodesOf ns)) (nodesOf ns) (λ r. sym (rest-nodes t ns k below r)) in
-          let x = tick-accepted (headOf ws) q m (nodesOf ns) k t a b (sym same-times ∙ f) (places ns) (dealtOf ws′ d) q′ m′ (h .ticks) (nodesOf ns′) n in
           record {
-            refines = x .0;
-            rings = x .1;
-            words = h .words;
+            on =
+                run-accepted ws q m vs t a b (sym same-times ∙ f) d ws′ q′ m′ h (watchedOf (nodesOf ns′) k)
+                (ap (λ (l : List WatchedNode). watchedOf l k) n ∙ looks (checks ws q m vs t a b));
             nodes = l .0 ∙ same-choice ws q m t vs awake c (lookedWords t k ns) ns (λ r. sym (rest-words t ns k below r));
           }

@@ -41,10 +41,14 @@ abbrev pub tickLeaves : TickAnswer → List ℕ → List ℕ → List ℕ
 tickLeaves (answer.Taken es) ws ws′ = ws′
 tickLeaves (answer.Refused r) ws ws′ = ws
 
--- Of a tick at t on the words ws, the memory q and m and the words ns, of which the first k nodes are watched: head, answer and nodes are the
--- plain head's; every byte of both memories with the places of both rings, every word of the head and every word of the nodes is known.
+-- Of a tick at t on the words ws, the memory q and m and the nodes vs, which answered a and left ws′, q′, m′ and vs′: head, answer and nodes are the plain
+-- head's; every byte of both memories with the places of both rings, and every word of the head, is known.
+pub record TickedOn (ws q m : List ℕ) (vs : List WatchedNode) (t : ℕ) (a : TickAnswer) (ws′ q′ m′ : List ℕ) (vs′ : List WatchedNode) : Type 0 where
+  pub refines : Refines (headOf ws) q m (Call.tick t vs) (left (headOf ws′) (tickSaid a)) q′ m′ vs′
+  pub rings : rings (headOf ws′) q′ m′ ≡ joinsAll (rings (headOf ws) q m) (step (plain (headOf ws) q m) (Call.tick t vs) .crossings)
+  pub words : ws′ ≡ tickLeaves a ws (tickWords ws q m t vs)
+
+-- The same of nodes in the words ns, of which the first k are watched; and every word of theirs.
 pub record TickedIn (ws q m ns : List ℕ) (k t : ℕ) (a : TickAnswer) (ws′ q′ m′ ns′ : List ℕ) : Type 0 where
-  pub refines : Refines (headOf ws) q m (Call.tick t (watchedOf (nodesOf ns) k)) (left (headOf ws′) (tickSaid a)) q′ m′ (watchedOf (nodesOf ns′) k)
-  pub rings : rings (headOf ws′) q′ m′ ≡ joinsAll (rings (headOf ws) q m) (step (plain (headOf ws) q m) (Call.tick t (watchedOf (nodesOf ns) k)) .crossings)
-  pub words : ws′ ≡ tickLeaves a ws (tickWords ws q m t (watchedOf (nodesOf ns) k))
+  pub on : TickedOn ws q m (watchedOf (nodesOf ns) k) t a ws′ q′ m′ (watchedOf (nodesOf ns′) k)
   pub nodes : ns′ ≡ tickLeaves a ns (pick (checksHeartbeats (nmtOf ws .«current_state»)) (lookedWords t k ns) ns)

@@ -174,7 +174,7 @@ fn time_out(head: &mut Head)
 }
 
 // What stands after the heartbeats: a deadline is opened before it is compared with now.
-pub(crate) fn by_deadline(
+pub fn by_deadline(
     head: &mut Head,
     queue: &mut [u8; 640],
     history: &mut [u8; 5080],

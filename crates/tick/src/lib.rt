@@ -1,4 +1,4 @@
 // The tick (node/cn/tick.rs): the heartbeats (crate `heartbeats`), the deadline, the SoC check and its errors.
-mod deadline;
+pub mod deadline;
 mod soc;
 pub mod tick;

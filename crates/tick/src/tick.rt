@@ -36,7 +36,7 @@ pub enum TickAnswer {
 }
 
 // PreOperational2 and the states above it by their numbers, so not CsStopped.
-fn checks_heartbeats(state: NmtState) -> bool
+pub fn checks_heartbeats(state: NmtState) -> bool
     ensures { λ r. ⌜ r ≡ checksHeartbeats state ⌝ }
 {
     0x5D <= state.as_u8()

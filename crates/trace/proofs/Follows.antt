@@ -4,6 +4,7 @@ use Prim.Native.Nat.{ℕ}
 use mathlib.Core.Path.{_≡_, refl, ap, ap₂, _∙_}
 use mathlib.Core.List.{List, [], _∷_}
 use native.Mathlib.Omega.{arith}
+use Rattle.types.specs.declared.refusals.Refusal.{Refusal}
 use Rattle.head.specs.Head.{Head}
 use Rattle.watched.specs.declared.nodes.WatchedNode.{WatchedNode}
 use Rattle.watched.specs.Watched.{unheard}
@@ -52,6 +53,14 @@ begins-fresh s p =
     tried-by (λ (f : FirstStep). begins p ≡ f .begun → p ≡ fresh s) (startTests s)
     (λ r. record { begun = declined r; lent = s .watched }) (record { begun = begins (fresh s); lent = unheard (s .watched) })
     (λ r e. absurd (let z : _≡_ {A = ℕ} 0 1 = cc in let f : ⊥ = omega arith in f)) (λ e. cc)
+
+-- a plain start that is declined leaves what was lent
+pub declined-lent : (s : Start) (x : Refusal) → declined x ≡ started s .begun → started s .lent ≡ s .watched
+unfolding started
+declined-lent s x =
+    tried-by (λ (f : FirstStep). declined x ≡ f .begun → f .lent ≡ s .watched) (startTests s)
+    (λ r. record { begun = declined r; lent = s .watched }) (record { begun = begins (fresh s); lent = unheard (s .watched) })
+    (λ r e. refl) (λ e. absurd (let z : _≡_ {A = ℕ} 0 1 = cc in let f : ⊥ = omega arith in f))
 
 -- from a head that stands for the fresh plain head of a start
 pub followed :

@@ -1,5 +1,5 @@
--- One call of a real function, and a list of them: at each, what that function's contract in src/ ensures, and nothing else. It stands in specs/ so that
--- the contract of `drive` can cite it.
+-- A start, one call of a real function, and a list of them: at each, what that function's contract in src/ ensures, and nothing else. The watched nodes are
+-- lent in either form, as words or as a run of records, mixed as one likes. It stands in specs/ so that the contract of `drive` can cite it.
 -- Assumes nothing.
 use Prim.Native.Nat.{ℕ}
 use mathlib.Core.List.{List, [], _∷_}
@@ -8,7 +8,7 @@ use Rattle.entries.specs.declared.status_response.FoundEntry.{FoundEntry}
 use Rattle.watched.specs.declared.nodes.WatchedNode.{WatchedNode}
 use Rattle.node.specs.declared.calls.CallAnswer.{CallAnswer}
 use Rattle.watched.specs.Watched.{watchedOf}
-use Rattle.node.specs.Plain.{Call, Answer, taken, cycleAnswer, handOutAnswer}
+use Rattle.node.specs.Plain.{Call, Answer, Start, taken, cycleAnswer, handOutAnswer}
 use Rattle.node.specs.Run.{Said}
 use Rattle.node.specs.Refines.{historyUpdate}
 use Rattle.watched.specs.Nodes.{nodesOf}
@@ -28,6 +28,9 @@ use Rattle.node.proofs.calls.arm.Reads as arm-reads
 use Rattle.node.proofs.heard.heard.Reads as heard-reads
 use Rattle.tick.proofs.tick.process_tick.Reads as process-tick-reads
 use Rattle.node.proofs.load.load.Reads as load-reads
+use Rattle.start.specs.Started.{startOf}
+use Rattle.start.proofs.start.start.Reads as start-reads
+use Rattle.lent.proofs.Links.{Heard-learnt, Start-learnt, Tick-learnt}
 
 abbrev pub says : Answer → List WatchedNode → Said
 says a l = record { answer = a; lent = l }
@@ -64,6 +67,11 @@ pub data Made : List ℕ → List ℕ → List ℕ → List ℕ → ℕ → Call
       heard-reads.Learnt κs a o x →
       Made ws q m (now (a .0)) (a .1 .0) (Call.heard (a .1 .1 .0) (a .1 .1 .1 .0) (watchedOf (nodesOf (now (a .0))) (a .1 .0)))
       (says (said o) (watchedOf (nodesOf (now (x .0))) (a .1 .0))) ws q m (now (x .0))
+  -- on a run of records: the words of nodes are not lent
+  heardRun :
+      {ws q m ns : List ℕ} {k : ℕ} (κs : _) (a : _) (o : CallAnswer) (x : _) →
+      Heard-learnt κs a o x →
+      Made ws q m ns k (Call.heard (a .1 .0) (a .1 .1 .0) (now (a .0))) (says (said o) (now (x .0))) ws q m ns
   handOut :
       {m ns : List ℕ} {k : ℕ} (κs : _) (a : _) (o : FoundEntry) (x : _) →
       hand-out-reads.Learnt κs a o x →
@@ -84,6 +92,27 @@ pub data Made : List ℕ → List ℕ → List ℕ → List ℕ → ℕ → Call
       (Call.tick (a .1 .1 .1 .1 .1 .0) (watchedOf (nodesOf (now (a .1 .1 .1 .0))) (a .1 .1 .1 .1 .0)))
       (says (tickSaid o) (watchedOf (nodesOf (now (x .1 .1 .1 .0))) (a .1 .1 .1 .1 .0)))
       (now (x .0)) (now (x .1 .0)) (now (x .1 .1 .0)) (now (x .1 .1 .1 .0))
+  tickRun :
+      {ns : List ℕ} {k : ℕ} (κs : _) (a : _) (o : TickAnswer) (x : _) →
+      Tick-learnt κs a o x →
+      Made (now (a .0)) (now (a .1 .0)) (now (a .1 .1 .0)) ns k (Call.tick (a .1 .1 .1 .1 .0) (now (a .1 .1 .1 .0)))
+      (says (tickSaid o) (now (x .1 .1 .1 .0))) (now (x .0)) (now (x .1 .0)) (now (x .1 .1 .0)) ns
+
+-- Of a start: what it was given, what it answered, the watched nodes as it left them, and the words that it left.
+pub data Began : Start → CallAnswer → List WatchedNode → List ℕ → Type 0 where
+  start :
+      (κs : _) (a : _) (o : CallAnswer) (x : _) →
+      start-reads.Learnt κs a o x →
+      Began
+      (startOf (a .1 .1 .1 .0) (a .1 .1 .1 .1 .0) (a .1 .1 .1 .1 .1 .0) (a .1 .1 .1 .1 .1 .1 .0) (a .1 .1 .1 .1 .1 .1 .1 .0)
+      (watchedOf (nodesOf (now (a .1 .0))) (a .1 .1 .0)))
+      o (watchedOf (nodesOf (now (x .1 .0))) (a .1 .1 .0)) (now (x .0))
+  startRun :
+      (κs : _) (a : _) (o : CallAnswer) (x : _) →
+      Start-learnt κs a o x →
+      Began
+      (startOf (a .1 .1 .0) (a .1 .1 .1 .0) (a .1 .1 .1 .1 .0) (a .1 .1 .1 .1 .1 .0) (a .1 .1 .1 .1 .1 .1 .0) (now (a .1 .0)))
+      o (now (x .1 .0)) (now (x .0))
 
 -- The head's words, its queue's bytes and its history's bytes before the calls; the calls; what they said; the three after them. Each call is on what the
 -- last one left: "Nobody else writes head, queue or history meanwhile". The watched nodes are lent with each call, whatever they are.

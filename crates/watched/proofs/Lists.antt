@@ -73,7 +73,7 @@ above-zero w u v = by (ltb 0 (w .node)) refl
     by true e = refl
     by false e = rw (none (w .node) (ltb-false 0 (w .node) e)) (sym (never u))
 
-rising-all : (ws : List WatchedNode) → rising 0 ws ≡ both (ascending ws) (allOf fits ws)
+pub rising-all : (ws : List WatchedNode) → rising 0 ws ≡ both (ascending ws) (allOf fits ws)
 rising-all [] = refl
 rising-all (w ∷ ws) =
     rising-above 0 (w ∷ ws)

@@ -50,7 +50,7 @@ fn is_node(n: u64) -> bool
 }
 
 // Above the number before it, and within its limits.
-fn follows(last: u64, node: u64, timeout: u64, last_heard: u64) -> bool
+pub fn follows(last: u64, node: u64, timeout: u64, last_heard: u64) -> bool
     ensures { λ r. ⌜ r ≡ both (ltb last node) (fits (watchedNode node timeout «last_heard»)) ⌝ }
 {
     if node <= last {

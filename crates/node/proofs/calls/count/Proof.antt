@@ -1,9 +1,9 @@
--- `node::calls::count` meets its contract: the one counter is raised and checked.
+-- `node::calls::count` meets its contract: the one counter takes the error.
 -- Assumes nothing.
 use mathlib.Core.Path.{_≡_, ap, _∙_}
 use denote.Ref.{now}
 use borrow.Author.Needs.{needs}
-use Rattle.counters.specs.Counters.{incremented, checked, afterError}
+use Rattle.counters.specs.Counters.{afterError}
 use Rattle.counters.specs.declared.counters.ThresholdCheck.{ThresholdCheck}
 use Rattle.head.specs.Places as at
 use Rattle.head.specs.Words.{counterAt}
@@ -12,18 +12,15 @@ use Rattle.node.proofs.calls.count.Statement.{statement}
 use Rattle.node.proofs.calls.count.Tie as tie
 
 pub count-spec : {M : Type 1} → statement M
-unfolding afterError
 count-spec =
     tie.close
     (tie.spec
     (λ c κs. search needs)
     (λ c κs. search needs)
     (λ c κs. search needs)
-    (λ c κs. search needs)
     (λ c.
     let k = c .before .before .before in
-    let o = k .before .before in
+    let o = k .before in
     let a = o .before .before .args in
-    let h : k .check-and-reset .result ≡ afterError (counterAt (now (a .head)) (at.counter (a .kind))) =
-    k .check-and-reset .ensures ∙ ap checked (k .before .increment .ensures ∙ ap incremented (o .counter-of .ensures)) in
+    let h : k .count-error .result ≡ afterError (counterAt (now (a .head)) (at.counter (a .kind))) = k .count-error .ensures ∙ ap afterError (o .counter-of .ensures) in
     (ap (λ (t : ThresholdCheck). t .reached) h, c .set-counter .ensures ∙ ap (λ (t : ThresholdCheck). counterWritten (now (a .head)) (a .kind) (t .counter)) h)))

@@ -1,0 +1,6 @@
+pub mod Types
+pub mod Seeing
+pub mod SeenLaws
+pub mod BeatLaws
+pub mod JudgedLaws
+pub mod Links

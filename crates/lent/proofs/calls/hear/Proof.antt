@@ -1,0 +1,19 @@
+-- `lent::calls::hear` meets its contract: by the tests, and what a call sets.
+-- Assumes nothing.
+use borrow.Author.Needs.{needs}
+use Rattle.lent.proofs.JudgedLaws.{heard-done}
+use Rattle.lent.proofs.calls.hear.Statement.{statement}
+use Rattle.lent.proofs.calls.hear.Tie as tie
+
+pub hear-spec : {M : Type 1} → statement M
+hear-spec =
+    tie.close
+    (tie.spec
+    (λ c κs. search needs)
+    (λ c κs. search needs)
+    (λ c κs. search needs)
+    (λ c.
+    let y = c .before in
+    let f = y .before in
+    let a = f .before .before .args in
+    heard-done (a .node) (a .time) (a .found) (f .passes .result) (f .passes .ensures) (y .try-heard .result) (y .try-heard .ensures) (c .set-if-taken .result) (c .set-if-taken .ensures)))

@@ -1,0 +1,23 @@
+-- `lent::run::settle` meets its contract: the `Each` walk over `set`. Assumes nothing.
+use denote.Triple.Spec.{tripleOf}
+use denote.Triple.Table.{entered, cited}
+use contract.Running.{givenOf, tables, tablesOf}
+use Rattle.lentlaws.proofs.Each.{meets}
+use Rattle.watched.specs.Watched.{noNode}
+use Rattle.lent.specs.Runs.{settled}
+use Rattle.lent.proofs.Types.{node, setting}
+use Rattle.lent.proofs.run.set as g
+use Rattle.lent.proofs.run.set.Symbol as g-def
+use Rattle.lent.proofs.run.set.Met as g-thm
+use Rattle.lent.proofs.run.settle as f
+use Rattle.lent.proofs.run.settle.Key as f-key
+use Rattle.lent.proofs.run.settle.Statement as stated
+use Rattle.lent.proofs.run.settle.Code as code
+
+pub settle-spec : {M : Type 1} → stated.statement M
+unfolding code.routine tablesOf
+settle-spec 𝓤 H 𝓜 𝓖 𝓡 =
+    entered 𝓤 H (tripleOf 𝓤 H (𝓖 .A) f.signature (f.spec 𝓤 H (𝓖 .A) (𝓜 .mem) (𝓡 .run)))
+    (tables 𝓤 H 𝓜 𝓡 code.env .C) (tables 𝓤 H 𝓜 𝓡 code.env .Λ) f-key.name code.function (code.unfolded 𝓤 H 𝓜 𝓡)
+    (meets node setting settled g-def.name noNode tt 𝓤 H (𝓖 .A) (givenOf 𝓤 H 𝓜 𝓖) (tablesOf 𝓤 H 𝓜 (tables 𝓤 H 𝓜 𝓡 code.env))
+    (cited 𝓤 H (tripleOf 𝓤 H (𝓖 .A) g.signature (g.spec 𝓤 H (𝓖 .A) (𝓜 .mem) (𝓡 .run))) 𝓜 𝓡 code.env g-def.name g-def.routine code.calls-lent·run·set (g-thm.met 𝓤 H 𝓜 𝓖 𝓡)))

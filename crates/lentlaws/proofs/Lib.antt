@@ -1,0 +1,11 @@
+pub mod Lone
+pub mod Values
+pub mod Runs
+pub mod Views
+pub mod Change
+pub mod ChangeAnswer
+pub mod Fold
+pub mod Each
+pub mod JudgedHeard
+pub mod JudgedStart
+pub mod JudgedTick
