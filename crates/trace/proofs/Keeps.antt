@@ -1,7 +1,7 @@
 -- What every call keeps, so that a list of calls keeps it, and the claim that follows from it.
 -- Assumes nothing.
 use Prim.Native.Nat.{ℕ, _+_, _≤_}
-use mathlib.Core.Path.{_≡_, refl, sym, subst}
+use mathlib.Core.Path.{_≡_, refl, sym, ap, subst, _∙_}
 use mathlib.Core.Bool.{Bool, true, false}
 use mathlib.Core.List.{List, [], _∷_, _++_}
 use native.Mathlib.Omega.{arith}
@@ -20,7 +20,8 @@ use Rattle.node.specs.Run.{step, run, Said, said}
 use Rattle.node.specs.Refines.{plain}
 use Rattle.trace.specs.Tally.{Tally, noted, nothing, tally, droppedBy, loadsCounter3}
 use Rattle.trace.specs.Claim.{Merge, empty, Each, counted, Claim}
-use Rattle.trace.proofs.Modes.{mode, mode-word, mode-ready}
+use Rattle.trace.proofs.Modes.{mode, mode-word, mode-enabled, mode-ready}
+use Rattle.trace.proofs.Visits.{enabled-before, word-before}
 use Rattle.trace.proofs.Queues.{merge-queued}
 use Rattle.counters.proofs.Counts.{Rises, rises-none, rises-then}
 use Rattle.trace.proofs.Shares.{Shares, shares, rule}
@@ -104,8 +105,13 @@ claimed s cs says h q m alike answered =
     record {
       alike = alike;
       answered = answered;
-      asked = λ r. mode-ready (h .nmt) (counted s cs .told) (k .told) r .0;
-      word = λ r. mode-ready (h .nmt) (counted s cs .told) (k .told) r .1;
+      asked = λ r. enabled-before s cs (sym (ap (λ (p : Plain). p .nmt .«current_state») alike) ∙ r);
+      enabled = λ r. mode-enabled (h .nmt) (counted s cs .told) (k .told) r;
+      word =
+          λ r.
+          word-before s cs
+          (sym (ap (λ (p : Plain). p .nmt .«app_ready») alike) ∙ mode-word (h .nmt) (counted s cs .told) (k .told)
+          ∙ mode-ready (h .nmt) (counted s cs .told) (k .told) r .1);
       heeded = mode-word (h .nmt) (counted s cs .told) (k .told);
       balance =
           λ j.

@@ -2,6 +2,8 @@ pub mod Modes
 pub mod Queues
 pub mod Ticking
 pub mod Shares
+pub mod Moves
+pub mod Visits
 pub mod Keeps
 pub mod Follows
 pub mod Driven

@@ -20,7 +20,7 @@ use Rattle.trace.specs.Tally.{Told, told, toldBy}
 abbrev same : Bool → Bool → Bool
 same a b = pick a b (not b)
 
-abbrev implies : Bool → Bool → Bool
+abbrev pub implies : Bool → Bool → Bool
 implies a b = pick a b true
 
 -- Ready is the application's word. In PreOperational2, enabled says whether an enable or StartNode came in this visit; at
@@ -37,7 +37,7 @@ abbrev all : {A : Type 0} → (A → Bool) → List A → Bool
 all f [] = true
 all f (x ∷ xs) = both (f x) (all f xs)
 
-abbrev always : {A : Type 0} → Enum A → (A → Bool) → Bool
+abbrev pub always : {A : Type 0} → Enum A → (A → Bool) → Bool
 always E f = both (f (E .first)) (all f (E .items))
 
 abbrev all-flags : (Bool → Bool) → Bool
@@ -57,7 +57,7 @@ all-at f [] k d h e = h
 all-at f (x ∷ xs) zero d h e = both-first (f x) (all f xs) e
 all-at f (x ∷ xs) (suc k) d h e = all-at f xs k d h (both-second (f x) (all f xs) e)
 
-always-at : {A : Type 0} (E : Enum A) (f : A → Bool) → always E f ≡ true → (x : A) → f x ≡ true
+pub always-at : {A : Type 0} (E : Enum A) (f : A → Bool) → always E f ≡ true → (x : A) → f x ≡ true
 always-at E f e x =
     ap f (sym (E .back x)) ∙
     all-at f (E .items) (E .position x) (E .first) (both-first (f (E .first)) (all f (E .items)) e) (both-second (f (E .first)) (all f (E .items)) e)
@@ -67,12 +67,12 @@ flags-at f e true = both-first (f true) (f false) e
 flags-at f e false = both-second (f true) (f false) e
 
 -- what holds of the machine m in every state, with every flag, and whatever the node was told, holds of m
-abbrev every : (CnNmtStateMachine → Told → Bool) → CnNmtStateMachine → Bool
+abbrev pub every : (CnNmtStateMachine → Told → Bool) → CnNmtStateMachine → Bool
 every f m =
     always NmtStates
     (λ s. all-flags (λ en. all-flags (λ rd. all-flags (λ a. all-flags (λ w. f (with m s en rd) (told a w))))))
 
-every-at : (f : CnNmtStateMachine → Told → Bool) (m : CnNmtStateMachine) (w : Told) → every f m ≡ true → f m w ≡ true
+pub every-at : (f : CnNmtStateMachine → Told → Bool) (m : CnNmtStateMachine) (w : Told) → every f m ≡ true → f m w ≡ true
 every-at f m w e =
     let s = m .«current_state» in
     let en = m .«ready_to_operate_enabled» in
@@ -89,7 +89,7 @@ every-at f m w e =
     (w .asked))
     (w .word)
 
-follows : (a b : Bool) → implies a b ≡ true → a ≡ true → b ≡ true
+pub follows : (a b : Bool) → implies a b ≡ true → a ≡ true → b ≡ true
 follows true b e h = e
 follows false true e h = refl
 follows false false e h = h
@@ -127,14 +127,29 @@ mode-withdraw m w r h =
     follows (both (mode m w) (not (sameState (m .«current_state») NmtReadyToOperate))) (mode (withdrawn m) (told (w .asked) false))
     (every-at withdraw-keeps m w (withdraw-test m)) (rw (h, r))
 
+agree : (a b : Bool) → same a b ≡ true → a ≡ b
+agree true b e = sym e
+agree false true e = e
+agree false false e = refl
+
 -- the machine keeps the application's word
 pub mode-word : (m : CnNmtStateMachine) (w : Told) → mode m w ≡ true → m .«app_ready» ≡ w .word
 mode-word m w h = agree (m .«app_ready») (w .word) (both-first (same (m .«app_ready») (w .word)) _ h)
-  where
-    agree : (a b : Bool) → same a b ≡ true → a ≡ b
-    agree true b e = sym e
-    agree false true e = e
-    agree false false e = refl
+
+-- in PreOperational2, enabled says whether the node was asked in this visit
+abbrev visit-tells : CnNmtStateMachine → Told → Bool
+visit-tells m w =
+    implies (both (mode m w) (sameState (m .«current_state») NmtPreOperational2)) (same (m .«ready_to_operate_enabled») (w .asked))
+
+visit-test : (m : CnNmtStateMachine) → every visit-tells m ≡ true
+visit-test m = refl
+
+pub mode-enabled :
+    (m : CnNmtStateMachine) (w : Told) → mode m w ≡ true → m .«current_state» ≡ NmtPreOperational2 → m .«ready_to_operate_enabled» ≡ w .asked
+mode-enabled m w h s =
+    agree (m .«ready_to_operate_enabled») (w .asked)
+    (follows (both (mode m w) (sameState (m .«current_state») NmtPreOperational2)) (same (m .«ready_to_operate_enabled») (w .asked))
+    (every-at visit-tells m w (visit-test m)) (rw (h, s)))
 
 -- at ReadyToOperate the node was asked, and the word is ready
 abbrev ready-tells : CnNmtStateMachine → Told → Bool

@@ -38,7 +38,7 @@ use Rattle.trace.specs.Tally.{Told, toldAt, handedBy, droppedBy, isFull,
 use Rattle.trace.specs.Claim.{Queued, still, kept, dropped, handed, Rule}
 use Rattle.trace.proofs.Modes.{mode, mode-event, mode-withdraw}
 use Rattle.counters.proofs.Counts.{Counting, counting-none, counting-handled, counting-completed}
-use Rattle.trace.proofs.Ticking.{seen, Enters, none, one, PartOf, picked, still-tells, tick-part}
+use Rattle.trace.proofs.Ticking.{seen, Enters, none, one, PartOf, picked, still-tells, tells, tick-part}
 
 -- the mode's share, the queue's, the counters' and counter 3's
 abbrev pub ModeShare : Plain → Call → Step → Type 0
@@ -246,7 +246,7 @@ tick-taken-shares :
     (p : Plain) (t : ℕ) (ws l : List WatchedNode) (k : Ticked) → PartOf p k → Shares p (tick t ws) (tickAnswered k l)
 tick-taken-shares p t ws l k h =
     record {
-      told = h .tells;
+      told = tells (h .moves);
       queue = enters-queue p (h .enters);
       counts = h .counts;
       lost = enters-lost p (tick t ws) (tickAnswered k l) (h .enters) refl refl;

@@ -67,12 +67,17 @@ seen p = record { nmt = p .nmt; capacity = p .capacity; queue = p .queue; lost =
 abbrev full : Seen → Bool
 full s = leb (s .capacity) (length (s .queue))
 
--- the mode, over the event of a tick
-abbrev Tells : CnNmtStateMachine → CnNmtStateMachine → Type 0
-Tells m m′ = (w : Told) → mode m w ≡ true → mode m′ (toldInTick m m′ w) ≡ true
+-- what a tick does to the machine: nothing, or the event Error or Timeout
+pub data InTick (m : CnNmtStateMachine) : CnNmtStateMachine → Type 0 where
+  still : InTick m m
+  fails : InTick m (Nmt.processed m Error .machine)
+  times-out : InTick m (Nmt.processed m Timeout .machine)
 
-tells-still : (m : CnNmtStateMachine) → Tells m m
-tells-still m w h = ap (mode m) (still-tells m w) ∙ h
+-- the mode, over it
+pub tells : {m m′ : CnNmtStateMachine} → InTick m m′ → (w : Told) → mode m w ≡ true → mode m′ (toldInTick m m′ w) ≡ true
+tells {m = m} still w h = ap (mode m) (still-tells m w) ∙ h
+tells {m = m} fails w h = mode-event m Error w h
+tells {m = m} times-out w h = mode-event m Timeout w h
 
 -- No crossing, and queue and counter 3 stay; or one, whose entry waits or, with the queue full, is dropped with counter 3.
 pub data Enters (s : Seen) : List ErrorEntry → List ErrorEntry → ℕ → Type 0 where
@@ -83,7 +88,7 @@ pub data Enters (s : Seen) : List ErrorEntry → List ErrorEntry → ℕ → Typ
 
 -- a part of a tick, from a head of which s is seen, with the counters e
 pub record Part (s : Seen) (e : CnErrorCounters) (k : Ticked) : Type 0 where
-  pub tells : Tells (s .nmt) (k .head .nmt)
+  pub moves : InTick (s .nmt) (k .head .nmt)
   pub counts : Counting e (k .marks) (k .head .errors)
   pub enters : Enters s (k .crossings) (k .head .queue) (k .head .od .«counter_3»)
 
@@ -107,7 +112,7 @@ picked P false h g = g
 idle : (p : Plain) → WalkOf p (goesOn p)
 idle p =
     record {
-      part = record { tells = tells-still (p .nmt); counts = counting-none (p .errors); enters = none };
+      part = record { moves = still; counts = counting-none (p .errors); enters = none };
       stays = λ h. refl;
       uncrossed = λ h. refl;
     }
@@ -118,7 +123,7 @@ module _ (s : Seen) (e : CnErrorCounters) (a : Ticked) (w : Walk s e a) (b : Tic
   part-behind h g =
       let z : seen (a .head) ≡ s = w .stays h in
       record {
-        tells = subst (λ (s : Seen). Tells (s .nmt) (b .head .nmt)) z (g .tells);
+        moves = subst (λ (s : Seen). InTick (s .nmt) (b .head .nmt)) z (g .moves);
         counts = counting-then (w .part .counts) (g .counts);
         enters =
             subst (λ (cs : List ErrorEntry). Enters s (cs ++ b .crossings) (b .head .queue) (b .head .od .«counter_3»)) (sym (w .uncrossed h))
@@ -157,7 +162,7 @@ finishes p g true es ms cs m c n s u =
     record {
       part =
           record {
-            tells = subst (λ (m : CnNmtStateMachine). Tells (p .nmt) (Nmt.processed m Error .machine)) (sym m) (mode-event (p .nmt) Error);
+            moves = subst (λ (m : CnNmtStateMachine). InTick (p .nmt) (Nmt.processed m Error .machine)) (sym m) fails;
             counts = c;
             enters = n;
           };
@@ -168,7 +173,7 @@ finishes p g false es ms cs m c n s u =
     record {
       part =
           record {
-            tells = subst (λ (m : CnNmtStateMachine). Tells (p .nmt) m) (sym m) (tells-still (p .nmt));
+            moves = subst (λ (m : CnNmtStateMachine). InTick (p .nmt) m) (sym m) still;
             counts = c;
             enters = n;
           };
@@ -295,7 +300,7 @@ soc-check-walk p t =
 pub times-out-part : (p : Plain) → PartOf p (goesOn (timesOut p))
 times-out-part p =
     picked (λ (g : Plain). PartOf p (goesOn g)) (ltb 0 (basicTimeout p))
-    (record { tells = mode-event (p .nmt) Timeout; counts = counting-none (p .errors); enters = none }) (idle p .part)
+    (record { moves = times-out; counts = counting-none (p .errors); enters = none }) (idle p .part)
 
 pub passed-part : (p : Plain) (t : ℕ) → PartOf p (passed p t)
 passed-part p t = picked (PartOf p) (atNotActive p) (times-out-part p) (soc-check-walk p t .part)

@@ -5,7 +5,7 @@ use mathlib.Core.Path.{_≡_}
 use mathlib.Core.Bool.{true, false}
 use mathlib.Core.List.{List, [], _∷_, _++_}
 use lib.ListN.{length}
-use Rattle.types.specs.declared.nmt.states.NmtState.the-variants.{NmtReadyToOperate}
+use Rattle.types.specs.declared.nmt.states.NmtState.the-variants.{NmtPreOperational2, NmtReadyToOperate}
 use Rattle.counters.specs.Counters.{counter, top}
 use Rattle.counters.specs.Marks.{Mark, level, E, N, D}
 use Rattle.counters.specs.declared.counters.CounterKind.{CounterKind}
@@ -17,6 +17,7 @@ use Rattle.node.specs.Steps.{fresh}
 use Rattle.node.specs.Run.{step, run, Said, said}
 use Rattle.node.specs.Refines.{plain}
 use Rattle.trace.specs.Tally.{Tally, handedBy, droppedBy, nothing, tally}
+use Rattle.trace.specs.Visits.{Enabled, ReadyWord}
 
 -- the first list is the other two, each in its order: every item of it stands in one of them, once, and nothing else does
 pub data Merge : List ErrorEntry → List ErrorEntry → List ErrorEntry → Type 0 where
@@ -67,9 +68,11 @@ pub record Claim (s : Start) (cs : List Call) (says : List Said) (h : Head) (q m
   pub alike : plain h q m ≡ run (fresh s) cs
   pub answered : says ≡ said (fresh s) cs
   -- "At ReadyToOperate, an enable or StartNode came during the PreOperational2 visit just before,"
-  pub asked : h .nmt .«current_state» ≡ NmtReadyToOperate → counted s cs .told .asked ≡ true
+  pub asked : h .nmt .«current_state» ≡ NmtReadyToOperate → Enabled (fresh s) cs
+  -- and in PreOperational2 the head is enabled exactly where one came in this visit
+  pub enabled : h .nmt .«current_state» ≡ NmtPreOperational2 → h .nmt .«ready_to_operate_enabled» ≡ counted s cs .told .asked
   -- "and the application's last counted word is ready."
-  pub word : h .nmt .«current_state» ≡ NmtReadyToOperate → counted s cs .told .word ≡ true
+  pub word : h .nmt .«current_state» ≡ NmtReadyToOperate → ReadyWord (fresh s) cs
   -- that word is the one that the head keeps, in every state
   pub heeded : h .nmt .«app_ready» ≡ counted s cs .told .word
   -- "For each kind with a threshold, with E errors counted, N crossings of the threshold, D cycles drained and level L:

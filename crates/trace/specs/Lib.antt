@@ -1,3 +1,4 @@
 pub mod Tally
+pub mod Visits
 pub mod Claim
 pub mod Driven

@@ -1,0 +1,70 @@
+-- What each call does to the NMT machine.
+-- Assumes nothing.
+use Prim.Native.Nat.{ℕ}
+use mathlib.Core.Path.{_≡_, refl}
+use mathlib.Core.Bool.{Bool, true, false, not}
+use mathlib.Core.List.{List, [], _∷_}
+use Rattle.types.specs.Pick.{pick}
+use Rattle.types.specs.States.{sameState}
+use Rattle.types.specs.Events.{readEvent}
+use Rattle.types.specs.CsEvents.{readCsEvent}
+use Rattle.types.specs.Errors.{readError}
+use Rattle.types.specs.declared.refusals.Refusal.the-variants.{ReadyToOperate, TimeLimit}
+use Rattle.types.specs.declared.nmt.states.NmtState.the-variants.{NmtReadyToOperate}
+use Rattle.types.specs.declared.nmt.events.NmtEvent.{NmtEvent}
+use Rattle.types.specs.declared.nmt.events.NmtEventRead.{NmtEventRead}
+use Rattle.types.specs.declared.nmt.events.NmtEventRead.the-variants as event
+use Rattle.types.specs.declared.frame.cs_state_machine.DllCsEventRead.{DllCsEventRead}
+use Rattle.types.specs.declared.frame.cs_state_machine.DllCsEventRead.the-variants as cs-event
+use Rattle.types.specs.declared.frame.error.types.DllErrorRead.{DllErrorRead}
+use Rattle.types.specs.declared.frame.error.types.DllErrorRead.the-variants as error-read
+use Rattle.nmt.specs.Nmt.{processed}
+use Rattle.nmt.specs.declared.cn_state_machine.CnNmtStateMachine.{CnNmtStateMachine}
+use Rattle.watched.specs.Watched.{inTime, heardAt}
+use Rattle.node.specs.Plain.{Plain, Call, nmtEvent, dllEvent, error, cycleComplete, withdraw, heard, handOut, load, arm, tick, taken, Step}
+use Rattle.node.specs.Steps.{must, answers, declines, withNmt, withSoc, nmtStep, dllStep, errorStep, withdrawn, heardTests, armed}
+use Rattle.node.specs.Tick.{tickTests, tickTaken, tickAnswered, lookedAt}
+use Rattle.node.specs.Run.{step}
+use Rattle.trace.proofs.Ticking.{InTick, tick-part}
+use Rattle.trace.proofs.Shares.{tried-by}
+
+-- of a call c on the head p, the machine after it
+pub data Moves (p : Plain) (c : Call) : CnNmtStateMachine → Type 0 where
+  same : Moves p c (p .nmt)
+  takes-back : Moves p c (withdrawn (p .nmt))
+  told : (n : ℕ) (e : NmtEvent) → c ≡ nmtEvent n → readEvent n ≡ event.Taken e → Moves p c (processed (p .nmt) e .machine)
+  ticks : {m : CnNmtStateMachine} → InTick (p .nmt) m → Moves p c m
+
+abbrev MovesTo : Plain → Call → Step → Type 0
+MovesTo p c t = Moves p c (t .head .nmt)
+
+nmt-moves : (p : Plain) (n : ℕ) (r : NmtEventRead) → readEvent n ≡ r → MovesTo p (nmtEvent n) (nmtStep p r)
+nmt-moves p n (event.Taken e) h = told n e refl h
+nmt-moves p n (event.Refused r) h = same
+
+dll-moves : (p : Plain) (n : ℕ) (x : Bool) (r : DllCsEventRead) → MovesTo p (dllEvent n x) (dllStep p x r)
+dll-moves p n x (cs-event.Taken e) = same
+dll-moves p n x (cs-event.Refused r) = same
+
+error-moves : (p : Plain) (k a b : ℕ) (r : DllErrorRead) → MovesTo p (error k a b) (errorStep p r)
+error-moves p k a b (error-read.Taken e) = same
+error-moves p k a b (error-read.Refused r) = same
+
+withdraw-moves : (p : Plain) (b : Bool) → MovesTo p withdraw (pick b (answers (withNmt p (withdrawn (p .nmt))) taken []) (declines p [] ReadyToOperate))
+withdraw-moves p true = takes-back
+withdraw-moves p false = same
+
+pub moves : (p : Plain) (c : Call) → MovesTo p c (step p c)
+moves p (nmtEvent n) = nmt-moves p n (readEvent n) refl
+moves p (dllEvent n x) = dll-moves p n x (readCsEvent n)
+moves p (error k a b) = error-moves p k a b (readError k a b)
+moves p cycleComplete = same
+moves p withdraw = withdraw-moves p (not (sameState (p .nmt .«current_state») NmtReadyToOperate))
+moves p (heard n t ws) = tried-by (MovesTo p (heard n t ws)) (heardTests n t ws) (declines p ws) (answers p taken (heardAt n t ws)) (λ r. same) same
+moves p handOut = same
+moves p (load v h) = same
+moves p (arm t) =
+    tried-by (MovesTo p (arm t)) (must (inTime t) TimeLimit ∷ []) (declines p []) (answers (withSoc p (armed (p .soc) (p .od) t)) taken []) (λ r. same) same
+moves p (tick t ws) =
+    tried-by (MovesTo p (tick t ws)) (tickTests p t ws) (declines p ws) (tickAnswered (tickTaken p t ws) (lookedAt p t ws)) (λ r. same)
+    (ticks (tick-part p t ws .moves))

@@ -1,0 +1,331 @@
+-- How a head came to ReadyToOperate: each call, from one computed test over every state, event and flag; then any list.
+-- Assumes nothing.
+use Prim.Native.Nat.{ℕ}
+use mathlib.Core.Path.{_≡_, refl, sym, ap, subst, _∙_}
+use mathlib.Core.Bool.{Bool, true, false, not, true≢false}
+use mathlib.Core.List.{List, [], _∷_, _++_}
+use mathlib.Core.Logic.{_⊎_, inl, inr}
+use borrow.Author.Tests.{eqb-true, eq-eqb}
+use Rattle.types.specs.Pick.{pick, both, either}
+use Rattle.types.specs.States.{stateNumber, sameState}
+use Rattle.types.specs.Events.{eventNumber, sameEvent, readEvent}
+use Rattle.types.specs.declared.nmt.states.NmtState.{NmtState}
+use Rattle.types.specs.declared.nmt.states.NmtState.the-variants.{NmtPreOperational2, NmtReadyToOperate}
+use Rattle.types.specs.declared.nmt.events.NmtEvent.{NmtEvent}
+use Rattle.types.specs.declared.nmt.events.NmtEvent.the-variants.{Error, Timeout, CnConfigurationComplete}
+use Rattle.types.specs.declared.nmt.events.NmtEventRead.the-variants as event
+use Rattle.types.proofs.Cases.{NmtEvents}
+use Rattle.types.proofs.RoundTrips.{events-faithful}
+use Rattle.nmt.specs.Resets.{isReset, statesEntered}
+use Rattle.nmt.specs.Nmt.{enter, rowOf, applied, resetBy, processed}
+use Rattle.nmt.specs.declared.cn_state_machine.CnNmtStateMachine.{CnNmtStateMachine}
+use Rattle.head.specs.Words as words
+use Rattle.head.proofs.Laws.{state-back}
+use Rattle.types.specs.declared.refusals.Refusal.the-variants.{ReadyToOperate}
+use Rattle.node.specs.Plain.{Plain, Call, nmtEvent, dllEvent, error, cycleComplete, withdraw, heard, handOut, load, arm, tick, Start, taken}
+use Rattle.node.specs.Steps.{answers, declines, withNmt, withdrawn, fresh}
+use Rattle.node.specs.Run.{step, run}
+use Rattle.trace.specs.Tally.{Told, told, asks}
+use Rattle.trace.specs.Visits.{stateOf, Stays, InVisit, Asking, Asked, visiting, Enabled, at-once, later, isWithdraw, isTaken, NoneWithdrawn, ReadyWord, first, given}
+use Rattle.trace.proofs.Modes.{implies, always, every, always-at, every-at, follows, both-first, both-second}
+use Rattle.trace.proofs.Ticking.{InTick}
+use Rattle.trace.proofs.Moves.{Moves, moves}
+
+-- a test of two states that holds
+pub state-is : (s t : NmtState) → sameState s t ≡ true → s ≡ t
+state-is s t h = sym (state-back s) ∙ ap words.stateOf (eqb-true (stateNumber s) (stateNumber t) h) ∙ state-back t
+
+pub is-state : (s t : NmtState) → s ≡ t → sameState s t ≡ true
+is-state s t e = eq-eqb (stateNumber s) (stateNumber t) (ap stateNumber e)
+
+either-cases : (a b : Bool) → either a b ≡ true → (a ≡ true) ⊎ (b ≡ true)
+either-cases true b h = inl refl
+either-cases false b h = inr h
+
+-- one call more, at the end of a list
+pub again : (xs ys zs : List Call) → (xs ++ ys) ++ zs ≡ xs ++ (ys ++ zs)
+again [] ys zs = refl
+again (x ∷ xs) ys zs = ap (λ (l : List Call). x ∷ l) (again xs ys zs)
+
+at-end : (xs : List Call) → xs ++ [] ≡ xs
+at-end [] = refl
+at-end (x ∷ xs) = ap (λ (l : List Call). x ∷ l) (at-end xs)
+
+pub run-then : (p : Plain) (xs : List Call) (c : Call) → run p (xs ++ (c ∷ [])) ≡ step (run p xs) c .head
+unfolding run
+run-then p [] c = refl
+run-then p (x ∷ xs) c = run-then (step p x .head) xs c
+
+stays-then : (s : NmtState) (p : Plain) (xs : List Call) (c : Call) → Stays s p xs → stateOf (step (run p xs) c .head) ≡ s → Stays s p (xs ++ (c ∷ []))
+unfolding Stays run
+stays-then s p [] c h e = (e, tt)
+stays-then s p (x ∷ xs) c h e = (h .0, stays-then s (step p x .head) xs c (h .1) e)
+
+run-on : (p : Plain) (xs ys : List Call) → run p (xs ++ ys) ≡ run (run p xs) ys
+unfolding run
+run-on p [] ys = refl
+run-on p (x ∷ xs) ys = run-on (step p x .head) xs ys
+
+-- the machine: in PreOperational2, at ReadyToOperate, enabled in PreOperational2; and outside of both, not enabled
+abbrev pre2 : CnNmtStateMachine → Bool
+pre2 m = sameState (m .«current_state») NmtPreOperational2
+
+abbrev ready : CnNmtStateMachine → Bool
+ready m = sameState (m .«current_state») NmtReadyToOperate
+
+abbrev enabling : CnNmtStateMachine → Bool
+enabling m = both (pre2 m) (m .«ready_to_operate_enabled»)
+
+abbrev calm : CnNmtStateMachine → Bool
+calm m = either (pre2 m) (either (ready m) (not (m .«ready_to_operate_enabled»)))
+
+-- an NMT event: enabled comes of an enable or StartNode in the same visit, and ReadyToOperate of that or of enabled
+abbrev asked-now : CnNmtStateMachine → NmtEvent → Bool
+asked-now m e = both (pre2 m) (asks e)
+
+abbrev comes : CnNmtStateMachine → NmtEvent → CnNmtStateMachine → Bool
+comes m e m′ =
+    both (calm m′)
+    (both (implies (enabling m′) (either (enabling m) (asked-now m e))) (implies (ready m′) (either (ready m) (either (enabling m) (asked-now m e)))))
+
+abbrev event-comes : NmtEvent → CnNmtStateMachine → Told → Bool
+event-comes e m w = implies (calm m) (comes m e (processed m e .machine))
+
+event-test : (m : CnNmtStateMachine) → always NmtEvents (λ e. every (event-comes e) m) ≡ true
+unfolding processed resetBy applied enter rowOf isReset statesEntered
+event-test m = refl
+
+event-came : (m : CnNmtStateMachine) (e : NmtEvent) → calm m ≡ true → comes m e (processed m e .machine) ≡ true
+event-came m e =
+    follows (calm m) (comes m e (processed m e .machine))
+    (every-at (event-comes e) m (told false false) (always-at NmtEvents (λ e. every (event-comes e) m) (event-test m) e))
+
+-- of a call c on the head p, whose machine is m after it
+record Came (p : Plain) (c : Call) (m : CnNmtStateMachine) : Type 0 where
+  calms : calm m ≡ true
+  opens : enabling m ≡ true → (enabling (p .nmt) ≡ true) ⊎ Asking p c
+  readies : ready m ≡ true → (ready (p .nmt) ≡ true) ⊎ ((enabling (p .nmt) ≡ true) ⊎ Asking p c)
+
+module _ (p : Plain) (c : Call) (h : calm (p .nmt) ≡ true) where
+  by-event : (e : NmtEvent) → (asked-now (p .nmt) e ≡ true → Asking p c) → Came p c (processed (p .nmt) e .machine)
+  by-event e f =
+      let m = p .nmt in
+      let m′ = processed (p .nmt) e .machine in
+      let t = event-came (p .nmt) e h in
+      let both-of = both-second (calm m′) _ t in
+      record {
+        calms = both-first (calm m′) _ t;
+        opens = λ o. asked (enabling m) (either-cases (enabling m) (asked-now m e) (follows (enabling m′) _ (both-first _ _ both-of) o));
+        readies =
+            λ r.
+            entered (either-cases (ready m) (either (enabling m) (asked-now m e)) (follows (ready m′) _ (both-second (implies (enabling m′) (either (enabling m) (asked-now m e))) _ both-of) r));
+      }
+    where
+      asked : (a : Bool) → (a ≡ true) ⊎ (asked-now (p .nmt) e ≡ true) → (a ≡ true) ⊎ Asking p c
+      asked a (inl x) = inl x
+      asked a (inr x) = inr (f x)
+
+      entered :
+          (ready (p .nmt) ≡ true) ⊎ (either (enabling (p .nmt)) (asked-now (p .nmt) e) ≡ true) →
+          (ready (p .nmt) ≡ true) ⊎ ((enabling (p .nmt) ≡ true) ⊎ Asking p c)
+      entered (inl x) = inl x
+      entered (inr x) = inr (asked (enabling (p .nmt)) (either-cases (enabling (p .nmt)) (asked-now (p .nmt) e) x))
+
+  stays : Came p c (p .nmt)
+  stays = record { calms = h; opens = λ o. inl o; readies = λ r. inl r }
+
+  unasked : (e : NmtEvent) → asks e ≡ false → asked-now (p .nmt) e ≡ true → Asking p c
+  unasked e a x = absurd (true≢false (sym (both-second (pre2 (p .nmt)) (asks e) x) ∙ a))
+
+  in-tick : {m : CnNmtStateMachine} → InTick (p .nmt) m → Came p c m
+  in-tick InTick.still = stays
+  in-tick InTick.fails = by-event Error (unasked Error refl)
+  in-tick InTick.times-out = by-event Timeout (unasked Timeout refl)
+
+  came : {m : CnNmtStateMachine} → Moves p c m → Came p c m
+  came Moves.same = stays
+  came Moves.takes-back = record { calms = h; opens = λ o. inl o; readies = λ r. inl r }
+  came (Moves.told n e x r) =
+      by-event e (λ a.
+      record {
+        number = n;
+        event = e;
+        call = x;
+        read = r;
+        passes = both-second (pre2 (p .nmt)) (asks e) a;
+        visit = state-is (stateOf p) NmtPreOperational2 (both-first (pre2 (p .nmt)) (asks e) a);
+      })
+  came (Moves.ticks t) = in-tick t
+
+-- after some calls from the head p
+record Known (p : Plain) (cs : List Call) : Type 0 where
+  calms : calm (run p cs .nmt) ≡ true
+  asked : enabling (run p cs .nmt) ≡ true → Asked p cs
+  entered : ready (run p cs .nmt) ≡ true → Enabled p cs
+
+asked-then : (p : Plain) {cs : List Call} → Asked p cs → (c : Call) → stateOf (step (run p cs) c .head) ≡ NmtPreOperational2 → Asked p (cs ++ (c ∷ []))
+asked-then p (visiting before a visit x s) c e =
+    subst (Asked p) (sym (again before (a ∷ visit) (c ∷ [])))
+    (visiting before a (visit ++ (c ∷ [])) x
+    (stays-then NmtPreOperational2 (run p before) (a ∷ visit) c s
+    (ap (λ (g : Plain). stateOf (step g c .head)) (sym (run-on p before (a ∷ visit))) ∙ e)))
+
+enabled-then : (p : Plain) {cs : List Call} → Enabled p cs → (c : Call) → stateOf (step (run p cs) c .head) ≡ NmtReadyToOperate → Enabled p (cs ++ (c ∷ []))
+enabled-then p (at-once before a after x s) c e =
+    subst (Enabled p) (sym (again before (a ∷ after) (c ∷ [])))
+    (at-once before a (after ++ (c ∷ [])) x
+    (stays-then NmtReadyToOperate (run p before) (a ∷ after) c s
+    (ap (λ (g : Plain). stateOf (step g c .head)) (sym (run-on p before (a ∷ after))) ∙ e)))
+enabled-then p (later {visited = visited} k a after s) c e =
+    subst (Enabled p) (sym (again visited (a ∷ after) (c ∷ [])))
+    (later k a (after ++ (c ∷ []))
+    (stays-then NmtReadyToOperate (run p visited) (a ∷ after) c s
+    (ap (λ (g : Plain). stateOf (step g c .head)) (sym (run-on p visited (a ∷ after))) ∙ e)))
+
+known-then : (p : Plain) (cs : List Call) (c : Call) → Known p cs → Known p (cs ++ (c ∷ []))
+unfolding Stays
+known-then p cs c k =
+    let g = run p cs in
+    let z = came g c (k .calms) (moves g c) in
+    let on : run p (cs ++ (c ∷ [])) .nmt ≡ step g c .head .nmt = ap (λ (g : Plain). g .nmt) (run-then p cs c) in
+    record {
+      calms = ap calm on ∙ z .calms;
+      asked = λ o. visits (sym (ap enabling on) ∙ o) (z .opens (sym (ap enabling on) ∙ o));
+      entered = λ r. enters (sym (ap ready on) ∙ r) (z .readies (sym (ap ready on) ∙ r));
+    }
+  where
+    g₀ : Plain
+    g₀ = run p cs
+
+    visits : enabling (step g₀ c .head .nmt) ≡ true → (enabling (g₀ .nmt) ≡ true) ⊎ Asking g₀ c → Asked p (cs ++ (c ∷ []))
+    visits o (inl x) = asked-then p (k .asked x) c (state-is _ NmtPreOperational2 (both-first (pre2 (step g₀ c .head .nmt)) _ o))
+    visits o (inr x) = visiting cs c [] x (state-is _ NmtPreOperational2 (both-first (pre2 (step g₀ c .head .nmt)) _ o), tt)
+
+    enters : ready (step g₀ c .head .nmt) ≡ true → (ready (g₀ .nmt) ≡ true) ⊎ ((enabling (g₀ .nmt) ≡ true) ⊎ Asking g₀ c) → Enabled p (cs ++ (c ∷ []))
+    enters r (inl x) = enabled-then p (k .entered x) c (state-is _ NmtReadyToOperate r)
+    enters r (inr (inl x)) = later (k .asked x) c [] (state-is _ NmtReadyToOperate r, tt)
+    enters r (inr (inr x)) = at-once cs c [] x (state-is _ NmtReadyToOperate r, tt)
+
+known-all : (p : Plain) (done cs : List Call) → Known p done → Known p (done ++ cs)
+known-all p done [] k = subst (Known p) (sym (at-end done)) k
+known-all p done (c ∷ cs) k = subst (Known p) (again done (c ∷ []) cs) (known-all p (done ++ (c ∷ [])) cs (known-then p done c k))
+
+-- what holds of the fresh head: neither in PreOperational2 nor at ReadyToOperate, and not enabled
+known-fresh : (s : Start) → Known (fresh s) []
+unfolding fresh run
+known-fresh s = record { calms = refl; asked = λ h. absurd (true≢false (sym h)); entered = λ h. absurd (true≢false (sym h)) }
+
+-- AT READYTOOPERATE, after any list of calls from a fresh head
+pub enabled-before : (s : Start) (cs : List Call) → stateOf (run (fresh s) cs) ≡ NmtReadyToOperate → Enabled (fresh s) cs
+enabled-before s cs h = known-all (fresh s) [] cs (known-fresh s) .entered (is-state _ NmtReadyToOperate h)
+
+-- The ready word. Ready comes of a ready word in PreOperational2, and no call that leaves it on is a withdrawal that was accepted.
+abbrev Wording : Plain → Call → Type 0
+Wording p c = InVisit (λ (e : NmtEvent). e ≡ CnConfigurationComplete) p c
+
+abbrev worded-now : CnNmtStateMachine → NmtEvent → Bool
+worded-now m e = both (pre2 m) (sameEvent e CnConfigurationComplete)
+
+abbrev event-words : NmtEvent → CnNmtStateMachine → Told → Bool
+event-words e m w = implies (processed m e .machine .«app_ready») (either (m .«app_ready») (worded-now m e))
+
+word-test : (m : CnNmtStateMachine) → always NmtEvents (λ e. every (event-words e) m) ≡ true
+unfolding processed resetBy applied enter rowOf isReset statesEntered
+word-test m = refl
+
+event-is : (d e : NmtEvent) → sameEvent d e ≡ true → d ≡ e
+event-is d e h =
+    let t : event.Taken d ≡ event.Taken e =
+    sym (events-faithful .back d) ∙ ap readEvent (eqb-true (eventNumber d) (eventNumber e) h) ∙ events-faithful .back e in
+    cc
+
+module _ (p : Plain) (c : Call) where
+  word-by : (e : NmtEvent) → (worded-now (p .nmt) e ≡ true → Wording p c) → processed (p .nmt) e .machine .«app_ready» ≡ true → (p .nmt .«app_ready» ≡ true) ⊎ Wording p c
+  word-by e f h =
+      by (either-cases (p .nmt .«app_ready») (worded-now (p .nmt) e)
+      (follows (processed (p .nmt) e .machine .«app_ready») (either (p .nmt .«app_ready») (worded-now (p .nmt) e))
+      (every-at (event-words e) (p .nmt) (told false false) (always-at NmtEvents (λ e. every (event-words e) (p .nmt)) (word-test (p .nmt)) e)) h))
+    where
+      by : (p .nmt .«app_ready» ≡ true) ⊎ (worded-now (p .nmt) e ≡ true) → (p .nmt .«app_ready» ≡ true) ⊎ Wording p c
+      by (inl x) = inl x
+      by (inr x) = inr (f x)
+
+  unworded : (e : NmtEvent) → sameEvent e CnConfigurationComplete ≡ false → worded-now (p .nmt) e ≡ true → Wording p c
+  unworded e a x = absurd (true≢false (sym (both-second (pre2 (p .nmt)) (sameEvent e CnConfigurationComplete) x) ∙ a))
+
+  word-in-tick : {m : CnNmtStateMachine} → InTick (p .nmt) m → m .«app_ready» ≡ true → (p .nmt .«app_ready» ≡ true) ⊎ Wording p c
+  word-in-tick InTick.still h = inl h
+  word-in-tick InTick.fails h = word-by Error (unworded Error refl) h
+  word-in-tick InTick.times-out h = word-by Timeout (unworded Timeout refl) h
+
+  word-came : {m : CnNmtStateMachine} → Moves p c m → m .«app_ready» ≡ true → (p .nmt .«app_ready» ≡ true) ⊎ Wording p c
+  word-came Moves.same h = inl h
+  word-came Moves.takes-back h = absurd (true≢false (sym h))
+  word-came (Moves.told n e x r) h =
+      word-by e (λ a.
+      record {
+        number = n;
+        event = e;
+        call = x;
+        read = r;
+        passes = event-is e CnConfigurationComplete (both-second (pre2 (p .nmt)) (sameEvent e CnConfigurationComplete) a);
+        visit = state-is (stateOf p) NmtPreOperational2 (both-first (pre2 (p .nmt)) (sameEvent e CnConfigurationComplete) a);
+      }) h
+  word-came (Moves.ticks t) h = word-in-tick t h
+
+-- a call that leaves the machine ready is no withdrawal that was accepted
+not-withdrawn : (p : Plain) (c : Call) → step p c .head .nmt .«app_ready» ≡ true → both (isWithdraw c) (isTaken (step p c .answer)) ≡ false
+not-withdrawn p (nmtEvent n) h = refl
+not-withdrawn p (dllEvent n x) h = refl
+not-withdrawn p (error k a b) h = refl
+not-withdrawn p cycleComplete h = refl
+not-withdrawn p withdraw h = by (not (sameState (stateOf p) NmtReadyToOperate)) h
+  where
+    by :
+        (b : Bool) →
+        pick b (answers (withNmt p (withdrawn (p .nmt))) taken []) (declines p [] ReadyToOperate) .head .nmt .«app_ready» ≡ true →
+        isTaken (pick b (answers (withNmt p (withdrawn (p .nmt))) taken []) (declines p [] ReadyToOperate) .answer) ≡ false
+    by true g = absurd (true≢false (sym g))
+    by false g = refl
+not-withdrawn p (heard n t ws) h = refl
+not-withdrawn p handOut h = refl
+not-withdrawn p (load v u) h = refl
+not-withdrawn p (arm t) h = refl
+not-withdrawn p (tick t ws) h = refl
+
+none-then :
+    (p : Plain) (xs : List Call) (c : Call) → NoneWithdrawn p xs → both (isWithdraw c) (isTaken (step (run p xs) c .answer)) ≡ false →
+    NoneWithdrawn p (xs ++ (c ∷ []))
+unfolding NoneWithdrawn run
+none-then p [] c h e = (e, tt)
+none-then p (x ∷ xs) c h e = (h .0, none-then (step p x .head) xs c (h .1) e)
+
+word-then :
+    (p : Plain) {cs : List Call} → ReadyWord p cs → (c : Call) → both (isWithdraw c) (isTaken (step (run p cs) c .answer)) ≡ false →
+    ReadyWord p (cs ++ (c ∷ []))
+word-then p (first {cs = cs} k) c e = first (none-then p cs c k e)
+word-then p (given before a after x k) c e =
+    subst (ReadyWord p) (sym (again before (a ∷ after) (c ∷ [])))
+    (given before a (after ++ (c ∷ [])) x
+    (none-then (run p before) (a ∷ after) c k
+    (ap (λ (g : Plain). both (isWithdraw c) (isTaken (step g c .answer))) (sym (run-on p before (a ∷ after))) ∙ e)))
+
+word-all : (p : Plain) (done cs : List Call) → (run p done .nmt .«app_ready» ≡ true → ReadyWord p done) → run p (done ++ cs) .nmt .«app_ready» ≡ true → ReadyWord p (done ++ cs)
+unfolding NoneWithdrawn
+word-all p done [] k = subst (λ (l : List Call). run p l .nmt .«app_ready» ≡ true → ReadyWord p l) (sym (at-end done)) k
+word-all p done (c ∷ cs) k =
+    subst (λ (l : List Call). run p l .nmt .«app_ready» ≡ true → ReadyWord p l) (again done (c ∷ []) cs) (word-all p (done ++ (c ∷ [])) cs next)
+  where
+    next : run p (done ++ (c ∷ [])) .nmt .«app_ready» ≡ true → ReadyWord p (done ++ (c ∷ []))
+    next h = by (word-came (run p done) c (moves (run p done) c) g)
+      where
+        g : step (run p done) c .head .nmt .«app_ready» ≡ true
+        g = sym (ap (λ (q : Plain). q .nmt .«app_ready») (run-then p done c)) ∙ h
+
+        by : (run p done .nmt .«app_ready» ≡ true) ⊎ Wording (run p done) c → ReadyWord p (done ++ (c ∷ []))
+        by (inl x) = word-then p (k x) c (not-withdrawn (run p done) c g)
+        by (inr x) = given done c [] x (not-withdrawn (run p done) c g, tt)
+
+pub word-before : (s : Start) (cs : List Call) → run (fresh s) cs .nmt .«app_ready» ≡ true → ReadyWord (fresh s) cs
+unfolding NoneWithdrawn
+word-before s cs h = word-all (fresh s) [] cs (λ g. first tt) h

@@ -1,0 +1,89 @@
+-- How a head came to ReadyToOperate, over the list of calls itself: where in it the enable and the ready word stand.
+-- Assumes nothing.
+use Prim.Native.Nat.{ℕ}
+use mathlib.Core.Path.{_≡_}
+use mathlib.Core.Bool.{Bool, true, false}
+use mathlib.Core.List.{List, [], _∷_, _++_}
+use Rattle.types.specs.Pick.{both}
+use Rattle.types.specs.Events.{readEvent}
+use Rattle.types.specs.declared.nmt.states.NmtState.{NmtState}
+use Rattle.types.specs.declared.nmt.states.NmtState.the-variants.{NmtPreOperational2, NmtReadyToOperate}
+use Rattle.types.specs.declared.nmt.events.NmtEvent.{NmtEvent}
+use Rattle.types.specs.declared.nmt.events.NmtEvent.the-variants.{CnConfigurationComplete}
+use Rattle.types.specs.declared.nmt.events.NmtEventRead.the-variants.{Taken}
+use Rattle.node.specs.Plain.{Plain, Call, nmtEvent, dllEvent, error, cycleComplete, withdraw, heard, handOut, load, arm, tick, Answer, refused, taken, nmtAnswer, dllAnswer, errorAnswer, cycleAnswer, handOutAnswer, tickAnswer}
+use Rattle.node.specs.Run.{step, run}
+use Rattle.trace.specs.Tally.{asks}
+
+abbrev pub stateOf : Plain → NmtState
+stateOf p = p .nmt .«current_state»
+
+-- from the head p on, after each of the calls the NMT state is s
+unfoldable pub Stays : NmtState → Plain → List Call → Type 0
+Stays s p [] = Unit {0}
+Stays s p (c ∷ cs) = (stateOf (step p c .head) ≡ s) × Stays s (step p c .head) cs
+
+-- an NMT event by its number, taken in PreOperational2, which passes a test
+pub record InVisit (test : NmtEvent → Type 0) (p : Plain) (c : Call) : Type 0 where
+  pub number : ℕ
+  pub event : NmtEvent
+  pub call : c ≡ nmtEvent number
+  pub read : readEvent number ≡ Taken event
+  pub passes : test event
+  pub visit : stateOf p ≡ NmtPreOperational2
+
+-- "an enable or StartNode came"
+abbrev pub Asking : Plain → Call → Type 0
+Asking p c = InVisit (λ (e : NmtEvent). asks e ≡ true) p c
+
+-- In PreOperational2: some calls, then an enable or StartNode, and from there on the head stays there.
+pub data Asked (p : Plain) : List Call → Type 0 where
+  visiting :
+      (before : List Call) (c : Call) (visit : List Call) → Asking (run p before) c → Stays NmtPreOperational2 (run p before) (c ∷ visit) →
+      Asked p (before ++ (c ∷ visit))
+
+-- "At ReadyToOperate, an enable or StartNode came during the PreOperational2 visit just before": it entered ReadyToOperate itself, or the head stayed in
+-- PreOperational2 until another call entered ReadyToOperate; from there on the head stays there.
+pub data Enabled (p : Plain) : List Call → Type 0 where
+  at-once :
+      (before : List Call) (c : Call) (after : List Call) → Asking (run p before) c → Stays NmtReadyToOperate (run p before) (c ∷ after) →
+      Enabled p (before ++ (c ∷ after))
+  later :
+      {visited : List Call} → Asked p visited → (c : Call) (after : List Call) → Stays NmtReadyToOperate (run p visited) (c ∷ after) →
+      Enabled p (visited ++ (c ∷ after))
+
+-- "a withdrawal counts when accepted"
+abbrev pub isWithdraw : Call → Bool
+isWithdraw (nmtEvent n) = false
+isWithdraw (dllEvent n x) = false
+isWithdraw (error k a b) = false
+isWithdraw cycleComplete = false
+isWithdraw withdraw = true
+isWithdraw (heard n t ws) = false
+isWithdraw handOut = false
+isWithdraw (load v h) = false
+isWithdraw (arm t) = false
+isWithdraw (tick t ws) = false
+
+abbrev pub isTaken : Answer → Bool
+isTaken taken = true
+isTaken (refused r) = false
+isTaken (nmtAnswer es r) = false
+isTaken (dllAnswer es) = false
+isTaken (errorAnswer a s es) = false
+isTaken (cycleAnswer b) = false
+isTaken (handOutAnswer f) = false
+isTaken (tickAnswer es) = false
+
+-- from the head p on, no withdrawal is accepted
+unfoldable pub NoneWithdrawn : Plain → List Call → Type 0
+NoneWithdrawn p [] = Unit {0}
+NoneWithdrawn p (c ∷ cs) = (both (isWithdraw c) (isTaken (step p c .answer)) ≡ false) × NoneWithdrawn (step p c .head) cs
+
+-- "and the application's last counted word is ready": the fresh head's, or a ready word that came in PreOperational2; and no withdrawal was accepted
+-- behind it
+pub data ReadyWord (p : Plain) : List Call → Type 0 where
+  first : {cs : List Call} → NoneWithdrawn p cs → ReadyWord p cs
+  given :
+      (before : List Call) (c : Call) (after : List Call) → InVisit (λ (e : NmtEvent). e ≡ CnConfigurationComplete) (run p before) c →
+      NoneWithdrawn (run p before) (c ∷ after) → ReadyWord p (before ++ (c ∷ after))
