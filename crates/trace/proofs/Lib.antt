@@ -7,4 +7,5 @@ pub mod Visits
 pub mod Keeps
 pub mod Follows
 pub mod Driven
+pub mod Corollaries
 pub mod Worked

@@ -60,9 +60,17 @@ pub record Seen : Type 0 where
   pub capacity : ℕ
   pub queue : List ErrorEntry
   pub lost : ℕ
+  pub last : ℕ
 
 abbrev pub seen : Plain → Seen
-seen p = record { nmt = p .nmt; capacity = p .capacity; queue = p .queue; lost = p .od .«counter_3» }
+seen p =
+    record {
+      nmt = p .nmt;
+      capacity = p .capacity;
+      queue = p .queue;
+      lost = p .od .«counter_3»;
+      last = p .soc .«last_soc_reception_time_us»;
+    }
 
 abbrev full : Seen → Bool
 full s = leb (s .capacity) (length (s .queue))
@@ -91,6 +99,8 @@ pub record Part (s : Seen) (e : CnErrorCounters) (k : Ticked) : Type 0 where
   pub moves : InTick (s .nmt) (k .head .nmt)
   pub counts : Counting e (k .marks) (k .head .errors)
   pub enters : Enters s (k .crossings) (k .head .queue) (k .head .od .«counter_3»)
+  -- a tick leaves the last SoC time
+  pub last : k .head .soc .«last_soc_reception_time_us» ≡ s .last
 
 abbrev pub PartOf : Plain → Ticked → Type 0
 PartOf p k = Part (seen p) (p .errors) k
@@ -112,7 +122,7 @@ picked P false h g = g
 idle : (p : Plain) → WalkOf p (goesOn p)
 idle p =
     record {
-      part = record { moves = still; counts = counting-none (p .errors); enters = none };
+      part = record { moves = still; counts = counting-none (p .errors); enters = none; last = refl };
       stays = λ h. refl;
       uncrossed = λ h. refl;
     }
@@ -128,6 +138,7 @@ module _ (s : Seen) (e : CnErrorCounters) (a : Ticked) (w : Walk s e a) (b : Tic
         enters =
             subst (λ (cs : List ErrorEntry). Enters s (cs ++ b .crossings) (b .head .queue) (b .head .od .«counter_3»)) (sym (w .uncrossed h))
             (subst (λ (s : Seen). Enters s (b .crossings) (b .head .queue) (b .head .od .«counter_3»)) z (g .enters));
+        last = g .last ∙ ap (λ (s : Seen). s .last) z;
       }
 
   part-then : PartOf (a .head) b → Part s e (pick (a .ended) a (behind a b))
@@ -153,29 +164,32 @@ module _ (s : Seen) (e : CnErrorCounters) (a : Ticked) (w : Walk s e a) (b : Tic
 finishes :
     (p g : Plain) (ends : Bool) (es : List DllError) (ms : List Mark) (cs : List ErrorEntry) →
     g .nmt ≡ p .nmt →
+    g .soc .«last_soc_reception_time_us» ≡ p .soc .«last_soc_reception_time_us» →
     Counting (p .errors) ms (g .errors) →
     Enters (seen p) cs (g .queue) (g .od .«counter_3») →
     (ends ≡ false → seen g ≡ seen p) →
     (ends ≡ false → cs ≡ []) →
     WalkOf p (finished ends es ms cs g)
-finishes p g true es ms cs m c n s u =
+finishes p g true es ms cs m l c n s u =
     record {
       part =
           record {
             moves = subst (λ (m : CnNmtStateMachine). InTick (p .nmt) (Nmt.processed m Error .machine)) (sym m) fails;
             counts = c;
             enters = n;
+            last = l;
           };
       stays = λ h. absurd (true≢false h);
       uncrossed = λ h. absurd (true≢false h);
     }
-finishes p g false es ms cs m c n s u =
+finishes p g false es ms cs m l c n s u =
     record {
       part =
           record {
             moves = subst (λ (m : CnNmtStateMachine). InTick (p .nmt) m) (sym m) still;
             counts = c;
             enters = n;
+            last = l;
           };
       stays = s;
       uncrossed = u;
@@ -187,8 +201,8 @@ beat-by p ms r c = by (r .signal)
   where
     by : (b : Bool) → WalkOf p (dealt r ms [] (pick b (signalled (withErrors p (r .counters))) (withErrors p (r .counters))))
     by true =
-        finishes p (signalled (withErrors p (r .counters))) (acts (r .action)) _ ms [] refl c none (λ h. refl) (λ h. refl)
-    by false = finishes p (withErrors p (r .counters)) (acts (r .action)) _ ms [] refl c none (λ h. refl) (λ h. refl)
+        finishes p (signalled (withErrors p (r .counters))) (acts (r .action)) _ ms [] refl refl c none (λ h. refl) (λ h. refl)
+    by false = finishes p (withErrors p (r .counters)) (acts (r .action)) _ ms [] refl refl c none (λ h. refl) (λ h. refl)
 
 pub beat-walk : (p : Plain) (w : WatchedNode) → WalkOf p (beat p w)
 unfolding beat
@@ -231,10 +245,10 @@ module _ (p : Plain) (ms : List Mark) (x : ErrorEntry) (r : HandledError) (c : C
 
   crosses : r .signal ≡ true → (b : Bool) → full (seen p) ≡ b → WalkOf p (dealt r ms (x ∷ []) (joins (not b)))
   crosses h true f =
-      finishes p (joins false) (acts (r .action)) _ ms (x ∷ []) refl c (entered (seen p) x true f)
+      finishes p (joins false) (acts (r .action)) _ ms (x ∷ []) refl refl c (entered (seen p) x true f)
       (λ a. absurd (true≢false (sym h ∙ q a))) (λ a. absurd (true≢false (sym h ∙ q a)))
   crosses h false f =
-      finishes p (joins true) (acts (r .action)) _ ms (x ∷ []) refl c (entered (seen p) x false f)
+      finishes p (joins true) (acts (r .action)) _ ms (x ∷ []) refl refl c (entered (seen p) x false f)
       (λ a. absurd (true≢false (sym h ∙ q a))) (λ a. absurd (true≢false (sym h ∙ q a)))
 
   deal-by : WalkOf p (dealBy p ms x r)
@@ -245,7 +259,7 @@ module _ (p : Plain) (ms : List Mark) (x : ErrorEntry) (r : HandledError) (c : C
       by true h =
           subst (λ (b : Bool). WalkOf p (dealt r ms (x ∷ []) (joins b))) (sym (room-or-full (length (p .queue)) (p .capacity)))
           (crosses h (full (seen p)) refl)
-      by false h = finishes p g (acts (r .action)) _ ms [] refl c none (λ a. refl) (λ a. refl)
+      by false h = finishes p g (acts (r .action)) _ ms [] refl refl c none (λ a. refl) (λ a. refl)
 
 pub deal-walk : (t : ℕ) (p : Plain) (e : DllError) → isQuiet e ≡ true → WalkOf p (deal t p e)
 unfolding deal
@@ -300,7 +314,7 @@ soc-check-walk p t =
 pub times-out-part : (p : Plain) → PartOf p (goesOn (timesOut p))
 times-out-part p =
     picked (λ (g : Plain). PartOf p (goesOn g)) (ltb 0 (basicTimeout p))
-    (record { moves = times-out; counts = counting-none (p .errors); enters = none }) (idle p .part)
+    (record { moves = times-out; counts = counting-none (p .errors); enters = none; last = refl }) (idle p .part)
 
 pub passed-part : (p : Plain) (t : ℕ) → PartOf p (passed p t)
 passed-part p t = picked (PartOf p) (atNotActive p) (times-out-part p) (soc-check-walk p t .part)
