@@ -1,5 +1,8 @@
 // The error counters at a sequence of errors and completed cycles: the answer to each call, with the levels and counts after it,
 // one form a line. The stored output was printed by the Rust (compare/), so a run shows that both agree.
+ghost use mathlib.Core.Path.{_≡_};
+ghost use Prim.Native.Nat.{_+_, _*_, _%_};
+ghost use Rattle.counting.specs.Shown.{levelsOf, countsOf};
 use counters::counters::CnErrorCounters;
 use counters::counters::HandledError;
 use libc::STDOUT_FILENO;
@@ -73,7 +76,9 @@ fn say_each(numbers: [u32; 7]) {
     }
 }
 
-fn levels(c: CnErrorCounters) -> [u32; 7] {
+fn levels(c: CnErrorCounters) -> [u32; 7]
+    ensures { λ r. ⌜ r ≡ levelsOf c ⌝ }
+{
     [
         c.collision.threshold_cnt,
         c.loss_of_soc.threshold_cnt,
@@ -85,7 +90,9 @@ fn levels(c: CnErrorCounters) -> [u32; 7] {
     ]
 }
 
-fn counts(c: CnErrorCounters) -> [u32; 7] {
+fn counts(c: CnErrorCounters) -> [u32; 7]
+    ensures { λ r. ⌜ r ≡ countsOf c ⌝ }
+{
     [
         c.collision.cumulative_cnt,
         c.loss_of_soc.cumulative_cnt,
@@ -151,7 +158,9 @@ fn print_call(counters: CnErrorCounters, number: u64) -> CnErrorCounters {
 }
 
 // The generator of compare/driver/generator.rs. It keeps x below 2^31; the first `%` says so where the product must fit.
-fn next(x: u64) -> u64 {
+fn next(x: u64) -> u64
+    ensures { λ r. ⌜ r ≡ (x % 2147483648 * 1103515245 + 12345) % 2147483648 ⌝ }
+{
     (x % 2147483648 * 1103515245 + 12345) % 2147483648
 }
 

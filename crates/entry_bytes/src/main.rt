@@ -1,5 +1,7 @@
 // What is read in patterns of 20 bytes and written of that, and the error history while entries join it, one form a line. The
 // stored output was printed by the Rust (compare/), so a run shows that both agree.
+ghost use mathlib.Core.Path.{_≡_};
+ghost use Rattle.entry_bytes.specs.Patterns.{drawn, last, patternFrom, numbered};
 use entries::error_history::ErrorHistory;
 use entries::error_history::write_error_to_history;
 use entries::status_response::EntryType;
@@ -87,7 +89,9 @@ fn print_entry(pattern: &[u8]) {
 }
 
 // The generator of compare/driver/generator.rs. It keeps x below 2^31; the first `%` says so where the product must fit.
-fn next(x: u64) -> u64 {
+fn next(x: u64) -> u64
+    ensures { λ r. ⌜ r ≡ drawn x ⌝ }
+{
     (x % 2147483648 * 1103515245 + 12345) % 2147483648
 }
 
@@ -115,7 +119,9 @@ fn print_patterns() {
 }
 
 // An entry like that of a crossing, with a number in its code and its seconds.
-fn numbered_entry(number: u16) -> ErrorEntry {
+fn numbered_entry(number: u16) -> ErrorEntry
+    ensures { λ r. ⌜ r ≡ numbered number ⌝ }
+{
     let entry_type = EntryType {
         is_status_entry: false,
         send_to_queue: true,

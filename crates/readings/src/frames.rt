@@ -1,4 +1,7 @@
 // The message types, and the events of each kind of frame.
+ghost use mathlib.Core.Path.{_≡_};
+ghost use Rattle.types.specs.Frames.{readMessage};
+ghost use Rattle.readings.specs.Shown.{ofMessage};
 use crate::Reading;
 use crate::print_reading;
 use crate::say;
@@ -8,7 +11,9 @@ use types::frame::FrameNmtEvent;
 use types::types::MessageType;
 use types::types::MessageTypeRead;
 
-fn message(n: u8) -> Reading {
+fn message(n: u8) -> Reading
+    ensures { λ r. ⌜ r ≡ ofMessage (readMessage n) ⌝ }
+{
     match MessageType::try_from(n) {
         MessageTypeRead::Taken(kind) => Reading::Number(kind.as_u8()),
         MessageTypeRead::Unknown => Reading::Nothing,

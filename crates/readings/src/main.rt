@@ -1,5 +1,10 @@
 // What each 8-bit number is read as, the named node numbers, the events of each kind of frame, the code of each kind of error, the feature flags and times at their limits,
 // one form a line. The stored output was printed by the Rust (compare/), so a run shows that both agree.
+ghost use mathlib.Core.Path.{_≡_};
+ghost use Rattle.types.specs.States.{readState};
+ghost use Rattle.types.specs.Events.{readCommand, readManaging};
+ghost use Rattle.readings.specs.Shown.{ofState, ofCommand, ofManaging, flagAt};
+
 mod frames;
 mod times;
 
@@ -79,21 +84,27 @@ enum Reading {
     Nothing,
 }
 
-fn state(n: u64) -> Reading {
+fn state(n: u64) -> Reading
+    ensures { λ r. ⌜ r ≡ ofState (readState n) ⌝ }
+{
     match NmtState::try_from(n) {
         NmtStateRead::Taken(state) => Reading::Number(state.as_u8()),
         NmtStateRead::Refused(_) => Reading::Nothing,
     }
 }
 
-fn command(n: u64) -> Reading {
+fn command(n: u64) -> Reading
+    ensures { λ r. ⌜ r ≡ ofCommand (readCommand n) ⌝ }
+{
     match NmtStateCommand::try_from(n) {
         NmtStateCommandRead::Taken(command) => Reading::Number(command.as_u8()),
         NmtStateCommandRead::Refused(_) => Reading::Nothing,
     }
 }
 
-fn managing_command(n: u64) -> Reading {
+fn managing_command(n: u64) -> Reading
+    ensures { λ r. ⌜ r ≡ ofManaging (readManaging n) ⌝ }
+{
     match NmtManagingCommand::try_from(n) {
         NmtManagingCommandRead::Taken(command) => Reading::Number(command.as_u8()),
         NmtManagingCommandRead::Refused(_) => Reading::Nothing,
@@ -149,7 +160,9 @@ fn print_codes() {
 }
 
 // The flags in the order of their declaration.
-fn flag(k: u64) -> FeatureFlags {
+fn flag(k: u64) -> FeatureFlags
+    ensures { λ r. ⌜ r ≡ flagAt k ⌝ }
+{
     match k {
         0 => FeatureFlags::ISOCHRONOUS,
         1 => FeatureFlags::SDO_UDP,

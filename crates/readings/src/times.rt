@@ -1,4 +1,6 @@
 // NetTime at ordinary values and at the limits.
+ghost use mathlib.Core.Path.{_≡_};
+ghost use Rattle.readings.specs.Shown.{timeAt};
 use crate::say;
 use crate::say_number;
 use types::common::NetTime;
@@ -25,7 +27,9 @@ const NANOS: [u64; 5] = [
 ];
 
 // The times that are added to and compared.
-fn time(i: usize) -> NetTime {
+fn time(i: usize) -> NetTime
+    ensures { λ r. ⌜ r ≡ timeAt i ⌝ }
+{
     match i {
         0 => NetTime::new(0, 0),
         1 => NetTime::new(0, 999_999_999),
