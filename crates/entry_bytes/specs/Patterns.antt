@@ -2,7 +2,8 @@
 -- Assumes nothing.
 use Prim.Native.Nat.{ℕ, zero, suc, _+_, _*_, _/_, _%_}
 use mathlib.Core.Bool.{true, false}
-use mathlib.Core.List.{List, [], _∷_}
+use mathlib.Core.List.{List}
+use lib.ListN.{set}
 use Rattle.types.specs.Common.{netTime}
 use Rattle.entries.specs.declared.status_response.ErrorEntryMode.the-variants.{EventOccurred}
 use Rattle.entries.specs.declared.status_response.ErrorEntry.{ErrorEntry}
@@ -11,14 +12,15 @@ use Rattle.entries.specs.declared.status_response.ErrorEntry.{ErrorEntry}
 abbrev pub drawn : ℕ → ℕ
 drawn x = (x % 2147483648 * 1103515245 + 12345) % 2147483648
 
--- the last of the k numbers that follow x, and their bytes
+-- the last of the k numbers that follow x
 abbrev pub last : ℕ → ℕ → ℕ
 last zero x = x
 last (suc k) x = last k (drawn x)
 
-abbrev pub patternFrom : ℕ → ℕ → List ℕ
-patternFrom zero x = []
-patternFrom (suc k) x = (drawn x / 65536 % 256) ∷ patternFrom k (drawn x)
+-- a pattern p with a byte of each of these numbers, from place i on
+abbrev pub filled : ℕ → ℕ → ℕ → List ℕ → List ℕ
+filled zero i x p = p
+filled (suc k) i x p = filled k (i + 1) (drawn x) (set p i (drawn x / 65536 % 256))
 
 -- an entry like that of a crossing, with a number in its code and its seconds
 abbrev pub numbered : ℕ → ErrorEntry

@@ -1,7 +1,7 @@
 // What is read in patterns of 20 bytes and written of that, and the error history while entries join it, one form a line. The
 // stored output was printed by the Rust (compare/), so a run shows that both agree.
 ghost use mathlib.Core.Path.{_≡_};
-ghost use Rattle.entry_bytes.specs.Patterns.{drawn, last, patternFrom, numbered};
+ghost use Rattle.entry_bytes.specs.Patterns.{drawn, last, filled, numbered};
 use entries::error_history::ErrorHistory;
 use entries::error_history::write_error_to_history;
 use entries::status_response::EntryType;
@@ -96,7 +96,9 @@ fn next(x: u64) -> u64
 }
 
 // Fills the pattern with the bytes of the numbers that follow x; the last of these numbers.
-fn fill(pattern: &mut [u8; 20], mut x: u64) -> u64 {
+fn fill(pattern: &mut [u8; 20], mut x: u64) -> u64
+    ensures { λ r. ⌜ (r ≡ last 20 x) × (now (pattern .exit) ≡ filled 20 0 x (now (pattern .entry))) ⌝ }
+{
     for i in 0..20usize {
         x = next(x);
         pattern[i] = (x / 65536 % 256) as u8;

@@ -1,5 +1,7 @@
 // Every pair of the NMT and of the DLL state machine, one form a line. The stored output was printed by the Rust (compare/), so
 // a run shows that both agree.
+ghost use mathlib.Core.Path.{_≡_};
+ghost use Rattle.transitions.specs.Pairs.{stateAt, eventAt, csEventAt, csStateAt, machineOf};
 use dll::cs_state_machine::DllAnswer;
 use dll::cs_state_machine::DllCsState;
 use dll::cs_state_machine::DllCsStateMachine;
@@ -89,28 +91,36 @@ const STATES: [u64; 12] = [
     0x1E,
 ];
 
-fn state_at(i: usize) -> NmtState {
+fn state_at(i: usize) -> NmtState
+    ensures { λ r. ⌜ r ≡ stateAt i ⌝ }
+{
     match NmtState::try_from(STATES[i % 12]) {
         NmtStateRead::Taken(state) => state,
         NmtStateRead::Refused(_) => NmtState::NmtGsOff,
     }
 }
 
-fn event_at(i: usize) -> NmtEvent {
+fn event_at(i: usize) -> NmtEvent
+    ensures { λ r. ⌜ r ≡ eventAt i ⌝ }
+{
     match NmtEvent::try_from(i as u64) {
         NmtEventRead::Taken(event) => event,
         NmtEventRead::Refused(_) => NmtEvent::StartNode,
     }
 }
 
-fn cs_event_at(i: usize) -> DllCsEvent {
+fn cs_event_at(i: usize) -> DllCsEvent
+    ensures { λ r. ⌜ r ≡ csEventAt i ⌝ }
+{
     match DllCsEvent::try_from(i as u64) {
         DllCsEventRead::Taken(event) => event,
         DllCsEventRead::Refused(_) => DllCsEvent::Soc,
     }
 }
 
-fn cs_state_at(i: usize) -> DllCsState {
+fn cs_state_at(i: usize) -> DllCsState
+    ensures { λ r. ⌜ r ≡ csStateAt i ⌝ }
+{
     match i {
         0 => DllCsState::NonCyclic,
         1 => DllCsState::WaitSoc,
@@ -218,7 +228,9 @@ fn print_nmt_event(machine: CnNmtStateMachine, event: NmtEvent) {
     say_nmt_answer(event, machine.process_event(event));
 }
 
-fn machine_at(state: NmtState, enabled: bool, ready: bool) -> CnNmtStateMachine {
+fn machine_at(state: NmtState, enabled: bool, ready: bool) -> CnNmtStateMachine
+    ensures { λ r. ⌜ r ≡ machineOf state enabled ready ⌝ }
+{
     CnNmtStateMachine {
         current_state: state,
         node_id: NodeId(7),
