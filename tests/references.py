@@ -2,9 +2,10 @@
 """What the documents and comments refer to is there.
 
   - a link of a document leads to a file
-  - `path` and `path:name` between backquotes: the file is there and has the name, whole and not cut short
-  - another name between backquotes in docs/CLAIMS.md stands in the file that its row named last, or somewhere in the code
-  - a file that a comment names, by its path from the root or from its crate, is there"""
+  - a file that a document or a comment names, by its path or by the end of it, is there; of `file:name` the file has the name
+  - another name between backquotes stands in the code, and that of a comment not in comments alone
+
+A name is looked up whole: one that is cut short is not there. docs/CHANGES.md tells of each step by the names of its time, so names alone are not looked up there."""
 import os
 import re
 import sys
@@ -16,6 +17,12 @@ for folder, inside, names in os.walk('.'):
     FILES += [os.path.relpath(os.path.join(folder, n)) for n in names]
 FILES.sort()
 TOP = ('crates', 'compare', 'tests', 'docs', 'scripts')
+MARKS = {'.rt': '//', '.antt': '--', '.rs': '//', '.sh': '#', '.py': '#'}
+# a file's name with its folders; of the original Rust only what is in compare/ is here
+FILE = r'(?<![\w/.·*$-])((?:[\w.-]+/)*[\w-]+\.(?:rt\.txt|antt|rt|edit|sh|py|md|txt|out)|(?:%s)/[\w./-]*\.rs)\b' % '|'.join(TOP)
+NAME = r"[\w·′-]+(::[\w·′-]+)*"
+# what the Rust has and we leave out, what is gone, and a file of the kit
+ELSEWHERE = {'from_od', 'TimeOfDay', 'TimeDifference', 'dll_mn_event', 'startup', 'Denote/Struct/Field.antt'}
 TEXT = {}
 wrong = []
 
@@ -27,13 +34,28 @@ def text(path):
     return TEXT[path]
 
 
+def comment(file, line):
+    """The comment of a line; of a script only a line of its own."""
+    mark = MARKS.get(os.path.splitext(file)[1], '#' if os.path.basename(file) == 'Makefile' else None)
+    at = line.find(mark) if mark else -1
+    return '' if at < 0 or mark == '#' and line[:at].strip() else line[at:]
+
+
+def is_code(file):
+    return file.startswith('crates/') and file.endswith(('.rt', '.antt'))
+
+
+CODE = {f: '\n'.join(line[:len(line) - len(comment(f, line))] for line in text(f).split('\n')) for f in FILES if is_code(f)}
+BESIDE = [f for f in FILES if f.startswith(('compare/', 'scripts/', 'tests/')) or f in ('Makefile', 'crates.txt')]
+
+
 def part(c):
     return c.isalnum() or c in '_-′″₀₁₂₃'
 
 
-def has(path, name):
+def has(t, name):
     """The name stands there, and what stands beside it does not make it longer."""
-    t, at = text(path), -1
+    at = -1
     while True:
         at = t.find(name, at + 1)
         if at < 0:
@@ -43,54 +65,54 @@ def has(path, name):
             return True
 
 
-def code():
-    return [f for f in FILES if f.startswith('crates/') and f.endswith(('.rt', '.antt')) or f.startswith('compare/') and f.endswith(('.rs', '.sh', '.txt'))]
+def named(word):
+    """Files by a path, or the end of one."""
+    return [f for f in FILES if f == word or f.endswith('/' + word)]
 
 
-def documents():
+def known(word, everywhere):
+    name = word.split('::')[-1]
+    return (re.fullmatch(r'(0x)?[\dA-F]*', word) or word in ELSEWHERE or os.path.exists('crates/' + word)
+            or any(word == os.path.splitext(os.path.basename(f))[0] for f in FILES)
+            or any(has(t, name) for t in CODE.values()) or everywhere and any(has(text(f), name) for f in BESIDE))
+
+
+def look(place, words, names, everywhere):
+    """What a line of a document or a comment refers to."""
     count = 0
-    for doc in [f for f in FILES if f.endswith('.md')]:
-        for target in re.findall(r'\]\(([^)#\s]+)[^)]*\)', text(doc)):
+    for word in re.findall(FILE, words):
+        count += 1
+        if not named(word) and word not in ELSEWHERE:
+            wrong.append(f'{place}: {word} is not there')
+    for word in re.findall(r'`([^`]+)`', words):
+        path, colon, name = word.partition(':')
+        files = named(path)
+        if '/' in path and path.split('/')[0] in TOP and '*' not in path and not re.fullmatch(FILE, path):
             count += 1
-            if not re.match(r'[a-z]+:', target) and not os.path.exists(os.path.join(os.path.dirname(doc), target)):
-                wrong.append(f'{doc}: the link to {target} leads nowhere')
-        for number, line in enumerate(text(doc).split('\n'), 1):
-            last = None
-            for word in re.findall(r'`([^`]+)`', line):
-                if word.split('/')[0] in TOP and '/' in word and '*' not in word:
-                    path, _, name = word.partition(':')
-                    path = path.split(' ')[0]
-                    count += 1
-                    if not os.path.exists(path):
-                        wrong.append(f'{doc}:{number}: {path} is not there')
-                    elif name and os.path.isfile(path) and not has(path, name):
-                        wrong.append(f"{doc}:{number}: {path} does not have '{name}'")
-                    last = path if os.path.isfile(path) else last
-                elif doc == 'docs/CLAIMS.md' and re.fullmatch(r"[\w·′-]+(::[\w·′-]+)*", word) and not re.fullmatch(r'(0x)?[\dA-F]+', word):
-                    name = word.split('::')[-1]
-                    count += 1
-                    if not (last and has(last, name)) and not any(has(f, name) for f in code()) and not os.path.exists('crates/' + word):
-                        wrong.append(f"{doc}:{number}: nothing is named '{word}'")
+            if not os.path.exists(path.split(' ')[0]):
+                wrong.append(f'{place}: {path} is not there')
+        if colon and (files or re.fullmatch(FILE, path)):
+            count += 1
+            if files and not any(has(text(f), name) for f in files):
+                wrong.append(f"{place}: {path} does not have '{name}'")
+        elif names and re.fullmatch(NAME, word):
+            count += 1
+            if not known(word, everywhere):
+                wrong.append(f"{place}: nothing is named '{word}'")
     return count
 
 
-def comments():
-    count = 0
-    for file in FILES:
-        marks = {'.rt': '//', '.antt': '--', '.rs': '//', '.sh': '#', '.py': '#'}.get(os.path.splitext(file)[1], '#' if os.path.basename(file) == 'Makefile' else None)
-        if not marks:
-            continue
-        crate = '/'.join(file.split('/')[:2])
-        for number, line in enumerate(text(file).split('\n'), 1):
-            comment = line[line.find(marks):] if marks in line else ''
-            for word in re.findall(r'(?<![\w/.·*])((?:docs|crates|compare|tests|scripts|specs|proofs|src)/[\w./-]*\.(?:md|antt|rt|rs|sh|txt|py))\b', comment):
-                count += 1
-                if not os.path.exists(word) and not os.path.exists(os.path.join(crate, word)):
-                    wrong.append(f'{file}:{number}: a comment names {word}, which is not there')
-    return count
-
-
-found = documents() + comments()
+found = 0
+for file in FILES:
+    for number, line in enumerate(text(file).split('\n') if file.endswith(('.md', *MARKS)) or file == 'Makefile' else [], 1):
+        if file.endswith('.md'):
+            for target in re.findall(r'\]\(([^)#\s]+)[^)]*\)', line):
+                found += 1
+                if not re.match(r'[a-z]+:', target) and not os.path.exists(os.path.join(os.path.dirname(file), target)):
+                    wrong.append(f'{file}:{number}: the link to {target} leads nowhere')
+            found += look(f'{file}:{number}', re.sub(r'\]\([^)]*\)', ']', line), file != 'docs/CHANGES.md', True)
+        else:
+            found += look(f'{file}:{number}', comment(file, line), is_code(file), False)
 if wrong:
     print('\n'.join(wrong))
     sys.exit(f'{len(wrong)} references lead nowhere')
