@@ -14,7 +14,6 @@
 use Prim.Native.Nat.{ℕ}
 use mathlib.Core.List.{List, [], _∷_, _++_, map}
 use lib.ListN.{getD, replicate}
-use Rattle.types.specs.Refusals.{refusalNumber}
 use Rattle.types.specs.States.{stateNumber}
 use Rattle.types.specs.Errors.{errorKind}
 use Rattle.types.specs.declared.types.NodeId.{NodeId}
@@ -102,7 +101,7 @@ abbrev pub laid : ℕ → ℕ → ℕ → ℕ → List ℕ → List ℕ → List
 laid refusal node action said states ranges errors = refusal ∷ node ∷ action ∷ said ∷ five states ++ six ranges ++ six errors
 
 unfoldable pub numbersOf : Answer → List ℕ
-numbersOf (refused r) = laid (refusalNumber r) nothing nothing nothing [] [] []
+numbersOf (refused n) = laid n nothing nothing nothing [] [] []
 numbersOf taken = laid 0 nothing nothing nothing [] [] []
 numbersOf (nmtAnswer es p) = laid 0 nothing nothing nothing (map stateNumber (p .states)) (rangesNumbers (p .ranges)) (errorsNumbers es)
 numbersOf (dllAnswer es) = laid 0 nothing nothing nothing [] [] (errorsNumbers es)

@@ -2,6 +2,7 @@
 // no enums. specs/Numbers.antt says what stands where.
 ghost use mathlib.Core.Path.{_≡_};
 ghost use Prim.Native.Nat.{_≤_};
+ghost use Rattle.types.specs.Refusals.{refusalNumber};
 ghost use Rattle.types.specs.States.{stateNumber};
 ghost use Rattle.types.specs.Errors.{reported};
 ghost use Rattle.head.specs.Words.{one};
@@ -94,7 +95,7 @@ fn put_taken(numbers: &mut Numbers)
 
 // A declined call.
 pub fn declined(refusal: Refusal, numbers: &mut Numbers)
-    ensures { λ _. ⌜ now (numbers .exit) ≡ numbersOf (refused refusal) ⌝ }
+    ensures { λ _. ⌜ now (numbers .exit) ≡ numbersOf (refused (refusalNumber refusal)) ⌝ }
 {
     *numbers = [NOTHING; 21];
     numbers[REFUSAL] = refusal.number() as u64;

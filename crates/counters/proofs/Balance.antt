@@ -11,8 +11,8 @@ use borrow.Author.Tests.{ltb-true, ltb-false, leb-true, leb-false, eq-eqb}
 use lib.Dec.{leb, ltb, lit<, lit≤}
 use Rattle.types.specs.Pick.{pick, both}
 use Rattle.types.specs.declared.frame.error.types.DllError.{DllError}
-use Rattle.counters.specs.Counters.{counterKinds, place, sameKind, counter, replaced, top, newCounters, incremented, decremented, reaches, checked, afterError, active, lowered, counted, linkLost, Effect, counts, losesLink, isLogged, nothing, effect, handledAs, handled, completed}
-use Rattle.counters.specs.Marks.{level, thresholdOf, Mark, given, crossed, drained, isGiven, isCrossed, isDrained, countOf, E, N, D, effectMarks, errorMarks, drainedOf, cycleMarks, Call, handleError, onCycleComplete, after, marks}
+use Rattle.counters.specs.Counters.{counterKinds, place, sameKind, counter, replaced, top, newCounters, incremented, decremented, reaches, checked, afterError, active, lowered, countedError, linkLost, Effect, counts, losesLink, isLogged, nothing, effect, handledAs, handled, completed}
+use Rattle.counters.specs.Marks.{level, thresholdOf, Mark, given, crossed, drained, isGiven, isCrossed, isDrained, countOf, E, N, D, effectMarks, errorMarks, drainedOf, cycleMarks, CounterCall, handleError, onCycleComplete, after, marks}
 use Rattle.counters.specs.declared.counters.ThresholdCounter.{ThresholdCounter}
 use Rattle.counters.specs.declared.counters.ThresholdCheck.{ThresholdCheck}
 use Rattle.counters.specs.declared.counters.CounterKind.{CounterKind}
@@ -134,13 +134,13 @@ error-other c j k q false = record { kept = refl; balance = rw q (balance-none (
 
 counted-counters :
     (j : CounterKind) (s : CnErrorCounters) (e : DllError) →
-    counted j s e .counters ≡ replaced j (afterError (counter j s) .counter) s
-unfolding counted
+    countedError j s e .counters ≡ replaced j (afterError (counter j s) .counter) s
+unfolding countedError
 counted-counters j s e = chosen (λ (h : HandledError). h .counters) (afterError (counter j s) .reached) refl refl
 
 balanced-counted :
     (j k : CounterKind) (s : CnErrorCounters) (e : DllError) →
-    Balanced (thresholdOf k s) k (counter k s) (effectMarks (counts j) s) (counter k (counted j s e .counters))
+    Balanced (thresholdOf k s) k (counter k s) (effectMarks (counts j) s) (counter k (countedError j s e .counters))
 balanced-counted j k s e =
     rw (counted-counters, counter-replaced) (by (sameKind j k) refl)
   where
@@ -214,7 +214,7 @@ module _ (T : ℕ) (k : CounterKind) (s : CnErrorCounters) (h : thresholdOf k s 
 pub balanced :
     (T : ℕ) (k : CounterKind) (s : CnErrorCounters) →
     thresholdOf k s ≡ T →
-    (cs : List Call) →
+    (cs : List CounterCall) →
     Balanced T k (counter k s) (marks s cs) (counter k (after s cs))
 balanced T k s h [] = balanced-none T k (counter k s) h
 balanced T k s h (handleError e ∷ cs) =
@@ -242,7 +242,7 @@ from-zero p t z b =
 
 -- threshold 15, from new counters: 15N + L + D ≤ 8E ≤ 22N + L + D
 pub fifteen :
-    (k : CounterKind) (cs : List Call) → FromZero 15 k (marks newCounters cs) (level k (after newCounters cs))
+    (k : CounterKind) (cs : List CounterCall) → FromZero 15 k (marks newCounters cs) (level k (after newCounters cs))
 fifteen k cs =
     from-zero (lit< tt) (lit≤ tt) (ap (λ (c : ThresholdCounter). c .«threshold_cnt») (counter-new k))
     (balanced 15 k newCounters (ap (λ (c : ThresholdCounter). c .threshold) (counter-new k)) cs)

@@ -7,7 +7,7 @@ use mathlib.Core.List.{List, [], _∷_, _++_}
 use native.Mathlib.Omega.{arith}
 use Rattle.types.specs.Pick.{pick}
 use Rattle.types.specs.declared.frame.error.types.DllError.{DllError}
-use Rattle.counters.specs.Counters.{counterKinds, sameKind, counter, top, addTop, incremented, decremented, reaches, checked, afterError, raised, crossing, unsignalled, active, lowered, counted, linkLost, Effect, counts, losesLink, isLogged, nothing, effect, handledAs, handled, completed}
+use Rattle.counters.specs.Counters.{counterKinds, sameKind, counter, top, addTop, incremented, decremented, reaches, checked, afterError, raised, crossedAnswer, unsignalled, active, lowered, countedError, linkLost, Effect, counts, losesLink, isLogged, nothing, effect, handledAs, handled, completed}
 use Rattle.counters.specs.Marks.{thresholdOf, Mark, drained, isCrossed, N, effectMarks, errorMarks, drainedOf, cycleMarks}
 use Rattle.counters.specs.declared.counters.ThresholdCounter.{ThresholdCounter}
 use Rattle.counters.specs.declared.counters.CounterKind.{CounterKind}
@@ -50,14 +50,14 @@ error-count c = by (reaches (incremented c)) refl
 
 counted-counters :
     (j : CounterKind) (s : CnErrorCounters) (e : DllError) (b : Bool) →
-    pick b (crossing (raised j s) e) (unsignalled (raised j s)) .counters ≡ raised j s
+    pick b (crossedAnswer (raised j s) e) (unsignalled (raised j s)) .counters ≡ raised j s
 counted-counters j s e true = refl
 counted-counters j s e false = refl
 
 rises-counted :
     (j k : CounterKind) (s : CnErrorCounters) (e : DllError) →
-    Rises (counter k s .«cumulative_cnt») (N k (effectMarks (counts j) s)) (counter k (counted j s e .counters) .«cumulative_cnt»)
-unfolding counted
+    Rises (counter k s .«cumulative_cnt») (N k (effectMarks (counts j) s)) (counter k (countedError j s e .counters) .«cumulative_cnt»)
+unfolding countedError
 rises-counted j k s e =
     rw (counted-counters j s e (afterError (counter j s) .reached), counter-replaced j k (afterError (counter j s) .counter) s)
     (by (sameKind j k) refl (afterError (counter j s) .reached) refl)

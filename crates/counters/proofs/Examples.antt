@@ -3,29 +3,29 @@
 use mathlib.Core.Path.{_≡_, refl}
 use mathlib.Core.List.{List, [], _∷_}
 use Rattle.types.specs.declared.frame.error.types.DllError.the-variants as error
-use Rattle.counters.specs.Counters.{counter, counterOf, replaced, newCounters, incremented, crossing, unsignalled, afterError, counted, handled, lowered, completed}
-use Rattle.counters.specs.Marks.{Call, handleError, onCycleComplete, after}
+use Rattle.counters.specs.Counters.{counter, counterOf, replaced, newCounters, incremented, crossedAnswer, unsignalled, afterError, countedError, handled, lowered, completed}
+use Rattle.counters.specs.Marks.{CounterCall, handleError, onCycleComplete, after}
 use Rattle.counters.specs.declared.counters.CounterKind.the-variants.{LossOfSoc}
 use Rattle.counters.specs.declared.counters.CnErrorCounters.{CnErrorCounters}
 
 -- new counters after a lost SoC and then some calls
-abbrev lost : List Call → CnErrorCounters
+abbrev lost : List CounterCall → CnErrorCounters
 lost cs = after newCounters (handleError error.LossOfSoc ∷ cs)
 
 -- two SoC losses, one cycle between: 15, crossing
 one-between : incremented (counter LossOfSoc (lost (onCycleComplete ∷ []))) .«threshold_cnt» ≡ 15
-unfolding replaced afterError counted handled lowered completed
+unfolding replaced afterError countedError handled lowered completed
 one-between = refl
 
 one-between-crosses :
     handled (lost (onCycleComplete ∷ [])) error.LossOfSoc ≡
-    crossing (replaced LossOfSoc (counterOf 1 0 15) newCounters) error.LossOfSoc
-unfolding replaced afterError counted handled lowered completed
+    crossedAnswer (replaced LossOfSoc (counterOf 1 0 15) newCounters) error.LossOfSoc
+unfolding replaced afterError countedError handled lowered completed
 one-between-crosses = refl
 
 -- two cycles between: 14, none
 two-between :
     handled (lost (onCycleComplete ∷ onCycleComplete ∷ [])) error.LossOfSoc ≡
     unsignalled (replaced LossOfSoc (counterOf 0 14 15) newCounters)
-unfolding replaced afterError counted handled lowered completed
+unfolding replaced afterError countedError handled lowered completed
 two-between = refl

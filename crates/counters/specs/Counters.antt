@@ -98,8 +98,8 @@ checked c =
     (record { counter = c; reached = false })
 
 -- "and ResetCommunication is asked for"; "A crossing is logged and signals too."
-abbrev pub crossing : CnErrorCounters → DllError → HandledError
-crossing s e = record { counters = s; action = action.ResetCommunication; signal = true; logged = errors.One e }
+abbrev pub crossedAnswer : CnErrorCounters → DllError → HandledError
+crossedAnswer s e = record { counters = s; action = action.ResetCommunication; signal = true; logged = errors.One e }
 
 -- nothing is asked for, signalled or logged
 abbrev pub unsignalled : CnErrorCounters → HandledError
@@ -113,8 +113,8 @@ afterError c = checked (incremented c)
 abbrev pub raised : CounterKind → CnErrorCounters → CnErrorCounters
 raised k s = replaced k (afterError (counter k s) .counter) s
 
-unfoldable pub counted : CounterKind → CnErrorCounters → DllError → HandledError
-counted k s e = pick (afterError (counter k s) .reached) (crossing (raised k s) e) (unsignalled (raised k s))
+unfoldable pub countedError : CounterKind → CnErrorCounters → DllError → HandledError
+countedError k s e = pick (afterError (counter k s) .reached) (crossedAnswer (raised k s) e) (unsignalled (raised k s))
 
 -- "A completed cycle takes 1 from each level above 0"
 abbrev pub decremented : ThresholdCounter → ThresholdCounter
@@ -143,8 +143,8 @@ completed s = record { counters = lowered s; cleared = both (anyActive s) (not (
 abbrev pub linkLost : CnErrorCounters → CnErrorCounters
 linkLost s = byKind (λ (k : CounterKind). counter k s) (addTop (s .«loss_of_link_cumulative») 1)
 
-abbrev pub signalled : CnErrorCounters → DllError → HandledError
-signalled s e = record { counters = s; action = action.None; signal = true; logged = errors.One e }
+abbrev pub signalledAnswer : CnErrorCounters → DllError → HandledError
+signalledAnswer s e = record { counters = s; action = action.None; signal = true; logged = errors.One e }
 
 -- what an error does: it counts for a kind, it is a lost link, it is only logged, or it changes nothing
 pub data Effect : Type 0 where
@@ -186,9 +186,9 @@ effectOf an-effect.IsLogged = isLogged
 effectOf an-effect.Nothing = nothing
 
 abbrev pub handledAs : Effect → CnErrorCounters → DllError → HandledError
-handledAs (counts k) s e = counted k s e
-handledAs losesLink s e = signalled (linkLost s) e
-handledAs isLogged s e = signalled s e
+handledAs (counts k) s e = countedError k s e
+handledAs losesLink s e = signalledAnswer (linkLost s) e
+handledAs isLogged s e = signalledAnswer s e
 handledAs nothing s e = unsignalled s
 
 unfoldable pub handled : CnErrorCounters → DllError → HandledError

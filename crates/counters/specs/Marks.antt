@@ -1,7 +1,7 @@
 -- What E, N and D count. Each call on the counters leaves marks, each of a kind; E, N and D count them in a list of marks.
 -- Assumes nothing.
 use Prim.Native.Nat.{ℕ, _+_}
-use mathlib.Core.Bool.{Bool, false}
+use mathlib.Core.Bool.{Bool, true, false}
 use mathlib.Core.List.{List, [], _∷_, _++_}
 use Rattle.types.specs.Pick.{pick}
 use Rattle.types.specs.declared.frame.error.types.DllError.{DllError}
@@ -36,6 +36,12 @@ isDrained k (given j) = false
 isDrained k (crossed j) = false
 isDrained k (drained j) = sameKind j k
 
+-- of whatever kind
+abbrev pub isCrossing : Mark → Bool
+isCrossing (given j) = false
+isCrossing (crossed j) = true
+isCrossing (drained j) = false
+
 -- how many items of a list pass a test
 abbrev pub countOf : {A : Type 0} → (A → Bool) → List A → ℕ
 countOf p [] = 0
@@ -52,6 +58,16 @@ N k ms = countOf (isCrossed k) ms
 -- "A completed cycle takes 1 from each level above 0; D counts these per kind."
 abbrev pub D : CounterKind → List Mark → ℕ
 D k ms = countOf (isDrained k) ms
+
+-- an error reaches the threshold of its kind
+abbrev pub effectCrosses : Effect → CnErrorCounters → Bool
+effectCrosses (counts k) s = afterError (counter k s) .reached
+effectCrosses losesLink s = false
+effectCrosses isLogged s = false
+effectCrosses nothing s = false
+
+unfoldable pub crosses : CnErrorCounters → DllError → Bool
+crosses s e = effectCrosses (effect e) s
 
 -- the marks of an error: that it was given to the counter of its kind, and whether that crossed; none where it does not count
 abbrev pub effectMarks : Effect → CnErrorCounters → List Mark
@@ -72,22 +88,22 @@ unfoldable pub cycleMarks : CnErrorCounters → List Mark
 cycleMarks s = drainedOf counterKinds s
 
 -- a call on the counters, and what a list of calls leaves: the counters, and the marks
-pub data Call : Type 0 where
-  handleError : DllError → Call
-  onCycleComplete : Call
+pub data CounterCall : Type 0 where
+  handleError : DllError → CounterCall
+  onCycleComplete : CounterCall
 
-abbrev pub called : CnErrorCounters → Call → CnErrorCounters
+abbrev pub called : CnErrorCounters → CounterCall → CnErrorCounters
 called s (handleError e) = handled s e .counters
 called s onCycleComplete = completed s .counters
 
-abbrev pub marked : CnErrorCounters → Call → List Mark
+abbrev pub marked : CnErrorCounters → CounterCall → List Mark
 marked s (handleError e) = errorMarks s e
 marked s onCycleComplete = cycleMarks s
 
-abbrev pub after : CnErrorCounters → List Call → CnErrorCounters
+abbrev pub after : CnErrorCounters → List CounterCall → CnErrorCounters
 after s [] = s
 after s (c ∷ cs) = after (called s c) cs
 
-abbrev pub marks : CnErrorCounters → List Call → List Mark
+abbrev pub marks : CnErrorCounters → List CounterCall → List Mark
 marks s [] = []
 marks s (c ∷ cs) = marked s c ++ marks (called s c) cs

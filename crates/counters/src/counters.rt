@@ -1,6 +1,6 @@
 // The threshold counters (EPSG DS 301, Section 4.7.4.1) and those of a controlled node (Section 4.7.8).
 ghost use mathlib.Core.Path.{_≡_};
-ghost use Rattle.counters.specs.Counters.{addTop, newCounter, incremented, decremented, checked, afterError, active, newCounters, counter, replaced, unsignalled, signalled, counted, effect, effectOf, handled, lowered, anyActive, completed};
+ghost use Rattle.counters.specs.Counters.{addTop, newCounter, incremented, decremented, checked, afterError, active, newCounters, counter, replaced, unsignalled, signalledAnswer, countedError, effect, effectOf, handled, lowered, anyActive, completed};
 use types::frame::error::types::DllError;
 use types::frame::error::types::DllErrors;
 use types::frame::error::types::NmtAction;
@@ -173,7 +173,7 @@ fn unsignalled(counters: CnErrorCounters) -> HandledError
 
 // The error is logged and signals, without an action.
 fn signalled(counters: CnErrorCounters, error: DllError) -> HandledError
-    ensures { λ r. ⌜ r ≡ signalled counters error ⌝ }
+    ensures { λ r. ⌜ r ≡ signalledAnswer counters error ⌝ }
 {
     HandledError {
         counters,
@@ -232,7 +232,7 @@ impl CnErrorCounters {
 
     // An error that counts for a kind. A crossing asks for a reset, signals and is logged.
     fn count(self, kind: CounterKind, error: DllError) -> HandledError
-        ensures { λ r. ⌜ r ≡ counted kind self error ⌝ }
+        ensures { λ r. ⌜ r ≡ countedError kind self error ⌝ }
     {
         let check = self.counter(kind).increment().check_and_reset();
         let counters = self.replace(kind, check.counter);

@@ -2,11 +2,11 @@
 -- Assumes nothing.
 use mathlib.Core.Path.{_≡_, ap}
 use Rattle.types.proofs.Reported.{reported-fixes}
-use Rattle.dll.specs.Dll.{Outcome, outcome}
+use Rattle.dll.specs.Dll.{CsOutcome, csOutcome}
 use Rattle.dll.specs.declared.cs_state_machine.DllAnswer.{DllAnswer}
 
-pub outcome-fixes : (a b : DllAnswer) → outcome a ≡ outcome b → a ≡ b
+pub outcome-fixes : (a b : DllAnswer) → csOutcome a ≡ csOutcome b → a ≡ b
 outcome-fixes a b e =
-    let s : a .machine .state ≡ b .machine .state = ap (λ (o : Outcome). o .state) e in
-    let r : a .errors ≡ b .errors = reported-fixes (a .errors) (b .errors) (ap (λ (o : Outcome). o .errors) e) in
+    let s : a .machine .state ≡ b .machine .state = ap (λ (o : CsOutcome). o .state) e in
+    let r : a .errors ≡ b .errors = reported-fixes (a .errors) (b .errors) (ap (λ (o : CsOutcome). o .errors) e) in
     λ i. record { machine = record { state = s i }; errors = r i }

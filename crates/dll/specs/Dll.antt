@@ -28,17 +28,17 @@ csStateNumber WaitPreq = 2
 csStateNumber WaitSoa = 3
 
 -- what an event leaves and reports
-pub record Outcome : Type 0 where
+pub record CsOutcome : Type 0 where
   pub state : DllCsState
   pub errors : List DllError
 
-abbrev pub goes : DllCsState → List DllError → Outcome
+abbrev pub goes : DllCsState → List DllError → CsOutcome
 goes s es = record { state = s; errors = es }
 
-abbrev pub unexpected : DllCsState → DllCsEvent → Outcome
+abbrev pub unexpected : DllCsState → DllCsEvent → CsOutcome
 unexpected s e = goes s (UnexpectedEventInState (csStateNumber s) (csEventNumber e) ∷ [])
 
-abbrev pub nonCyclic : DllCsEvent → Outcome
+abbrev pub nonCyclic : DllCsEvent → CsOutcome
 nonCyclic Soc = goes WaitPreq []  -- DLL_CT01
 nonCyclic Preq = unexpected NonCyclic Preq
 nonCyclic Pres = unexpected NonCyclic Pres
@@ -46,7 +46,7 @@ nonCyclic Soa = unexpected NonCyclic Soa
 nonCyclic Asnd = unexpected NonCyclic Asnd
 nonCyclic SocTimeout = unexpected NonCyclic SocTimeout
 
-abbrev pub waitSoc : DllCsEvent → Outcome
+abbrev pub waitSoc : DllCsEvent → CsOutcome
 waitSoc Soc = goes WaitPreq []  -- DLL_CT01
 waitSoc Preq = goes WaitSoc (LossOfSoc ∷ [])  -- DLL_CT04
 waitSoc Pres = goes WaitSoc (LossOfSoc ∷ [])  -- DLL_CT04
@@ -55,7 +55,7 @@ waitSoc Asnd = goes WaitSoc []  -- DLL_CT04
 waitSoc SocTimeout = goes WaitSoc (LossOfSoc ∷ [])  -- DLL_CT04
 
 -- a loss is reported at Soa only where a PReq was expected
-abbrev pub waitPreq : DllCsEvent → Bool → Outcome
+abbrev pub waitPreq : DllCsEvent → Bool → CsOutcome
 waitPreq Soc expected = goes WaitPreq (LossOfSoa ∷ [])  -- DLL_CT07
 waitPreq Preq expected = goes WaitSoa []  -- DLL_CT02
 waitPreq Pres expected = goes WaitPreq []  -- DLL_CT07
@@ -63,7 +63,7 @@ waitPreq Soa expected = goes WaitSoc (pick expected (LossOfPreq ∷ []) [])  -- 
 waitPreq Asnd expected = goes WaitPreq (LossOfSoa ∷ [])  -- DLL_CT07
 waitPreq SocTimeout expected = goes WaitSoc (LossOfSoc ∷ LossOfSoa ∷ [])  -- DLL_CT08
 
-abbrev pub waitSoa : DllCsEvent → Outcome
+abbrev pub waitSoa : DllCsEvent → CsOutcome
 waitSoa Soc = goes WaitPreq (LossOfSoa ∷ [])  -- DLL_CT09
 waitSoa Preq = goes WaitSoc (LossOfSoc ∷ LossOfSoa ∷ [])  -- DLL_CT03
 waitSoa Pres = goes WaitSoa []  -- DLL_CT10
@@ -71,7 +71,7 @@ waitSoa Soa = goes WaitSoc []  -- DLL_CT03
 waitSoa Asnd = goes WaitSoa (LossOfSoa ∷ [])  -- DLL_CT10
 waitSoa SocTimeout = goes WaitSoc (LossOfSoc ∷ LossOfSoa ∷ [])  -- DLL_CT03
 
-abbrev pub cyclic : DllCsState → DllCsEvent → Bool → Outcome
+abbrev pub cyclic : DllCsState → DllCsEvent → Bool → CsOutcome
 cyclic NonCyclic e expected = nonCyclic e
 cyclic WaitSoc e expected = waitSoc e
 cyclic WaitPreq e expected = waitPreq e expected
@@ -84,14 +84,14 @@ isCyclic s =
     (either (sameState s NmtReadyToOperate) (either (sameState s NmtOperational) (sameState s NmtCsStopped)))
 
 -- in other NMT states the machine is NonCyclic, without errors
-unfoldable pub processed : DllCsState → DllCsEvent → NmtState → Bool → Outcome
-processed s e nmt expected = pick (isCyclic nmt) (cyclic s e expected) (goes NonCyclic [])
+unfoldable pub csProcessed : DllCsState → DllCsEvent → NmtState → Bool → CsOutcome
+csProcessed s e nmt expected = pick (isCyclic nmt) (cyclic s e expected) (goes NonCyclic [])
 
 abbrev pub freshMachine : DllCsStateMachine
 freshMachine = record { state = NonCyclic }
 
-abbrev pub outcome : DllAnswer → Outcome
-outcome a = record { state = a .machine .state; errors = reported (a .errors) }
+abbrev pub csOutcome : DllAnswer → CsOutcome
+csOutcome a = record { state = a .machine .state; errors = reported (a .errors) }
 
-abbrev pub next : Next → Outcome
+abbrev pub next : Next → CsOutcome
 next n = record { state = n .0; errors = reported (n .1) }

@@ -1,6 +1,6 @@
 // The order of frames that a controlled node expects within one cycle, one function for each state.
 ghost use mathlib.Core.Path.{_≡_};
-ghost use Rattle.dll.specs.Dll.{csStateNumber, next, nonCyclic, waitSoc, waitPreq, waitSoa, cyclic, freshMachine, outcome, processed};
+ghost use Rattle.dll.specs.Dll.{csStateNumber, next, nonCyclic, waitSoc, waitPreq, waitSoa, cyclic, freshMachine, csOutcome, csProcessed};
 use types::frame::cs_state_machine::DllCsEvent;
 use types::frame::error::types::DllError;
 use types::frame::error::types::DllErrors;
@@ -135,7 +135,7 @@ impl DllCsStateMachine {
         nmt_state: NmtState,
         expect_preq: bool,
     ) -> DllAnswer
-        ensures { λ r. ⌜ outcome r ≡ processed (self .state) event «nmt_state» «expect_preq» ⌝ }
+        ensures { λ r. ⌜ csOutcome r ≡ csProcessed (self .state) event «nmt_state» «expect_preq» ⌝ }
     {
         match nmt_state {
             NmtState::NmtPreOperational2

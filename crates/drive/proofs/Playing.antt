@@ -18,7 +18,7 @@ use Rattle.node.specs.declared.calls.CallAnswer.the-variants as answer
 use Rattle.start.specs.Started.{StartedIn}
 use Rattle.drive.specs.declared.Row.{Row}
 use Rattle.drive.specs.declared.Counts.{Counts}
-use Rattle.drive.specs.Script.{callOf, lentBy, rowAt, numberOf, numbers, written, Turned, Plays, Played, Lent, lent, PlayedAll, Replayed}
+use Rattle.drive.specs.Script.{callOf, lentBy, rowAt, numberOf, numbers, numbersWritten, Turned, Plays, Played, Lent, lent, PlayedAll, Replayed}
 
 -- one row, over what it left
 pub plays-lends :
@@ -41,13 +41,13 @@ plays-calls {r} {bytes} {ws} {q} {m} {ns} {out} {ws′} {q′} {m′} {ns′} {o
 -- a number more, at the end
 written-more :
     (out : List ℕ) (i : ℕ) (ss : List Said) (s : Said) →
-    written out i (numbers (ss ++ (s ∷ []))) ≡ set (written out i (numbers ss)) (i + length ss) (numberOf (s .answer))
-unfolding written
+    numbersWritten out i (numbers (ss ++ (s ∷ []))) ≡ set (numbersWritten out i (numbers ss)) (i + length ss) (numberOf (s .answer))
+unfolding numbersWritten
 written-more out i [] s = let e : i ≡ i + 0 = omega arith in ap (λ (j : ℕ). set out j (numberOf (s .answer))) e
 written-more out i (t ∷ ss) s =
     let e : suc i + length ss ≡ i + length (t ∷ ss) = omega arith in
     let o = set out i (numberOf (t .answer)) in
-    written-more o (suc i) ss s ∙ ap (λ (j : ℕ). set (written o (suc i) (numbers ss)) j (numberOf (s .answer))) e
+    written-more o (suc i) ss s ∙ ap (λ (j : ℕ). set (numbersWritten o (suc i) (numbers ss)) j (numberOf (s .answer))) e
 
 -- of n rows the first i were played, from what x is and with k₀ nodes watched: the words of the head and the nodes, the bytes, `out`, how many nodes are watched and
 -- how many calls were made
@@ -56,13 +56,13 @@ pub record Going (script bytes : List ℕ) (k₀ : ℕ) (x : Lent) (n : ℕ) (ws
   pub calls : List Call
   pub says : List Said
   pub played : Played script bytes (x .head) (x .queue) (x .history) (x .nodes) k₀ i calls says ws q m ns k
-  pub numbered : out ≡ written (x .out) 0 (numbers says)
+  pub numbered : out ≡ numbersWritten (x .out) 0 (numbers says)
   pub many : made ≡ length says
   pub few : made ≤ i
 
 module _ (script bytes : List ℕ) (k₀ : ℕ) (x : Lent) (n : ℕ) where
   pub going-start : Going script bytes k₀ x n (x .head) (x .nodes) (x .queue) (x .history) (x .out) k₀ 0 0
-  unfolding written
+  unfolding numbersWritten
   going-start =
       record {
         within = omega arith;
@@ -99,10 +99,10 @@ module _ (script bytes : List ℕ) (k₀ : ℕ) (x : Lent) (n : ℕ) where
         played = Played.calls (g .played) e (t .made);
         numbered =
             let z : made ≡ 0 + length (g .says) = omega (arith, g .many) in
-            let f : set out made a ≡ set (written (x .out) 0 (numbers (g .says))) (0 + length (g .says)) (numberOf (s .answer)) =
+            let f : set out made a ≡ set (numbersWritten (x .out) 0 (numbers (g .says))) (0 + length (g .says)) (numberOf (s .answer)) =
             ap (λ (l : List ℕ). set l made a) (g .numbered) ∙
-            ap (λ (j : ℕ). set (written (x .out) 0 (numbers (g .says))) j a) z ∙
-            ap (λ (j : ℕ). set (written (x .out) 0 (numbers (g .says))) (0 + length (g .says)) j) (t .number)
+            ap (λ (j : ℕ). set (numbersWritten (x .out) 0 (numbers (g .says))) j a) z ∙
+            ap (λ (j : ℕ). set (numbersWritten (x .out) 0 (numbers (g .says))) (0 + length (g .says)) j) (t .number)
             in
             f ∙ sym (written-more (x .out) 0 (g .says) s);
         many = let h = length-append (g .says) (s ∷ []) in omega (arith, g .many, h);

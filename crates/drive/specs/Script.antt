@@ -6,7 +6,6 @@ use mathlib.Core.List.{List, [], _∷_, _++_, map}
 use lib.Dec.{eqb, leb, ltb}
 use lib.ListN.{length, getD, set, take, drop}
 use Rattle.types.specs.Pick.{pick}
-use Rattle.types.specs.Refusals.{refusalNumber}
 use Rattle.types.specs.declared.nmt.flags.FeatureFlags.{FeatureFlags}
 use Rattle.head.specs.declared.state.Dictionary.{Dictionary}
 use Rattle.head.specs.declared.state.ObjectValue.the-variants.{Unsigned32, Missing}
@@ -103,7 +102,7 @@ rowAt s i =
 
 -- the number that declined a call, or 0
 abbrev pub numberOf : Answer → ℕ
-numberOf (refused r) = refusalNumber r
+numberOf (refused n) = n
 numberOf taken = 0
 numberOf (nmtAnswer es r) = 0
 numberOf (dllAnswer es) = 0
@@ -116,9 +115,9 @@ abbrev pub numbers : List Said → List ℕ
 numbers ss = map (λ (s : Said). numberOf (s .answer)) ss
 
 -- numbers written from a place on; past the end none is
-unfoldable pub written : List ℕ → ℕ → List ℕ → List ℕ
-written out i [] = out
-written out i (n ∷ ns) = written (set out i n) (suc i) ns
+unfoldable pub numbersWritten : List ℕ → ℕ → List ℕ → List ℕ
+numbersWritten out i [] = out
+numbersWritten out i (n ∷ ns) = numbersWritten (set out i n) (suc i) ns
 
 -- a call was made, and n is the number that declined it, or 0
 pub record Turned (ws q m ns : List ℕ) (k : ℕ) (c : Call) (n : ℕ) (ws′ q′ m′ ns′ : List ℕ) : Type 0 where
@@ -170,7 +169,7 @@ pub record PlayedAll (script bytes : List ℕ) (k : ℕ) (x x′ : Lent) : Type 
   pub count : ℕ
   pub played :
       Played script bytes (x .head) (x .queue) (x .history) (x .nodes) k (length script / 11) calls says (x′ .head) (x′ .queue) (x′ .history) (x′ .nodes) count
-  pub numbered : x′ .out ≡ written (x .out) 0 (numbers says)
+  pub numbered : x′ .out ≡ numbersWritten (x .out) 0 (numbers says)
 
 -- A start that was taken, with the words of the head and of the nodes that it left, and every row of the script from these on.
 pub record Ran (k n : ℕ) (f : FeatureFlags) (t c : ℕ) (o : Dictionary) (script bytes : List ℕ) (x x′ : Lent) : Type 0 where

@@ -18,7 +18,7 @@ use Rattle.entries.specs.declared.status_response.ErrorEntryMode.the-var
 use Rattle.entries.specs.declared.status_response.ErrorEntryModeRead.the-variants as mode
 use Rattle.entries.specs.declared.status_response.EntryType.{EntryType}
 use Rattle.entries.specs.declared.status_response.ErrorEntry.{ErrorEntry}
-use Rattle.entries.specs.Entry.{modeNumber, modes, readMode, modeOf, bit, typeNumber, typeOf, bytesOf, numberIn, Bytes, FitsBytes, entryBytes, entryIn, crossing}
+use Rattle.entries.specs.Entry.{modeNumber, modes, readMode, modeOf, bit, typeNumber, typeOf, bytesOf, numberIn, Bytes, FitsBytes, entryBytes, entryIn, crossingEntry}
 use Rattle.entries.specs.Ring.{written}
 use Rattle.entries.proofs.Numbers.{number-written, number-read, number-below, number-same}
 use Rattle.entries.proofs.Written.{written-there, written-same}
@@ -238,14 +238,14 @@ code-below (PdoMapVersion n) = omega arith
 code-below (PdoPayloadShort n) = omega arith
 code-below (HeartbeatTimeout n) = omega arith
 
-pub crossing-fits : (e : DllError) (t : ℕ) → FitsBytes (crossing e t)
-unfolding crossing
+pub crossing-fits : (e : DllError) (t : ℕ) → FitsBytes (crossingEntry e t)
+unfolding crossingEntry
 crossing-fits e t =
     record { profile = omega arith; code = code-below e; seconds = omega arith; nanoseconds = omega arith; information = omega arith }
 
 -- the entry of the bench example, 0x8245 at 0 s 12,100,000 ns
 pub crossing-bytes :
-    entryBytes (crossing LossOfSoc 12100) ≡
+    entryBytes (crossingEntry LossOfSoc 12100) ≡
     0x02 ∷ 0x70 ∷ 0x45 ∷ 0x82 ∷ 0 ∷ 0 ∷ 0 ∷ 0 ∷ 0xA0 ∷ 0xA1 ∷ 0xB8 ∷ 0 ∷ 0 ∷ 0 ∷ 0 ∷ 0 ∷ 0 ∷ 0 ∷ 0 ∷ 0 ∷ []
-unfolding crossing entryBytes typeNumber
+unfolding crossingEntry entryBytes typeNumber
 crossing-bytes = refl

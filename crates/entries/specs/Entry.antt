@@ -89,8 +89,8 @@ deserialized s = pick (leb 20 (length s)) (Taken (entryIn s)) BufferTooShort
 
 -- the entry of an error that crossed its threshold in the SoC check, at a time in microseconds: the queue mark, mode
 -- EventOccurred, profile 2, the error's code, the time with its seconds modulo 2^32, additional information 0
-unfoldable pub crossing : DllError → ℕ → ErrorEntry
-crossing e t =
+unfoldable pub crossingEntry : DllError → ℕ → ErrorEntry
+crossingEntry e t =
     record {
       «entry_type» = record { «is_status_entry» = false; «send_to_queue» = true; mode = EventOccurred; profile = 2 };
       «error_code» = errorCode e;

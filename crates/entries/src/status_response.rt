@@ -1,6 +1,6 @@
 // The error entry (EPSG DS 301, Tables 94 and 96): what it holds, and its 20 bytes.
 ghost use mathlib.Core.Path.{_≡_};
-ghost use Rattle.entries.specs.Entry.{modeOf, modeNumber, readMode, bit, typeNumber, typeOf, entryBytes, deserialized, crossing};
+ghost use Rattle.entries.specs.Entry.{modeOf, modeNumber, readMode, bit, typeNumber, typeOf, entryBytes, deserialized, crossingEntry};
 ghost use Rattle.entries.specs.Ring.{roomAt, serializedAt};
 use crate::place;
 use types::common::NetTime;
@@ -116,7 +116,7 @@ pub enum FoundEntry {
 impl ErrorEntry {
     // The entry of an error whose counting crossed the threshold in the SoC check, at a time in microseconds.
     pub fn of_crossing(error: DllError, time: u64) -> Self
-        ensures { λ r. ⌜ r ≡ crossing error time ⌝ }
+        ensures { λ r. ⌜ r ≡ crossingEntry error time ⌝ }
     {
         let entry_type = EntryType {
             is_status_entry: false,

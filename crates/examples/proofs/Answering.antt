@@ -15,7 +15,6 @@ use Rattle.types.specs.declared.frame.error.types.DllError.the-variants as erro
 use Rattle.types.specs.declared.frame.error.types.NmtAction.{NmtAction}
 use Rattle.types.specs.declared.frame.error.types.NmtAction.the-variants as action
 use Rattle.types.specs.declared.types.NodeId.{NodeId}
-use Rattle.types.specs.declared.refusals.Refusal.{Refusal}
 use Rattle.nmt.specs.Resets.{Passed, range}
 use Rattle.nmt.specs.declared.state_machine.IndexRange.{IndexRange}
 use Rattle.node.specs.Plain.{refused, taken, nmtAnswer, dllAnswer, errorAnswer, tickAnswer}
@@ -120,22 +119,22 @@ module _ {r s : Bool} where
   nmt-taken es p t whole x y =
       exact-by (exact-and x y) (λ h. λ i. nmtAnswer (h .0 i) (h .1 i)) (λ h. (cc, cc))
 
-pub nmt-refused : (n : Refusal) (t : Stated) (whole : Bool) → Exactly false (refused n ≡ nmtStated t whole)
+pub nmt-refused : (n : ℕ) (t : Stated) (whole : Bool) → Exactly false (refused n ≡ nmtStated t whole)
 nmt-refused n t whole = never (λ e. clash (cc))
 
-pub never-taken : (n : Refusal) → Exactly false (refused n ≡ taken)
+pub never-taken : (n : ℕ) → Exactly false (refused n ≡ taken)
 never-taken n = never (λ e. clash (cc))
 
 pub dll-taken : (es : List DllError) (t : Stated) {r : Bool} → Exactly r (es ≡ statedErrors t) → Exactly r (dllAnswer es ≡ dllStated t)
 dll-taken es t x = exact-by x (ap dllAnswer) (λ h. cc)
 
-pub dll-refused : (n : Refusal) (t : Stated) → Exactly false (refused n ≡ dllStated t)
+pub dll-refused : (n : ℕ) (t : Stated) → Exactly false (refused n ≡ dllStated t)
 dll-refused n t = never (λ e. clash (cc))
 
 pub tick-taken : (es : List DllError) (t : Stated) {r : Bool} → Exactly r (es ≡ statedErrors t) → Exactly r (tickAnswer es ≡ tickStated t)
 tick-taken es t x = exact-by x (ap tickAnswer) (λ h. cc)
 
-pub tick-refused : (n : Refusal) (t : Stated) → Exactly false (refused n ≡ tickStated t)
+pub tick-refused : (n : ℕ) (t : Stated) → Exactly false (refused n ≡ tickStated t)
 tick-refused n t = never (λ e. clash (cc))
 
 pub none-asked : (crosses : Bool) → Exactly (not crosses) (action.None ≡ actionStated crosses)
@@ -161,6 +160,6 @@ error-taken a g es crosses {r} {s} x y = by crosses x y
     by true x y = exact-by (exact-and (exact-and x (exact-flag g true)) y) (λ h. λ i. errorAnswer (h .0 .0 i) (h .0 .1 i) (h .1 i)) (λ h. ((cc, cc), cc))
     by false x y = exact-by (exact-and (exact-and x (exact-flag g false)) y) (λ h. λ i. errorAnswer (h .0 .0 i) (h .0 .1 i) (h .1 i)) (λ h. ((cc, cc), cc))
 
-pub error-refused : (n : Refusal) (crosses : Bool) → Exactly false (refused n ≡ errorStated crosses)
+pub error-refused : (n : ℕ) (crosses : Bool) → Exactly false (refused n ≡ errorStated crosses)
 error-refused n true = never (λ e. clash (cc))
 error-refused n false = never (λ e. clash (cc))

@@ -16,7 +16,6 @@ use Rattle.types.specs.declared.frame.cs_state_machine.DllCsEventRead.{DllCsEve
 use Rattle.types.specs.declared.frame.cs_state_machine.DllCsEventRead.the-variants as cs-event
 use Rattle.types.specs.declared.frame.error.types.DllErrorRead.{DllErrorRead}
 use Rattle.types.specs.declared.frame.error.types.DllErrorRead.the-variants as error-read
-use Rattle.types.specs.declared.refusals.Refusal.{Refusal}
 use Rattle.entries.specs.Ring.{listed}
 use Rattle.head.specs.Words.{headOf}
 use Rattle.watched.specs.declared.nodes.WatchedNode.{WatchedNode}
@@ -58,7 +57,7 @@ error-uncrossed k a b p = by (readError k a b)
     by (error-read.Refused r) = refl
 
 tried-uncrossed :
-    (ts : List Test) (f : Refusal → Step) (s : Step) → ((r : Refusal) → f r .crossings ≡ []) → s .crossings ≡ [] → tried ts f s .crossings ≡ []
+    (ts : List (Test ℕ)) (f : ℕ → Step) (s : Step) → ((r : ℕ) → f r .crossings ≡ []) → s .crossings ≡ [] → tried ts f s .crossings ≡ []
 tried-uncrossed [] f s a b = b
 tried-uncrossed (t ∷ ts) f s a b = by (t .holds) (tried-uncrossed ts f s a b)
   where

@@ -24,7 +24,7 @@ use Rattle.node.specs.Steps.{plainOf}
 use Rattle.node.specs.Refines.{plain}
 use Rattle.watched.specs.Watched.{watchedOf}
 use Rattle.watched.specs.Nodes.{nodesOf}
-use Rattle.node.specs.Examples.{values, countersOf, resting, counting, cycling, crossing, watching}
+use Rattle.node.specs.Examples.{values, countersOf, resting, counting, cycling, crossingTick, watching}
 use Rattle.examples.specs.Shown.{placed, Stands, restingWords}
 
 -- an empty queue and an empty history are empty whatever the memory
@@ -75,7 +75,7 @@ pub crossed-placed :
     (counterOf 1 0 15))
     (queue 0 1 1))
     (errorHistory 253 1) →
-    headOf ws ≡ placed (crossing .all .head) (queue 0 1 1) (errorHistory 253 1)
+    headOf ws ≡ placed (crossingTick .all .head) (queue 0 1 1) (errorHistory 253 1)
 unfolding headOf restingWords readState
 crossed-placed ws e = ap headOf e
 

@@ -13,7 +13,7 @@ use Rattle.nmt.specs.Resets.{Passed}
 use Rattle.entries.specs.declared.status_response.ErrorEntry.{ErrorEntry}
 use Rattle.entries.specs.declared.status_response.ErrorEntryMode.the-variants.{EventOccurred}
 use Rattle.node.specs.Plain.{Answer, nmtAnswer, dllAnswer, tickAnswer}
-use Rattle.node.specs.Examples.{nothingPassed, wholeReset, quiet, asks}
+use Rattle.node.specs.Examples.{nothingPassed, wholeReset, quiet, asksReset}
 use Rattle.examples.specs.declared.answers.Stated.{Stated}
 use Rattle.examples.specs.declared.answers.Stated.the-variants as stated
 
@@ -41,7 +41,7 @@ abbrev pub loggedStated : Bool → Stated
 loggedStated crosses = pick crosses stated.LossOfSoc stated.Nothing
 
 abbrev pub errorStated : Bool → Answer
-errorStated crosses = pick crosses asks quiet
+errorStated crosses = pick crosses asksReset quiet
 
 abbrev pub tickStated : Stated → Answer
 tickStated s = tickAnswer (statedErrors s)

@@ -10,7 +10,7 @@ ghost use Rattle.head.specs.Words.{headOf};
 ghost use Rattle.head.specs.Written.{socWritten};
 ghost use Rattle.watched.specs.Nodes.{nodesOf};
 ghost use Rattle.watched.specs.Watched.{watchedOf};
-ghost use Rattle.node.specs.Examples.{machine, values, countersOf, resting, counting, cycling, crossing, watching};
+ghost use Rattle.node.specs.Examples.{machine, values, countersOf, resting, counting, cycling, crossingTick, watching};
 ghost use Rattle.examples.specs.Shown.{placed, Stands, restingWords};
 use counters::counters::CnErrorCounters;
 use counters::counters::CounterKind;
@@ -148,7 +148,7 @@ pub fn cycling(head: &mut Head, deadline: u64, level: u32, lost: u32)
 
 // After the crossing: PreOperational1, the check off, no deadline, one entry in queue and history.
 pub fn crossed(head: &mut Head)
-    ensures { λ _. ⌜ headOf (now (head .exit)) ≡ placed (crossing .all .head) (queue 0 1 1) (errorHistory 253 1) ⌝ }
+    ensures { λ _. ⌜ headOf (now (head .exit)) ≡ placed (crossingTick .all .head) (queue 0 1 1) (errorHistory 253 1) ⌝ }
 {
     let od = values(1, 2, 1, 0, 1);
     write(head, NmtState::NmtPreOperational1, false, true, od);

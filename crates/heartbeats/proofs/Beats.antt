@@ -93,8 +93,8 @@ module _ (h : Head) (w : WatchedNode) (r : HandledError) (e : r ≡ handled (h .
   unfolding beat
   beat-ends b z g x s k q m =
       let ms = errorMarks (h .errors) (timeoutOf w) in
-      let k′ : beat (plain h q m) w ≡ dealt r ms [] (after b q m) =
-      ap (beatBy (plain h q m) ms) (sym e) ∙ ap (λ (b : Bool). dealt r ms [] (after b q m)) z in
+      let k′ : beat (plain h q m) w ≡ dealt r ms [] [] (after b q m) =
+      ap (beatBy (plain h q m) ms) (sym e) ∙ ap (λ (b : Bool). dealt r ms [] [] (after b q m)) z in
       record {
         head =
             k .head q m

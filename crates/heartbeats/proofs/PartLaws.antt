@@ -11,8 +11,9 @@ use Rattle.types.specs.declared.frame.error.types.DllError.{DllError}
 use Rattle.types.specs.declared.frame.error.types.DllErrors.{DllErrors}
 use Rattle.nmt.specs.Nmt as Nmt
 use Rattle.nmt.specs.declared.cn_state_machine.NmtAnswer.{NmtAnswer}
-use Rattle.counters.specs.Counters.{counter, afterError, raised, counted, unsignalled, Effect, counts, losesLink, isLogged, nothing, effect, handledAs, handled}
+use Rattle.counters.specs.Counters.{counter, afterError, raised, countedError, unsignalled, Effect, counts, losesLink, isLogged, nothing, effect, handledAs, handled}
 use Rattle.counters.specs.Counters as Counters
+use Rattle.counters.specs.Marks.{effectCrosses, crosses}
 use Rattle.counters.specs.declared.counters.CounterKind.{CounterKind}
 use Rattle.counters.specs.declared.counters.CnErrorCounters.{CnErrorCounters}
 use Rattle.counters.specs.declared.counters.HandledError.{HandledError}
@@ -63,10 +64,10 @@ pub record Quiet (r : HandledError) : Type 0 where
   pub logged : reported (r .logged) ≡ []
 
 pub handled-quiet : (s : CnErrorCounters) (e : DllError) → isQuiet e ≡ true → acts (handled s e .action) ≡ false → Quiet (handled s e)
-unfolding handled counted
+unfolding handled countedError
 handled-quiet s e = by (effect e)
   where
-    crossed : (k : CounterKind) (b : Bool) → acts (pick b (Counters.crossing (raised k s) e) (unsignalled (raised k s)) .action) ≡ false → Quiet (pick b (Counters.crossing (raised k s) e) (unsignalled (raised k s)))
+    crossed : (k : CounterKind) (b : Bool) → acts (pick b (Counters.crossedAnswer (raised k s) e) (unsignalled (raised k s)) .action) ≡ false → Quiet (pick b (Counters.crossedAnswer (raised k s) e) (unsignalled (raised k s)))
     crossed k true a = absurd (true≢false a)
     crossed k false a = record { signal = refl; logged = refl }
 
@@ -75,6 +76,21 @@ handled-quiet s e = by (effect e)
     by losesLink q a = absurd (false≢true q)
     by isLogged q a = absurd (false≢true q)
     by nothing q a = record { signal = refl; logged = refl }
+
+-- and it signals exactly where it crosses: where it reaches the threshold of its kind
+pub quiet-crosses : (s : CnErrorCounters) (e : DllError) → isQuiet e ≡ true → handled s e .signal ≡ crosses s e
+unfolding handled countedError crosses
+quiet-crosses s e = by (effect e)
+  where
+    crossed : (k : CounterKind) (b : Bool) → pick b (Counters.crossedAnswer (raised k s) e) (unsignalled (raised k s)) .signal ≡ b
+    crossed k true = refl
+    crossed k false = refl
+
+    by : (f : Effect) → quietEffect f ≡ true → handledAs f s e .signal ≡ effectCrosses f s
+    by (counts k) q = crossed k (afterError (counter k s) .reached)
+    by losesLink q = absurd (false≢true q)
+    by isLogged q = absurd (false≢true q)
+    by nothing q = refl
 
 -- two ticks alike in all but their marks
 pub record Alike (a b : Ticked) : Type 0 where

@@ -11,7 +11,7 @@ use Rattle.types.specs.Errors.{reported}
 use Rattle.types.specs.declared.nmt.events.NmtEvent.the-variants.{Error}
 use Rattle.types.specs.declared.frame.error.types.DllError.the-variants.{HeartbeatTimeout}
 use Rattle.types.specs.declared.frame.error.types.DllErrors.the-variants as errors
-use Rattle.counters.specs.Counters.{counterOf, replaced, raised, counted, handled, afterError, crossing, unsignalled}
+use Rattle.counters.specs.Counters.{counterOf, replaced, raised, countedError, handled, afterError, crossedAnswer, unsignalled}
 use Rattle.counters.specs.Marks.{Mark, errorMarks}
 use Rattle.counters.specs.declared.counters.CounterKind.the-variants as kind
 use Rattle.counters.specs.declared.counters.ThresholdCounter.{ThresholdCounter}
@@ -43,7 +43,7 @@ abbrev withCounter : Plain → ThresholdCounter → Plain
 withCounter p c = withErrors p (replaced kind.HeartbeatTimeout c (p .errors))
 
 abbrev crossedBy : Plain → Beats → Ticked
-crossedBy p b = finished true (HeartbeatTimeout (node (b .node)) ∷ []) [] [] (signalled (withCounter p (b .counter)))
+crossedBy p b = finished true (HeartbeatTimeout (node (b .node)) ∷ []) [] [] [] (signalled (withCounter p (b .counter)))
 
 abbrev came : Plain → Beats → Ticked
 came p b = pick (b .crossed) (crossedBy p b) (goesOn (withCounter p (b .counter)))
@@ -63,12 +63,12 @@ module _ (p : Plain) (w : WatchedNode) where
   abbrev next : Plain
   next = withCounter p (afterError c .counter)
 
-  beat-is : (r : Bool) → afterError c .reached ≡ r → beat p w ≡ pick r (finished true (timeoutOf w ∷ []) ms [] (signalled next)) (finished false [] ms [] next)
-  unfolding beat handled counted
-  beat-is r e = ap (λ (r : Bool). beatBy p ms (pick r (crossing (raised kind.HeartbeatTimeout (p .errors)) (timeoutOf w)) (unsignalled (raised kind.HeartbeatTimeout (p .errors))))) e ∙ by r
+  beat-is : (r : Bool) → afterError c .reached ≡ r → beat p w ≡ pick r (finished true (timeoutOf w ∷ []) ms [] [] (signalled next)) (finished false [] ms [] [] next)
+  unfolding beat handled countedError
+  beat-is r e = ap (λ (r : Bool). beatBy p ms (pick r (crossedAnswer (raised kind.HeartbeatTimeout (p .errors)) (timeoutOf w)) (unsignalled (raised kind.HeartbeatTimeout (p .errors))))) e ∙ by r
     where
-      by : (r : Bool) → beatBy p ms (pick r (crossing (raised kind.HeartbeatTimeout (p .errors)) (timeoutOf w)) (unsignalled (raised kind.HeartbeatTimeout (p .errors))))
-          ≡ pick r (finished true (timeoutOf w ∷ []) ms [] (signalled next)) (finished false [] ms [] next)
+      by : (r : Bool) → beatBy p ms (pick r (crossedAnswer (raised kind.HeartbeatTimeout (p .errors)) (timeoutOf w)) (unsignalled (raised kind.HeartbeatTimeout (p .errors))))
+          ≡ pick r (finished true (timeoutOf w ∷ []) ms [] [] (signalled next)) (finished false [] ms [] [] next)
       by true = refl
       by false = refl
 
@@ -103,7 +103,7 @@ module _ (t : ℕ) where
           let s = beat-is p w true e in
           let d = erred (fresh p n) w in
           alike-then _ (beat p w) _ (same-alike _ _ (beats-end p w (lateOnes t ws) (ap (λ (k : Ticked). k .ended) s)))
-          (alike-then _ (finished true (timeoutOf w ∷ []) (ms p w) [] (signalled (next p w))) _ (same-alike _ _ s)
+          (alike-then _ (finished true (timeoutOf w ∷ []) (ms p w) [] [] (signalled (next p w))) _ (same-alike _ _ s)
           (alike-then _ (crossedBy p d) _ (record { head = refl; logged = refl; crossings = refl; ended = refl })
           (same-alike _ _ (sym (ap (came p) (stays d ws e) ∙ ap (λ (r : Bool). pick r (crossedBy p d) (goesOn (withCounter p (d .counter)))) e)))))
       hit false e more =
@@ -150,10 +150,10 @@ module _ (ws : List ℕ) (long : length ws ≡ 52) where
     next-in = counted-in ws (afterError (beatsAt ws) .counter)
 
     abbrev by-check : Bool → HandledError
-    by-check r = pick r (crossing (raised kind.HeartbeatTimeout (errorsOf ws)) (timeoutOf w)) (unsignalled (raised kind.HeartbeatTimeout (errorsOf ws)))
+    by-check r = pick r (crossedAnswer (raised kind.HeartbeatTimeout (errorsOf ws)) (timeoutOf w)) (unsignalled (raised kind.HeartbeatTimeout (errorsOf ws)))
 
     ends-in : (r : Bool) → afterError (beatsAt ws) .reached ≡ r → endsBy ws (timeoutOf w) ≡ r
-    unfolding handled counted
+    unfolding handled countedError
     ends-in r e = ap (λ (r : Bool). acts (by-check r .action)) e ∙ by r
       where
         by : (r : Bool) → acts (by-check r .action) ≡ r
@@ -161,7 +161,7 @@ module _ (ws : List ℕ) (long : length ws ≡ 52) where
         by false = refl
 
     beat-in : (r : Bool) → afterError (beatsAt ws) .reached ≡ r → beatWords ws w ≡ pick r (finishedWords true (signalWords next-in)) next-in
-    unfolding handled counted beatWords finishedWords
+    unfolding handled countedError beatWords finishedWords
     beat-in r e = ap (λ (r : Bool). finishedWords (acts (by-check r .action)) (pick (by-check r .signal) (signalWords next-in) next-in)) e ∙ by r
       where
         by :

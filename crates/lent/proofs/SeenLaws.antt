@@ -19,7 +19,7 @@ use Rattle.watched.proofs.Lists.{rising-all}
 use Rattle.lentlaws.specs.Fold.{folded}
 use Rattle.lent.specs.declared.run.Findings.{Findings}
 use Rattle.lent.specs.declared.run.Setting.the-variants.{Nothing, Heard}
-use Rattle.lent.specs.Runs.{oneMore, foundBy, asked, passes, foundAll, settled}
+use Rattle.lent.specs.Runs.{upTo33, foundBy, asked, passes, foundAll, settled}
 
 both-true : (b : Bool) → both b true ≡ b
 both-true true = refl
@@ -45,14 +45,14 @@ formed-all s (w ∷ ws) =
     ∙ both-again (s .tried .formed) (both (ltb (s .tried .last) (w .node)) (fits w)) (rising (w .node) ws)
 
 -- the count stops at 33, past the 32 that number 3 allows
-within : (c : ℕ) → c ≤ 33 → oneMore c ≤ 33
+within : (c : ℕ) → c ≤ 33 → upTo33 c ≤ 33
 within c h = by (ltb c 33) refl
   where
     by : (b : Bool) → ltb c 33 ≡ b → pick b (c + 1) c ≤ 33
     by true e = let l = ltb-true c 33 e in omega arith
     by false e = h
 
-one-more : (c n : ℕ) → leb (oneMore c + n) 32 ≡ leb (c + suc n) 32
+one-more : (c n : ℕ) → leb (upTo33 c + n) 32 ≡ leb (c + suc n) 32
 one-more c n = by (ltb c 33) refl
   where
     by : (b : Bool) → ltb c 33 ≡ b → leb (pick b (c + 1) c + n) 32 ≡ leb (c + suc n) 32

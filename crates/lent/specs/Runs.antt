@@ -21,13 +21,13 @@ use Rattle.lent.specs.declared.run.Setting.{Setting}
 use Rattle.lent.specs.declared.run.Setting.the-variants.{Nothing, Unheard, Heard, Looked}
 
 -- so many nodes, and 33 where there are more than 32
-abbrev pub oneMore : ℕ → ℕ
-oneMore n = pick (ltb n 33) (n + 1) n
+abbrev pub upTo33 : ℕ → ℕ
+upTo33 n = pick (ltb n 33) (n + 1) n
 
 -- number 3: above the one before, and within its limits
 abbrev pub triedBy : Tried → WatchedNode → Tried
 triedBy s w =
-    record { count = oneMore (s .count); last = w .node; formed = both (s .formed) (both (ltb (s .last) (w .node)) (fits w)) }
+    record { count = upTo33 (s .count); last = w .node; formed = both (s .formed) (both (ltb (s .last) (w .node)) (fits w)) }
 
 -- the error of a late node, given to the heartbeat counter; the first crossing ends the errors
 abbrev pub erred : Beats → WatchedNode → Beats

@@ -5,7 +5,7 @@ ghost use lib.Dec.{eqb, ltb};
 ghost use Rattle.types.specs.Pick.{both, either};
 ghost use Rattle.watched.specs.Watched.{fits};
 ghost use Rattle.node.specs.Tick.{notBefore};
-ghost use Rattle.lent.specs.Runs.{asked, forStart, forHeard, forTick, passes, oneMore, triedBy, beatenBy, foundBy, foundAll, settled};
+ghost use Rattle.lent.specs.Runs.{asked, forStart, forHeard, forTick, passes, upTo33, triedBy, beatenBy, foundBy, foundAll, settled};
 use counters::counters::CounterKind;
 use counters::counters::ThresholdCounter;
 use head::parts::counter_of;
@@ -110,7 +110,7 @@ pub fn passes(tried: Tried) -> bool
 
 // One node more, up to 33.
 fn one_more(count: u8) -> u8
-    ensures { λ r. ⌜ r ≡ oneMore count ⌝ }
+    ensures { λ r. ⌜ r ≡ upTo33 count ⌝ }
 {
     if count < 33 { count + 1 } else { count }
 }

@@ -9,14 +9,14 @@ use Rattle.types.specs.Errors.{readError}
 use Rattle.nmt.specs.Resets.{isReset, statesEntered, resetSequence}
 use Rattle.nmt.specs.Nmt.{enter, rowOf, applied, resetBy, processed}
 use Rattle.dll.specs.Dll as Dll
-use Rattle.counters.specs.Counters.{replaced, afterError, counted, handled, lowered, anyActive, completed}
-use Rattle.counters.specs.Marks.{errorMarks, cycleMarks}
-use Rattle.entries.specs.Entry.{crossing}
+use Rattle.counters.specs.Counters.{replaced, afterError, countedError, handled, lowered, anyActive, completed}
+use Rattle.counters.specs.Marks.{crosses, errorMarks, cycleMarks}
+use Rattle.entries.specs.Entry.{crossingEntry}
 use Rattle.watched.specs.Watched.{wellFormed}
 use Rattle.node.specs.Steps.{fresh}
 use Rattle.node.specs.Tick.{beat, beatAll, queued, deal, dealAll, socCheck, tickTaken}
 use Rattle.node.specs.Examples.{comesOf, stated, examples}
 
 pub examples-hold : (map comesOf examples ≡ map stated examples) × (length examples ≡ 12)
-unfolding fresh readEvent readCsEvent readError isReset statesEntered resetSequence enter rowOf applied resetBy processed Dll.processed replaced afterError counted handled lowered anyActive completed errorMarks cycleMarks crossing wellFormed beat beatAll queued deal dealAll socCheck tickTaken
+unfolding fresh readEvent readCsEvent readError isReset statesEntered resetSequence enter rowOf applied resetBy processed Dll.csProcessed replaced afterError countedError handled crosses lowered anyActive completed errorMarks cycleMarks crossingEntry wellFormed beat beatAll queued deal dealAll socCheck tickTaken
 examples-hold = (refl, refl)

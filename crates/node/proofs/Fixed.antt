@@ -4,9 +4,8 @@ use Prim.Native.Nat.{ℕ}
 use mathlib.Core.Path.{_≡_, refl, sym, ap, _∙_}
 use mathlib.Core.Bool.{Bool, true, false, true≢false}
 use mathlib.Core.List.{List, []}
+use Rattle.types.proofs.Refused.{number-fixes}
 use Rattle.types.proofs.Reported.{reported-fixes}
-use Rattle.types.specs.declared.refusals.Refusal.{Refusal}
-use Rattle.types.specs.declared.refusals.Refusal.the-variants.{NodeNumber}
 use Rattle.types.specs.declared.frame.error.types.DllError.{DllError}
 use Rattle.types.specs.declared.frame.error.types.NmtAction.{NmtAction}
 use Rattle.types.specs.declared.frame.error.types.NmtAction.the-variants.{None}
@@ -31,21 +30,21 @@ in-place-fixes x y = (x .refines [] [] .answer ∙ sym (y .refines [] [] .answer
 -- the parts of an answer, where it has them: whether it is a refusal and which, errors, reset, action and signal
 pub record Parts : Type 0 where
   pub declines : Bool
-  pub refusal : Refusal
+  pub refusal : ℕ
   pub errors : List DllError
   pub reset : Passed
   pub action : NmtAction
   pub signal : Bool
 
 abbrev pub parts : Answer → Parts
-parts (refused r) = record { declines = true; refusal = r; errors = []; reset = record { states = []; ranges = [] }; action = None; signal = false }
-parts taken = record { declines = false; refusal = NodeNumber; errors = []; reset = record { states = []; ranges = [] }; action = None; signal = false }
-parts (nmtAnswer es p) = record { declines = false; refusal = NodeNumber; errors = es; reset = p; action = None; signal = false }
-parts (dllAnswer es) = record { declines = false; refusal = NodeNumber; errors = es; reset = record { states = []; ranges = [] }; action = None; signal = false }
-parts (errorAnswer a s es) = record { declines = false; refusal = NodeNumber; errors = es; reset = record { states = []; ranges = [] }; action = a; signal = s }
-parts (cycleAnswer b) = record { declines = false; refusal = NodeNumber; errors = []; reset = record { states = []; ranges = [] }; action = None; signal = b }
-parts (handOutAnswer f) = record { declines = false; refusal = NodeNumber; errors = []; reset = record { states = []; ranges = [] }; action = None; signal = false }
-parts (tickAnswer es) = record { declines = false; refusal = NodeNumber; errors = es; reset = record { states = []; ranges = [] }; action = None; signal = false }
+parts (refused n) = record { declines = true; refusal = n; errors = []; reset = record { states = []; ranges = [] }; action = None; signal = false }
+parts taken = record { declines = false; refusal = 0; errors = []; reset = record { states = []; ranges = [] }; action = None; signal = false }
+parts (nmtAnswer es p) = record { declines = false; refusal = 0; errors = es; reset = p; action = None; signal = false }
+parts (dllAnswer es) = record { declines = false; refusal = 0; errors = es; reset = record { states = []; ranges = [] }; action = None; signal = false }
+parts (errorAnswer a s es) = record { declines = false; refusal = 0; errors = es; reset = record { states = []; ranges = [] }; action = a; signal = s }
+parts (cycleAnswer b) = record { declines = false; refusal = 0; errors = []; reset = record { states = []; ranges = [] }; action = None; signal = b }
+parts (handOutAnswer f) = record { declines = false; refusal = 0; errors = []; reset = record { states = []; ranges = [] }; action = None; signal = false }
+parts (tickAnswer es) = record { declines = false; refusal = 0; errors = es; reset = record { states = []; ranges = [] }; action = None; signal = false }
 
 -- one that is declined and one that is taken are not alike
 pub apart : {A : Type 0} {a b : Answer} → a ≡ b → parts a .declines ≡ true → parts b .declines ≡ false → A
@@ -62,7 +61,7 @@ pub said-fixed : (a b : CallAnswer) → said a ≡ said b → a ≡ b
 said-fixed call-answer.Taken call-answer.Taken e = refl
 said-fixed call-answer.Taken (call-answer.Refused s) e = apart (sym e) refl refl
 said-fixed (call-answer.Refused r) call-answer.Taken e = apart e refl refl
-said-fixed (call-answer.Refused r) (call-answer.Refused s) e = ap call-answer.Refused (refusal-of e)
+said-fixed (call-answer.Refused r) (call-answer.Refused s) e = ap call-answer.Refused (number-fixes (refusal-of e))
 
 pub nmt-said-fixed : (a b : NmtEventAnswer) → nmtSaid a ≡ nmtSaid b → a ≡ b
 nmt-said-fixed (nmt-answer.Taken t) (nmt-answer.Taken u) e =
@@ -71,13 +70,13 @@ nmt-said-fixed (nmt-answer.Taken t) (nmt-answer.Taken u) e =
     λ i. nmt-answer.Taken (record { errors = r i; reset = p i })
 nmt-said-fixed (nmt-answer.Taken t) (nmt-answer.Refused s) e = apart (sym e) refl refl
 nmt-said-fixed (nmt-answer.Refused r) (nmt-answer.Taken u) e = apart e refl refl
-nmt-said-fixed (nmt-answer.Refused r) (nmt-answer.Refused s) e = ap nmt-answer.Refused (refusal-of e)
+nmt-said-fixed (nmt-answer.Refused r) (nmt-answer.Refused s) e = ap nmt-answer.Refused (number-fixes (refusal-of e))
 
 pub dll-said-fixed : (a b : DllEventAnswer) → dllSaid a ≡ dllSaid b → a ≡ b
 dll-said-fixed (dll-answer.Taken t) (dll-answer.Taken u) e = ap dll-answer.Taken (reported-fixes t u (errors-of e))
 dll-said-fixed (dll-answer.Taken t) (dll-answer.Refused s) e = apart (sym e) refl refl
 dll-said-fixed (dll-answer.Refused r) (dll-answer.Taken u) e = apart e refl refl
-dll-said-fixed (dll-answer.Refused r) (dll-answer.Refused s) e = ap dll-answer.Refused (refusal-of e)
+dll-said-fixed (dll-answer.Refused r) (dll-answer.Refused s) e = ap dll-answer.Refused (number-fixes (refusal-of e))
 
 pub error-said-fixed : (a b : ErrorAnswer) → errorSaid a ≡ errorSaid b → a ≡ b
 error-said-fixed (error-answer.Taken t) (error-answer.Taken u) e =
@@ -85,4 +84,4 @@ error-said-fixed (error-answer.Taken t) (error-answer.Taken u) e =
     λ i. error-answer.Taken (record { action = parts (e i) .action; signal = parts (e i) .signal; logged = r i })
 error-said-fixed (error-answer.Taken t) (error-answer.Refused s) e = apart (sym e) refl refl
 error-said-fixed (error-answer.Refused r) (error-answer.Taken u) e = apart e refl refl
-error-said-fixed (error-answer.Refused r) (error-answer.Refused s) e = ap error-answer.Refused (refusal-of e)
+error-said-fixed (error-answer.Refused r) (error-answer.Refused s) e = ap error-answer.Refused (number-fixes (refusal-of e))

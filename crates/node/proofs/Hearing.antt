@@ -7,6 +7,7 @@ use native.Mathlib.Omega.{arith}
 use lib.Dec.{ltb}
 use borrow.Author.Tests.{ltb-true, ltb-false}
 use Rattle.types.specs.Pick.{pick}
+use Rattle.types.specs.Refusals.{refusalNumber}
 use mathlib.Core.List.{List}
 use lib.ListN.{length, set}
 use Rattle.types.specs.declared.refusals.Refusal.{Refusal}
@@ -27,8 +28,8 @@ use Rattle.node.specs.Heard.{heardAnswer, heardLeft, HeardOn, Heard}
 
 -- heard: numbers 3, 5 and 7, whatever form the nodes vs have
 module _ (vs : List WatchedNode) (n t : ℕ) where
-  declines-heard : (x : Refusal) → ((p : Plain) → step p (heard n t vs) ≡ declines p vs x) → HeardOn vs n t (answer.Refused x) vs
-  declines-heard x e h q m = refined h q m (heard n t vs) _ q m vs (declines (plain h q m) vs x) (e (plain h q m)) refl refl refl
+  declines-heard : (x : Refusal) → ((p : Plain) → step p (heard n t vs) ≡ declines p vs (refusalNumber x)) → HeardOn vs n t (answer.Refused x) vs
+  declines-heard x e h q m = refined h q m (heard n t vs) _ q m vs (declines (plain h q m) vs (refusalNumber x)) (e (plain h q m)) refl refl refl
 
   pub heard-unformed : wellFormed vs ≡ false → HeardOn vs n t (answer.Refused WatchedNodes) vs
   heard-unformed a = declines-heard WatchedNodes (λ p. rw a)

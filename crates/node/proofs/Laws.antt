@@ -10,8 +10,8 @@ use Rattle.types.specs.States.{sameState}
 use Rattle.types.specs.Events.{readEvent}
 use Rattle.types.specs.CsEvents.{readCsEvent}
 use Rattle.types.specs.Errors.{readError, reported}
+use Rattle.types.specs.Refusals.{refusalNumber}
 use Rattle.types.specs.declared.refusals.Refusal.{Refusal}
-use Rattle.types.specs.declared.refusals.Refusal.the-variants.{TimeLimit, ReadyToOperate}
 use Rattle.types.specs.declared.nmt.states.NmtState.{NmtState}
 use Rattle.types.specs.declared.nmt.states.NmtState.the-variants.{NmtReadyToOperate}
 use Rattle.types.specs.declared.nmt.events.NmtEvent.{NmtEvent}
@@ -77,34 +77,34 @@ pub nmt-taken :
 nmt-taken h n e a r o = (
   λ q m.
       let p : Plain = plain h q m in
-      refined h q m (nmtEvent n) _ q m [] (nmtTaken p (Nmt.outcome a)) (ap (nmtStep p) r ∙ ap (nmtTaken p) (sym o)) refl refl refl,
+      refined h q m (nmtEvent n) _ q m [] (nmtTaken p e (Nmt.outcome a)) (ap (nmtStep p) r ∙ ap (nmtTaken p e) (sym o)) refl refl refl,
   record { queue = refl; history = refl },
 )
 
-pub nmt-refused : (h : Head) (n : ℕ) (x : Refusal) → readEvent n ≡ event.Refused x → Alone h (nmtEvent n) (left h (refused x))
+pub nmt-refused : (h : Head) (n : ℕ) (x : Refusal) → readEvent n ≡ event.Refused x → Alone h (nmtEvent n) (left h (refused (refusalNumber x)))
 nmt-refused h n x r = (
-  λ q m. refined h q m (nmtEvent n) _ q m [] (declines (plain h q m) [] x) (ap (nmtStep (plain h q m)) r) refl refl refl,
+  λ q m. refined h q m (nmtEvent n) _ q m [] (declines (plain h q m) [] (refusalNumber x)) (ap (nmtStep (plain h q m)) r) refl refl refl,
   same-places h,
 )
 
 pub dll-taken :
     (h : Head) (n : ℕ) (expected : Bool) (e : DllCsEvent) (a : DllAnswer) →
     readCsEvent n ≡ cs-event.Taken e →
-    Dll.outcome a ≡ Dll.processed (h .dll .state) e (h .nmt .«current_state») expected →
+    Dll.csOutcome a ≡ Dll.csProcessed (h .dll .state) e (h .nmt .«current_state») expected →
     Alone h (dllEvent n expected) (left (with-dll h (a .machine)) (dllAnswer (reported (a .errors))))
 dll-taken h n expected e a r o = (
   λ q m.
       let p : Plain = plain h q m in
-      refined h q m (dllEvent n expected) _ q m [] (dllTaken p (Dll.outcome a)) (ap (dllStep p expected) r ∙ ap (dllTaken p) (sym o)) refl refl refl,
+      refined h q m (dllEvent n expected) _ q m [] (dllTaken p (Dll.csOutcome a)) (ap (dllStep p expected) r ∙ ap (dllTaken p) (sym o)) refl refl refl,
   record { queue = refl; history = refl },
 )
 
 pub dll-refused :
     (h : Head) (n : ℕ) (expected : Bool) (x : Refusal) →
     readCsEvent n ≡ cs-event.Refused x →
-    Alone h (dllEvent n expected) (left h (refused x))
+    Alone h (dllEvent n expected) (left h (refused (refusalNumber x)))
 dll-refused h n expected x r = (
-  λ q m. refined h q m (dllEvent n expected) _ q m [] (declines (plain h q m) [] x) (ap (dllStep (plain h q m) expected) r) refl refl refl,
+  λ q m. refined h q m (dllEvent n expected) _ q m [] (declines (plain h q m) [] (refusalNumber x)) (ap (dllStep (plain h q m) expected) r) refl refl refl,
   same-places h,
 )
 
@@ -125,9 +125,9 @@ error-taken h kind a b e r t s = (
 pub error-refused :
     (h : Head) (kind a b : ℕ) (x : Refusal) →
     readError kind a b ≡ error-read.Refused x →
-    Alone h (error kind a b) (left h (refused x))
+    Alone h (error kind a b) (left h (refused (refusalNumber x)))
 error-refused h kind a b x t = (
-  λ q m. refined h q m (error kind a b) _ q m [] (declines (plain h q m) [] x) (ap (errorStep (plain h q m)) t) refl refl refl,
+  λ q m. refined h q m (error kind a b) _ q m [] (declines (plain h q m) [] (refusalNumber x)) (ap (errorStep (plain h q m)) t) refl refl refl,
   same-places h,
 )
 
@@ -146,12 +146,12 @@ cycle-taken h r s = (
 -- withdraw: number 8 at ReadyToOperate, taken elsewhere
 abbrev withdrawBy : Plain → NmtState → Step
 withdrawBy p s =
-    tried (must (not (sameState s NmtReadyToOperate)) ReadyToOperate ∷ []) (declines p []) (answers (withNmt p (withdrawn (p .nmt))) taken [])
+    tried (must (not (sameState s NmtReadyToOperate)) 8 ∷ []) (declines p []) (answers (withNmt p (withdrawn (p .nmt))) taken [])
 
 pub withdraw-refused :
-    (h : Head) → h .nmt .«current_state» ≡ NmtReadyToOperate → Alone h withdraw (left h (refused ReadyToOperate))
+    (h : Head) → h .nmt .«current_state» ≡ NmtReadyToOperate → Alone h withdraw (left h (refused 8))
 withdraw-refused h e = (
-  λ q m. refined h q m withdraw _ q m [] (declines (plain h q m) [] ReadyToOperate) (ap (withdrawBy (plain h q m)) e) refl refl refl,
+  λ q m. refined h q m withdraw _ q m [] (declines (plain h q m) [] 8) (ap (withdrawBy (plain h q m)) e) refl refl refl,
   same-places h,
 )
 
@@ -163,17 +163,17 @@ withdraw-taken h e = (
   λ q m.
       let p : Plain = plain h q m in
       let t : Step = answers (withNmt p (withdrawn (p .nmt))) taken [] in
-      refined h q m withdraw _ q m [] t (ap (λ (b : Bool). pick b t (declines p [] ReadyToOperate)) e) refl refl refl,
+      refined h q m withdraw _ q m [] t (ap (λ (b : Bool). pick b t (declines p [] 8)) e) refl refl refl,
   record { queue = refl; history = refl },
 )
 
 -- arm: number 5, or the watch armed
-pub arm-refused : (h : Head) (t : ℕ) → inTime t ≡ false → Alone h (arm t) (left h (refused TimeLimit))
+pub arm-refused : (h : Head) (t : ℕ) → inTime t ≡ false → Alone h (arm t) (left h (refused 5))
 arm-refused h t e = (
   λ q m.
       let p : Plain = plain h q m in
-      refined h q m (arm t) _ q m [] (declines p [] TimeLimit)
-      (ap (λ (b : Bool). pick b (answers (withSoc p (armed (p .soc) (p .od) t)) taken []) (declines p [] TimeLimit)) e) refl refl refl,
+      refined h q m (arm t) _ q m [] (declines p [] 5)
+      (ap (λ (b : Bool). pick b (answers (withSoc p (armed (p .soc) (p .od) t)) taken []) (declines p [] 5)) e) refl refl refl,
   same-places h,
 )
 
@@ -186,7 +186,7 @@ arm-taken h t s e a = (
   λ q m.
       let p : Plain = plain h q m in
       refined h q m (arm t) _ q m [] (answers (withSoc p s) taken [])
-      (ap (λ (b : Bool). pick b (answers (withSoc p (armed (p .soc) (p .od) t)) taken []) (declines p [] TimeLimit)) e
+      (ap (λ (b : Bool). pick b (answers (withSoc p (armed (p .soc) (p .od) t)) taken []) (declines p [] 5)) e
       ∙ ap (λ (s : SocWatch). answers (withSoc p s) taken []) (sym a))
       refl refl refl,
   record { queue = refl; history = refl },

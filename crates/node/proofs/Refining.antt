@@ -12,8 +12,8 @@ use Rattle.types.specs.States.{sameState}
 use Rattle.types.specs.Events.{readEvent}
 use Rattle.types.specs.CsEvents.{readCsEvent}
 use Rattle.types.specs.Errors.{readError, reported}
+use Rattle.types.specs.Refusals.{refusalNumber}
 use Rattle.types.specs.declared.refusals.Refusal.{Refusal}
-use Rattle.types.specs.declared.refusals.Refusal.the-variants.{TimeLimit, ReadyToOperate}
 use Rattle.types.specs.declared.nmt.states.NmtState.{NmtState}
 use Rattle.types.specs.declared.nmt.states.NmtState.the-variants.{NmtReadyToOperate}
 use Rattle.types.specs.declared.nmt.events.NmtEvent.{NmtEvent}
@@ -113,8 +113,8 @@ check-keeps c =
 
 counted-counters :
     (k : CounterKind) (s : CnErrorCounters) (e : DllError) →
-    Counters.counted k s e .counters ≡ Counters.replaced k (Counters.afterError (Counters.counter k s) .counter) s
-unfolding Counters.counted
+    Counters.countedError k s e .counters ≡ Counters.replaced k (Counters.afterError (Counters.counter k s) .counter) s
+unfolding Counters.countedError
 counted-counters k s e =
     picked (λ (r : HandledError). r .counters ≡ Counters.raised k s) (Counters.afterError (Counters.counter k s) .reached) _ _ refl refl
 
@@ -127,17 +127,17 @@ module _ (ws : List ℕ) where
       (k : CounterKind) (e : DllError) (r b : Bool) →
       r ≡ Counters.afterError (counterAt ws (at.counter k)) .reached →
       r ≡ b →
-      replied (pick b (Counters.crossing (errorsOf ws) e) (Counters.unsignalled (errorsOf ws))) ≡ replied (Counters.counted k (errorsOf ws) e)
-  unfolding Counters.counted
+      replied (pick b (Counters.crossedAnswer (errorsOf ws) e) (Counters.unsignalled (errorsOf ws))) ≡ replied (Counters.countedError k (errorsOf ws) e)
+  unfolding Counters.countedError
   count-answers k e r b h t =
       by b (Counters.raised k (errorsOf ws))
-      ∙ ap (λ (b : Bool). replied (pick b (Counters.crossing (Counters.raised k (errorsOf ws)) e) (Counters.unsignalled (Counters.raised k (errorsOf ws)))))
+      ∙ ap (λ (b : Bool). replied (pick b (Counters.crossedAnswer (Counters.raised k (errorsOf ws)) e) (Counters.unsignalled (Counters.raised k (errorsOf ws)))))
       (sym t ∙ h ∙ ap (λ (c : ThresholdCounter). Counters.afterError c .reached) (sym (counter-read k)))
     where
       by :
           (b : Bool) (s : CnErrorCounters) →
-          replied (pick b (Counters.crossing (errorsOf ws) e) (Counters.unsignalled (errorsOf ws)))
-          ≡ replied (pick b (Counters.crossing s e) (Counters.unsignalled s))
+          replied (pick b (Counters.crossedAnswer (errorsOf ws) e) (Counters.unsignalled (errorsOf ws)))
+          ≡ replied (pick b (Counters.crossedAnswer s e) (Counters.unsignalled s))
       by true s = refl
       by false s = refl
 
@@ -167,28 +167,28 @@ module _ (ws : List ℕ) where
     effect-written Counters.nothing e = refl
 
   -- the calls
-  pub withdraw-no : stateOf (word ws at.state) ≡ NmtReadyToOperate → InPlace ws withdraw (refused ReadyToOperate) ws (withdrawWords ws)
+  pub withdraw-no : stateOf (word ws at.state) ≡ NmtReadyToOperate → InPlace ws withdraw (refused 8) ws (withdrawWords ws)
   unfolding headOf
   withdraw-no e =
       unwritten ws withdraw _ _ (withdraw-refused (headOf ws) e)
       (ap (λ (s : NmtState). pick (sameState s NmtReadyToOperate) ws (set ws at.ready 0)) e)
 
-  pub nmt-no : (n : ℕ) (x : Refusal) → readEvent n ≡ event.Refused x → InPlace ws (nmtEvent n) (refused x) ws (nmtWords ws (readEvent n))
+  pub nmt-no : (n : ℕ) (x : Refusal) → readEvent n ≡ event.Refused x → InPlace ws (nmtEvent n) (refused (refusalNumber x)) ws (nmtWords ws (readEvent n))
   nmt-no n x r = unwritten ws (nmtEvent n) _ _ (nmt-refused (headOf ws) n x r) (ap (nmtWords ws) r)
 
   pub dll-no :
       (n : ℕ) (expected : Bool) (x : Refusal) →
       readCsEvent n ≡ cs-event.Refused x →
-      InPlace ws (dllEvent n expected) (refused x) ws (dllWords ws expected (readCsEvent n))
+      InPlace ws (dllEvent n expected) (refused (refusalNumber x)) ws (dllWords ws expected (readCsEvent n))
   dll-no n expected x r = unwritten ws (dllEvent n expected) _ _ (dll-refused (headOf ws) n expected x r) (ap (dllWords ws expected) r)
 
   pub error-no :
       (kind a b : ℕ) (x : Refusal) →
       readError kind a b ≡ error-read.Refused x →
-      InPlace ws (error kind a b) (refused x) ws (errorWords ws (readError kind a b))
+      InPlace ws (error kind a b) (refused (refusalNumber x)) ws (errorWords ws (readError kind a b))
   error-no kind a b x r = unwritten ws (error kind a b) _ _ (error-refused (headOf ws) kind a b x r) (ap (errorWords ws) r)
 
-  pub arm-no : (t : ℕ) → inTime t ≡ false → InPlace ws (arm t) (refused TimeLimit) ws (armWords ws t)
+  pub arm-no : (t : ℕ) → inTime t ≡ false → InPlace ws (arm t) (refused 5) ws (armWords ws t)
   arm-no t e = unwritten ws (arm t) _ _ (arm-refused (headOf ws) t e) (ap (λ (b : Bool). pick b (socWritten ws (armed (socOf ws) (odOf ws) t)) ws) e)
 
   module _ (long : length ws ≡ 52) (ws′ : List ℕ) where
@@ -217,14 +217,14 @@ module _ (ws : List ℕ) where
     pub dll-yes :
         (n : ℕ) (expected : Bool) (e : DllCsEvent) (a : DllAnswer) →
         readCsEvent n ≡ cs-event.Taken e →
-        Dll.outcome a ≡ Dll.processed (dllState (word ws at.dll)) e (stateOf (word ws at.state)) expected →
+        Dll.csOutcome a ≡ Dll.csProcessed (dllState (word ws at.dll)) e (stateOf (word ws at.state)) expected →
         ws′ ≡ set ws at.dll (Dll.csStateNumber (a .machine .state)) →
         InPlace ws (dllEvent n expected) (dllAnswer (reported (a .errors))) ws′ (dllWords ws expected (readCsEvent n))
     unfolding headOf
     dll-yes n expected e a r o w =
         in-place ws (dllEvent n expected) _ _ (set ws at.dll (Dll.csStateNumber (a .machine .state))) _ ws′
         (dll-taken (headOf ws) n expected e a r o) (dll-written ws long (a .machine .state))
-        (ap (dllWords ws expected) r ∙ ap (λ (o : Dll.Outcome). set ws at.dll (Dll.csStateNumber (o .state))) (sym o)) w
+        (ap (dllWords ws expected) r ∙ ap (λ (o : Dll.CsOutcome). set ws at.dll (Dll.csStateNumber (o .state))) (sym o)) w
 
     pub error-yes :
         (kind a b : ℕ) (e : DllError) (t : ErrorTaken) →

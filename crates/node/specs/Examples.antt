@@ -9,6 +9,8 @@ use Rattle.types.specs.Common.{netTime}
 use Rattle.types.specs.States.{stateNumber}
 use Rattle.types.specs.declared.nmt.states.NmtState.{NmtState}
 use Rattle.types.specs.declared.nmt.states.NmtState.the-variants.{NmtGsInitialising, NmtGsResetApplication, NmtGsResetCommunication, NmtGsResetConfiguration, NmtNotActive, NmtBasicEthernet, NmtPreOperational1, NmtPreOperational2, NmtReadyToOperate, NmtOperational}
+use Rattle.types.specs.declared.nmt.events.NmtEvent.{NmtEvent}
+use Rattle.types.specs.declared.nmt.events.NmtEvent.the-variants.{SwReset, Timeout, EnterPreOperational2, EnableReadyToOperate, CnConfigurationComplete, Error}
 use Rattle.types.specs.declared.frame.error.types.DllError.the-variants as error
 use Rattle.types.specs.declared.frame.error.types.NmtAction.the-variants as action
 use Rattle.nmt.specs.Resets.{Passed, range}
@@ -25,7 +27,7 @@ use Rattle.head.specs.declared.state.ObjectValue.the-variants.{Unsigned32}
 use Rattle.head.specs.declared.state.Dictionary.{Dictionary}
 use Rattle.watched.specs.declared.nodes.WatchedNode.{WatchedNode}
 use Rattle.watched.specs.Watched.{watchedNode}
-use Rattle.node.specs.Plain.{Plain, Call, nmtEvent, dllEvent, error, cycleComplete, withdraw, heard, tick, Start, Answer, taken, nmtAnswer, dllAnswer, errorAnswer, cycleAnswer, tickAnswer, Step}
+use Rattle.node.specs.Plain.{Plain, Call, nmtEvent, dllEvent, error, cycleComplete, withdraw, heard, tick, Start, Answer, taken, nmtAnswer, dllAnswer, errorAnswer, cycleAnswer, tickAnswer, made, noEvent, Step}
 use Rattle.node.specs.Steps.{plainOf, fresh}
 use Rattle.head.specs.Head.{socWatch}
 use Rattle.node.specs.Run.{step}
@@ -119,17 +121,22 @@ cycling deadline level lost =
 -- what is to come: the state's number, the head, the answer
 abbrev comes : ℕ → Plain → Answer → Coming
 comes n p a =
-    record { all = record { head = p; answer = a; lent = []; marks = []; crossings = [] }; state = n; raised = [] }
+    record { all = record { head = p; answer = a; lent = []; event = noEvent; marks = []; checked = []; crossings = [] }; state = n; raised = [] }
 
--- and the marks, with the level to which a lost SoC raised its counter
-abbrev counts : ℕ → Plain → Answer → List Mark → List ℕ → Coming
-counts n p a ms ls =
-    record { all = record { head = p; answer = a; lent = []; marks = ms; crossings = [] }; state = n; raised = ls }
+-- of an NMT event
+abbrev comesBy : NmtEvent → ℕ → Plain → Answer → Coming
+comesBy e n p a =
+    record { all = record { head = p; answer = a; lent = []; event = made e; marks = []; checked = []; crossings = [] }; state = n; raised = [] }
+
+-- and the marks, those of the SoC check among them, with the level to which a lost SoC raised its counter
+abbrev counts : ℕ → Plain → Answer → List Mark → List Mark → List ℕ → Coming
+counts n p a ms checked ls =
+    record { all = record { head = p; answer = a; lent = []; event = noEvent; marks = ms; checked = checked; crossings = [] }; state = n; raised = ls }
 
 -- of a call that is lent the watched nodes, also these
 abbrev leaves : ℕ → Plain → Answer → List WatchedNode → List Mark → Coming
 leaves n p a ws ms =
-    record { all = record { head = p; answer = a; lent = ws; marks = ms; crossings = [] }; state = n; raised = [] }
+    record { all = record { head = p; answer = a; lent = ws; event = noEvent; marks = ms; checked = []; crossings = [] }; state = n; raised = [] }
 
 abbrev pub nothingPassed : Passed
 nothingPassed = record { states = []; ranges = [] }
@@ -150,7 +157,7 @@ swReset =
     record {
       before = fresh startsWith;
       calls = nmtEvent 5 ∷ [];
-      after = comes 0x1C (resting NmtNotActive false true) (nmtAnswer [] wholeReset) ∷ [];
+      after = comesBy SwReset 0x1C (resting NmtNotActive false true) (nmtAnswer [] wholeReset) ∷ [];
     }
 
 -- "NotActive, Timeout: 0x1E."
@@ -159,7 +166,7 @@ timeout =
     record {
       before = resting NmtNotActive false true;
       calls = nmtEvent 10 ∷ [];
-      after = comes 0x1E (resting NmtBasicEthernet false true) (nmtAnswer [] nothingPassed) ∷ [];
+      after = comesBy Timeout 0x1E (resting NmtBasicEthernet false true) (nmtAnswer [] nothingPassed) ∷ [];
     }
 
 -- "PreOperational2, withdrawn, EnableReadyToOperate: stays, enabled; ready word: 0x6D."
@@ -170,8 +177,8 @@ enable =
       calls = withdraw ∷ nmtEvent 3 ∷ nmtEvent 15 ∷ [];
       after =
           comes 0x5D (resting NmtPreOperational2 false false) taken ∷
-          comes 0x5D (resting NmtPreOperational2 true false) (nmtAnswer [] nothingPassed) ∷
-          comes 0x6D (resting NmtReadyToOperate true true) (nmtAnswer [] nothingPassed) ∷
+          comesBy EnableReadyToOperate 0x5D (resting NmtPreOperational2 true false) (nmtAnswer [] nothingPassed) ∷
+          comesBy CnConfigurationComplete 0x6D (resting NmtReadyToOperate true true) (nmtAnswer [] nothingPassed) ∷
           [];
     }
 
@@ -182,7 +189,7 @@ noRow =
       before = resting NmtReadyToOperate true true;
       calls = nmtEvent 2 ∷ [];
       after =
-          comes 0x6D (resting NmtReadyToOperate true true)
+          comesBy EnterPreOperational2 0x6D (resting NmtReadyToOperate true true)
           (nmtAnswer (error.UnexpectedEventInState 0x6D 2 ∷ []) nothingPassed) ∷
           [];
     }
@@ -201,14 +208,14 @@ noCycle =
 abbrev pub quiet : Answer
 quiet = errorAnswer action.None false []
 
-abbrev pub asks : Answer
-asks = errorAnswer action.ResetCommunication true (error.LossOfSoc ∷ [])
+abbrev pub asksReset : Answer
+asksReset = errorAnswer action.ResetCommunication true (error.LossOfSoc ∷ [])
 
 abbrev firstLoss : Coming
-firstLoss = counts 0xFD (counting (countersOf 0 8 0 0)) quiet (given LossOfSoc ∷ []) (8 ∷ [])
+firstLoss = counts 0xFD (counting (countersOf 0 8 0 0)) quiet (given LossOfSoc ∷ []) [] (8 ∷ [])
 
 abbrev lowers : ℕ → Coming
-lowers level = counts 0xFD (counting (countersOf 0 level 0 0)) (cycleAnswer false) (drained LossOfSoc ∷ []) []
+lowers level = counts 0xFD (counting (countersOf 0 level 0 0)) (cycleAnswer false) (drained LossOfSoc ∷ []) [] []
 
 -- "Two SoC losses, one cycle between: 15, crossing."
 abbrev pub oneBetween : Example
@@ -219,7 +226,7 @@ oneBetween =
       after =
           firstLoss ∷
           lowers 7 ∷
-          counts 0xFD (counting (countersOf 1 0 0 0)) asks (given LossOfSoc ∷ crossed LossOfSoc ∷ []) (15 ∷ []) ∷
+          counts 0xFD (counting (countersOf 1 0 0 0)) asksReset (given LossOfSoc ∷ crossed LossOfSoc ∷ []) [] (15 ∷ []) ∷
           [];
     }
 
@@ -233,7 +240,7 @@ twoBetween =
           firstLoss ∷
           lowers 7 ∷
           lowers 6 ∷
-          counts 0xFD (counting (countersOf 0 14 0 0)) quiet (given LossOfSoc ∷ []) (14 ∷ []) ∷
+          counts 0xFD (counting (countersOf 0 14 0 0)) quiet (given LossOfSoc ∷ []) [] (14 ∷ []) ∷
           [];
     }
 
@@ -258,7 +265,7 @@ atLimit =
 
 -- "11,101 instead: loss, level 8, deadline 12,100."
 abbrev loss : Coming
-loss = counts 0xFD (cycling 12100 8 1) (tickAnswer []) (given LossOfSoc ∷ []) (8 ∷ [])
+loss = counts 0xFD (cycling 12100 8 1) (tickAnswer []) (given LossOfSoc ∷ []) (given LossOfSoc ∷ []) (8 ∷ [])
 
 abbrev pub aboveLimit : Example
 aboveLimit = record { before = cycling 11100 0 0; calls = tick 11101 [] ∷ []; after = loss ∷ [] }
@@ -273,8 +280,8 @@ entry =
       «additional_information» = 0;
     }
 
-abbrev pub crossing : Coming
-crossing =
+abbrev pub crossingTick : Coming
+crossingTick =
     record {
       all =
           record {
@@ -283,7 +290,9 @@ crossing =
                 (values 1 2 1 0 1) 1 (entry ∷ []) (entry ∷ []);
             answer = tickAnswer (error.LossOfSoc ∷ []);
             lent = [];
+            event = made Error;
             marks = given LossOfSoc ∷ crossed LossOfSoc ∷ [];
+            checked = given LossOfSoc ∷ crossed LossOfSoc ∷ [];
             crossings = entry ∷ [];
           };
       state = 0x1D;
@@ -292,7 +301,7 @@ crossing =
 
 abbrev pub thenCrossing : Example
 thenCrossing =
-    record { before = cycling 11100 0 0; calls = tick 11101 [] ∷ tick 12100 [] ∷ []; after = loss ∷ crossing ∷ [] }
+    record { before = cycling 11100 0 0; calls = tick 11101 [] ∷ tick 12100 [] ∷ []; after = loss ∷ crossingTick ∷ [] }
 
 -- "Timeout 50, heard 100: 150 in time, 151 late."
 abbrev pub watching : ℕ → List WatchedNode

@@ -8,6 +8,7 @@ use lib.ListN.{set}
 use Rattle.types.specs.Pick.{pick}
 use Rattle.types.specs.States.{sameState}
 use Rattle.types.specs.Errors.{reported}
+use Rattle.types.specs.Refusals.{refusalNumber}
 use Rattle.types.specs.declared.nmt.states.NmtState.the-variants.{NmtReadyToOperate}
 use Rattle.types.specs.declared.nmt.events.NmtEventRead.{NmtEventRead}
 use Rattle.types.specs.declared.nmt.events.NmtEventRead.the-variants as event
@@ -48,19 +49,19 @@ pub record InPlace (ws : List ℕ) (c : Call) (a : Answer) (ws′ known : List �
 -- the answers
 abbrev pub said : CallAnswer → Answer
 said answer.Taken = taken
-said (answer.Refused r) = refused r
+said (answer.Refused r) = refused (refusalNumber r)
 
 abbrev pub nmtSaid : NmtEventAnswer → Answer
 nmtSaid (nmt-answer.Taken t) = nmtAnswer (reported (t .errors)) (passed (t .reset))
-nmtSaid (nmt-answer.Refused r) = refused r
+nmtSaid (nmt-answer.Refused r) = refused (refusalNumber r)
 
 abbrev pub dllSaid : DllEventAnswer → Answer
 dllSaid (dll-answer.Taken es) = dllAnswer (reported es)
-dllSaid (dll-answer.Refused r) = refused r
+dllSaid (dll-answer.Refused r) = refused (refusalNumber r)
 
 abbrev pub errorSaid : ErrorAnswer → Answer
 errorSaid (error-answer.Taken t) = errorAnswer (t .action) (t .signal) (reported (t .logged))
-errorSaid (error-answer.Refused r) = refused r
+errorSaid (error-answer.Refused r) = refused (refusalNumber r)
 
 -- an error's answer without the counters
 abbrev pub replied : HandledError → ErrorTaken
@@ -81,7 +82,7 @@ nmtWords ws (event.Refused r) = ws
 
 abbrev pub dllWords : List ℕ → Bool → DllCsEventRead → List ℕ
 dllWords ws expected (cs-event.Taken e) =
-    set ws at.dll (Dll.csStateNumber (Dll.processed (dllState (word ws at.dll)) e (stateOf (word ws at.state)) expected .state))
+    set ws at.dll (Dll.csStateNumber (Dll.csProcessed (dllState (word ws at.dll)) e (stateOf (word ws at.state)) expected .state))
 dllWords ws expected (cs-event.Refused r) = ws
 
 -- only the counter that an error counts for changes, or the count of lost links

@@ -3,7 +3,7 @@
 use Prim.Native.Nat.{ℕ}
 use mathlib.Core.Bool.{Bool}
 use mathlib.Core.List.{List}
-use Rattle.types.specs.declared.refusals.Refusal.{Refusal}
+use Rattle.types.specs.declared.nmt.events.NmtEvent.{NmtEvent}
 use Rattle.types.specs.declared.frame.error.types.DllError.{DllError}
 use Rattle.types.specs.declared.frame.error.types.NmtAction.{NmtAction}
 use Rattle.nmt.specs.Resets.{Passed}
@@ -65,7 +65,7 @@ pub record Start : Type 0 where
 
 -- "A declined call returns its number only"; the others, what they answer
 pub data Answer : Type 0 where
-  refused : Refusal → Answer
+  refused : ℕ → Answer
   taken : Answer
   -- the errors reported, the states entered and the ranges to restore
   nmtAnswer : List DllError → Passed → Answer
@@ -79,19 +79,27 @@ pub data Answer : Type 0 where
   -- what a tick logged
   tickAnswer : List DllError → Answer
 
+-- the NMT event that a call gave the machine, or none
+pub data EventMade : Type 0 where
+  made : NmtEvent → EventMade
+  noEvent : EventMade
+
 -- what comes of a call: the head after it, the answer, the watched nodes that were lent, and what is counted of it: the
--- marks of the counters, and the entries of the crossings at a tick's SoC check
+-- NMT event, the marks of the counters, those of them that the errors of a tick's SoC check left, and the entries of the
+-- crossings there
 pub record Step : Type 0 where
   pub head : Plain
   pub answer : Answer
   pub lent : List WatchedNode
+  pub event : EventMade
   pub marks : List Mark
+  pub checked : List Mark
   pub crossings : List ErrorEntry
 
 -- what comes of start: a head, or a number where it is declined; and the watched nodes that were lent
 pub data Begun : Type 0 where
   begins : Plain → Begun
-  declined : Refusal → Begun
+  declined : ℕ → Begun
 
 pub record FirstStep : Type 0 where
   pub begun : Begun

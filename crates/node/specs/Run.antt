@@ -4,13 +4,12 @@ use mathlib.Core.List.{List, [], _∷_}
 use Rattle.types.specs.Events.{readEvent}
 use Rattle.types.specs.CsEvents.{readCsEvent}
 use Rattle.types.specs.Errors.{readError}
-use Rattle.types.specs.declared.refusals.Refusal.the-variants.{TimeLimit}
 use Rattle.counters.specs.Counters.{completed}
 use Rattle.counters.specs.Marks.{cycleMarks}
 use Rattle.watched.specs.declared.nodes.WatchedNode.{WatchedNode}
-use Rattle.watched.specs.Watched.{inTime, heardAt}
+use Rattle.watched.specs.Watched.{heardAt}
 use Rattle.node.specs.Plain.{Plain, Call, nmtEvent, dllEvent, error, cycleComplete, withdraw, heard, handOut, load, arm, tick, Answer, taken, Step}
-use Rattle.node.specs.Steps.{must, tried, withNmt, withSoc, withValues, answers, declines, nmtStep, dllStep, errorStep, cycleTaken, withdrawn, withdrawTests, heardTests, handOutStep, updated, updatedHistory, armed}
+use Rattle.node.specs.Steps.{tried, withNmt, withSoc, withValues, answers, declines, nmtStep, dllStep, errorStep, cycleTaken, withdrawn, withdrawTests, heardTests, handOutStep, updated, updatedHistory, armTests, armed}
 use Rattle.node.specs.Tick.{tickStep}
 
 -- what the plain head does at a call
@@ -24,18 +23,18 @@ step p (heard n t ws) = tried (heardTests n t ws) (declines p ws) (answers p tak
 step p handOut = handOutStep p
 step p (load values h) = answers (withValues p (updated (p .od) values) (updatedHistory (p .history) h)) taken []
 step p (tick t ws) = tickStep p t ws
-step p (arm t) = tried (must (inTime t) TimeLimit ∷ []) (declines p []) (answers (withSoc p (armed (p .soc) (p .od) t)) taken [])
+step p (arm t) = tried (armTests t) (declines p []) (answers (withSoc p (armed (p .soc) (p .od) t)) taken [])
 
 -- a list of calls, each on the head that the last one left: the head after it
-unfoldable pub run : Plain → List Call → Plain
-run p [] = p
-run p (c ∷ cs) = run (step p c .head) cs
+unfoldable pub stepAll : Plain → List Call → Plain
+stepAll p [] = p
+stepAll p (c ∷ cs) = stepAll (step p c .head) cs
 
 -- and what each answered, with what it left of what it was lent
 pub record Said : Type 0 where
   pub answer : Answer
   pub lent : List WatchedNode
 
-unfoldable pub said : Plain → List Call → List Said
-said p [] = []
-said p (c ∷ cs) = record { answer = step p c .answer; lent = step p c .lent } ∷ said (step p c .head) cs
+unfoldable pub saidAll : Plain → List Call → List Said
+saidAll p [] = []
+saidAll p (c ∷ cs) = record { answer = step p c .answer; lent = step p c .lent } ∷ saidAll (step p c .head) cs

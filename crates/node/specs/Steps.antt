@@ -10,9 +10,9 @@ use Rattle.types.specs.Types.{node, isNode}
 use Rattle.types.specs.Flags.{flags}
 use Rattle.types.specs.States.{sameState}
 use Rattle.types.specs.Errors.{reported}
-use Rattle.types.specs.declared.refusals.Refusal.{Refusal}
-use Rattle.types.specs.declared.refusals.Refusal.the-variants.{NodeNumber, QueueCapacity, WatchedNodes, TimeLimit, NotWatched, ReadyToOperate}
+use Rattle.types.specs.Refusals.{refusalNumber}
 use Rattle.types.specs.declared.nmt.states.NmtState.the-variants.{NmtReadyToOperate}
+use Rattle.types.specs.declared.nmt.events.NmtEvent.{NmtEvent}
 use Rattle.types.specs.declared.nmt.events.NmtEventRead.{NmtEventRead}
 use Rattle.types.specs.declared.nmt.events.NmtEventRead.the-variants as event
 use Rattle.types.specs.declared.frame.cs_state_machine.DllCsEventRead.{DllCsEventRead}
@@ -46,18 +46,18 @@ use Rattle.node.specs.declared.load.ObjectUpdate.the-variants as object
 use Rattle.node.specs.declared.load.DictionaryUpdate.{DictionaryUpdate}
 use Rattle.watched.specs.declared.nodes.WatchedNode.{WatchedNode}
 use Rattle.watched.specs.Watched.{inTime, wellFormed, isWatched, unheard}
-use Rattle.node.specs.Plain.{Plain, HistoryUpdate, set, keep, Start, Answer, refused, nmtAnswer, dllAnswer, errorAnswer, cycleAnswer, handOutAnswer, Step, begins, declined, FirstStep}
+use Rattle.node.specs.Plain.{Plain, HistoryUpdate, set, keep, Start, Answer, refused, nmtAnswer, dllAnswer, errorAnswer, cycleAnswer, handOutAnswer, made, noEvent, Step, begins, declined, FirstStep}
 
--- A test that a call makes, and the number that declines it otherwise.
-pub record Test : Type 0 where
+-- A test that a call makes, and the refusal that it gives otherwise: document 01's number, or the value that stands for it in src/.
+pub record Test (R : Type 0) : Type 0 where
   pub holds : Bool
-  pub otherwise : Refusal
+  pub otherwise : R
 
-abbrev pub must : Bool → Refusal → Test
+abbrev pub must : {R : Type 0} → Bool → R → Test R
 must b r = record { holds = b; otherwise = r }
 
 -- "The first that applies is given, and none is given otherwise."
-abbrev pub tried : {A : Type 0} → List Test → (Refusal → A) → A → A
+abbrev pub tried : {R A : Type 0} → List (Test R) → (R → A) → A → A
 tried [] refuse accept = accept
 tried (t ∷ ts) refuse accept = pick (t .holds) (tried ts refuse accept) (refuse (t .otherwise))
 
@@ -86,11 +86,11 @@ withValues p o h = plainOf (p .nmt) (p .dll) (p .errors) (p .soc) o (p .capacity
 
 -- a call that leaves what was lent, and of which nothing is counted
 abbrev pub answers : Plain → Answer → List WatchedNode → Step
-answers p a l = record { head = p; answer = a; lent = l; marks = []; crossings = [] }
+answers p a l = record { head = p; answer = a; lent = l; event = noEvent; marks = []; checked = []; crossings = [] }
 
 -- "A declined call returns its number only"; the head and what was lent stay as they are
-abbrev pub declines : Plain → List WatchedNode → Refusal → Step
-declines p l r = answers p (refused r) l
+abbrev pub declines : Plain → List WatchedNode → ℕ → Step
+declines p l n = answers p (refused n) l
 
 -- Start. "A fresh head is at GsInitialising, not enabled, ready, DLL NonCyclic, check off, no deadline, last SoC 0, all
 -- nodes last heard 0, levels and counts 0, error_status_changed off, queue empty." "Start gives these values, with an
@@ -101,35 +101,44 @@ fresh s =
     (socWatch 0 false Nothing false) (s .od) (s .capacity) [] []
 
 -- numbers 1, 2 and 3
-abbrev pub startTests : Start → List Test
+abbrev pub startTests : Start → List (Test ℕ)
 startTests s =
-    must (isNode (s .node)) NodeNumber ∷
-    must (leb (s .capacity) 32) QueueCapacity ∷
-    must (wellFormed (s .watched)) WatchedNodes ∷
+    must (isNode (s .node)) 1 ∷
+    must (leb (s .capacity) 32) 2 ∷
+    must (wellFormed (s .watched)) 3 ∷
     []
 
 unfoldable pub started : Start → FirstStep
 started s =
     tried (startTests s)
-    (λ r. record { begun = declined r; lent = s .watched })
+    (λ n. record { begun = declined n; lent = s .watched })
     (record { begun = begins (fresh s); lent = unheard (s .watched) })
 
 -- An NMT event: number 4, or what the machine makes of it. "Errors of NMT and DLL events are reported and not counted."
 -- A reset touches the NMT machine alone.
-abbrev pub nmtTaken : Plain → Nmt.Outcome → Step
-nmtTaken p o = answers (withNmt p (o .machine)) (nmtAnswer (o .errors) (o .reset)) []
+abbrev pub nmtTaken : Plain → NmtEvent → Nmt.Outcome → Step
+nmtTaken p e o =
+    record {
+      head = withNmt p (o .machine);
+      answer = nmtAnswer (o .errors) (o .reset);
+      lent = [];
+      event = made e;
+      marks = [];
+      checked = [];
+      crossings = [];
+    }
 
 abbrev pub nmtStep : Plain → NmtEventRead → Step
-nmtStep p (event.Taken e) = nmtTaken p (Nmt.processed (p .nmt) e)
-nmtStep p (event.Refused r) = declines p [] r
+nmtStep p (event.Taken e) = nmtTaken p e (Nmt.processed (p .nmt) e)
+nmtStep p (event.Refused r) = declines p [] (refusalNumber r)
 
 -- "A DLL event takes the head's own NMT state and is told whether a PReq is expected."
-abbrev pub dllTaken : Plain → Dll.Outcome → Step
+abbrev pub dllTaken : Plain → Dll.CsOutcome → Step
 dllTaken p o = answers (withDll p (o .state)) (dllAnswer (o .errors)) []
 
 abbrev pub dllStep : Plain → Bool → DllCsEventRead → Step
-dllStep p expected (cs-event.Taken e) = dllTaken p (Dll.processed (p .dll) e (p .nmt .«current_state») expected)
-dllStep p expected (cs-event.Refused r) = declines p [] r
+dllStep p expected (cs-event.Taken e) = dllTaken p (Dll.csProcessed (p .dll) e (p .nmt .«current_state») expected)
+dllStep p expected (cs-event.Refused r) = declines p [] (refusalNumber r)
 
 -- "An error given to the counters touches only them." Numbers 1 and 4 are in its reading.
 abbrev pub errorTaken : Plain → HandledError → List Mark → Step
@@ -138,13 +147,15 @@ errorTaken p r ms =
       head = withErrors p (r .counters);
       answer = errorAnswer (r .action) (r .signal) (reported (r .logged));
       lent = [];
+      event = noEvent;
       marks = ms;
+      checked = [];
       crossings = [];
     }
 
 abbrev pub errorStep : Plain → DllErrorRead → Step
 errorStep p (error-read.Taken e) = errorTaken p (handled (p .errors) e) (errorMarks (p .errors) e)
-errorStep p (error-read.Refused r) = declines p [] r
+errorStep p (error-read.Refused r) = declines p [] (refusalNumber r)
 
 -- Cycle complete. "It answers yes when the last level reaches 0."
 abbrev pub cycleTaken : Plain → CompletedCycle → List Mark → Step
@@ -153,7 +164,9 @@ cycleTaken p r ms =
       head = withErrors p (r .counters);
       answer = cycleAnswer (r .cleared);
       lent = [];
+      event = noEvent;
       marks = ms;
+      checked = [];
       crossings = [];
     }
 
@@ -161,13 +174,12 @@ cycleTaken p r ms =
 abbrev pub withdrawn : CnNmtStateMachine → CnNmtStateMachine
 withdrawn m = Nmt.with m (m .«current_state») (m .«ready_to_operate_enabled») false
 
-abbrev pub withdrawTests : Plain → List Test
-withdrawTests p = must (not (sameState (p .nmt .«current_state») NmtReadyToOperate)) ReadyToOperate ∷ []
+abbrev pub withdrawTests : Plain → List (Test ℕ)
+withdrawTests p = must (not (sameState (p .nmt .«current_state») NmtReadyToOperate)) 8 ∷ []
 
 -- Heard: numbers 3, 5 and 7.
-abbrev pub heardTests : ℕ → ℕ → List WatchedNode → List Test
-heardTests n t ws =
-    must (wellFormed ws) WatchedNodes ∷ must (inTime t) TimeLimit ∷ must (isWatched n ws) NotWatched ∷ []
+abbrev pub heardTests : ℕ → ℕ → List WatchedNode → List (Test ℕ)
+heardTests n t ws = must (wellFormed ws) 3 ∷ must (inTime t) 5 ∷ must (isWatched n ws) 7 ∷ []
 
 -- "Hand out the oldest entry": the first of the queue, or "none".
 abbrev pub handOutStep : Plain → Step
@@ -217,6 +229,10 @@ toleranceOf o = valueOr 100000 (o .tolerance)
 -- "limit = cycle + tolerance/1000 rounded down"
 abbrev pub limitOf : Dictionary → ℕ
 limitOf o = cycleOf o + toleranceOf o / 1000
+
+-- Arm: number 5.
+abbrev pub armTests : ℕ → List (Test ℕ)
+armTests t = must (inTime t) 5 ∷ []
 
 -- "Arm takes an SoC time and sets the last SoC time; with cycle above 0 the check goes on and the deadline is that
 -- time + limit, with cycle 0 the check is off and no deadline stands."

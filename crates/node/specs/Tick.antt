@@ -9,7 +9,6 @@ use Rattle.types.specs.Pick.{pick, both, either}
 use Rattle.types.specs.Types.{node}
 use Rattle.types.specs.States.{stateNumber, sameState}
 use Rattle.types.specs.Errors.{reported}
-use Rattle.types.specs.declared.refusals.Refusal.the-variants.{WatchedNodes, TimeLimit, BeforeHeard}
 use Rattle.types.specs.declared.nmt.states.NmtState.{NmtState}
 use Rattle.types.specs.declared.nmt.states.NmtState.the-variants.{NmtNotActive}
 use Rattle.types.specs.declared.nmt.events.NmtEvent.{NmtEvent}
@@ -22,9 +21,9 @@ use Rattle.types.specs.declared.frame.error.types.NmtAction.the-variants as act
 use Rattle.nmt.specs.Nmt as Nmt
 use Rattle.dll.specs.Dll as Dll
 use Rattle.counters.specs.Counters.{handled}
-use Rattle.counters.specs.Marks.{Mark, errorMarks}
+use Rattle.counters.specs.Marks.{Mark, crosses, errorMarks}
 use Rattle.counters.specs.declared.counters.HandledError.{HandledError}
-use Rattle.entries.specs.Entry.{crossing}
+use Rattle.entries.specs.Entry.{crossingEntry}
 use Rattle.entries.specs.declared.status_response.ErrorEntry.{ErrorEntry}
 use Rattle.head.specs.declared.state.Deadline.{Deadline}
 use Rattle.head.specs.declared.state.Deadline.the-variants.{At, Nothing}
@@ -32,7 +31,7 @@ use Rattle.head.specs.declared.state.SocWatch.{SocWatch}
 use Rattle.head.specs.declared.state.Dictionary.{Dictionary}
 use Rattle.watched.specs.declared.nodes.WatchedNode.{WatchedNode}
 use Rattle.watched.specs.Watched.{latest, inTime, allOf, wellFormed, heardNow}
-use Rattle.node.specs.Plain.{Plain, tickAnswer, Step}
+use Rattle.node.specs.Plain.{Plain, tickAnswer, EventMade, made, noEvent, Step}
 use Rattle.node.specs.Steps.{Test, must, tried, plainOf, withNmt, withDll, withErrors, withSoc, declines, cycleOf, toleranceOf, limitOf}
 use Rattle.head.specs.Head.{socWatch}
 
@@ -40,12 +39,14 @@ use Rattle.head.specs.Head.{socWatch}
 pub record Ticked : Type 0 where
   pub head : Plain
   pub logged : List DllError
+  pub event : EventMade
   pub marks : List Mark
+  pub checked : List Mark
   pub crossings : List ErrorEntry
   pub ended : Bool
 
 abbrev pub goesOn : Plain → Ticked
-goesOn p = record { head = p; logged = []; marks = []; crossings = []; ended = false }
+goesOn p = record { head = p; logged = []; event = noEvent; marks = []; checked = []; crossings = []; ended = false }
 
 -- the second behind the first, which has not ended
 abbrev pub behind : Ticked → Ticked → Ticked
@@ -53,7 +54,9 @@ behind a b =
     record {
       head = b .head;
       logged = a .logged ++ b .logged;
+      event = b .event;
       marks = a .marks ++ b .marks;
+      checked = a .checked ++ b .checked;
       crossings = a .crossings ++ b .crossings;
       ended = b .ended;
     }
@@ -67,11 +70,11 @@ abbrev pub notBefore : ℕ → WatchedNode → Bool
 notBefore t w = pick (both (ltb 0 (w .timeout)) (ltb 0 (w .«last_heard»))) (leb (w .«last_heard») t) true
 
 -- numbers 3, 5 and 6
-abbrev pub tickTests : Plain → ℕ → List WatchedNode → List Test
+abbrev pub tickTests : Plain → ℕ → List WatchedNode → List (Test ℕ)
 tickTests p t ws =
-    must (wellFormed ws) WatchedNodes ∷
-    must (inTime t) TimeLimit ∷
-    must (pick (checksHeartbeats (p .nmt .«current_state»)) (allOf (notBefore t) ws) true) BeforeHeard ∷
+    must (wellFormed ws) 3 ∷
+    must (inTime t) 5 ∷
+    must (pick (checksHeartbeats (p .nmt .«current_state»)) (allOf (notBefore t) ws) true) 6 ∷
     []
 
 -- "timeout 0 never fires; otherwise elapsed strictly above the timeout is late"
@@ -133,18 +136,26 @@ abbrev pub eventInTick : Plain → NmtEvent → Plain
 eventInTick p e = withSoc (withNmt p (Nmt.processed (p .nmt) e .machine)) (checkOff (p .soc))
 
 -- what an error's handling leaves of the head p: "event Error, check off" where it ends the tick
-abbrev pub finished : Bool → List DllError → List Mark → List ErrorEntry → Plain → Ticked
-finished ends logged marks crossings p =
-    record { head = pick ends (eventInTick p Error) p; logged = logged; marks = marks; crossings = crossings; ended = ends }
+abbrev pub finished : Bool → List DllError → List Mark → List Mark → List ErrorEntry → Plain → Ticked
+finished ends logged marks checked crossings p =
+    record {
+      head = pick ends (eventInTick p Error) p;
+      logged = logged;
+      event = pick ends (made Error) noEvent;
+      marks = marks;
+      checked = checked;
+      crossings = crossings;
+      ended = ends;
+    }
 
 -- an action ends the tick
-abbrev pub dealt : HandledError → List Mark → List ErrorEntry → Plain → Ticked
-dealt r ms cs p = finished (acts (r .action)) (reported (r .logged)) ms cs p
+abbrev pub dealt : HandledError → List Mark → List Mark → List ErrorEntry → Plain → Ticked
+dealt r ms checked cs p = finished (acts (r .action)) (reported (r .logged)) ms checked cs p
 
 -- "neither counter 1 nor an entry follows from a heartbeat"
 abbrev pub beatBy : Plain → List Mark → HandledError → Ticked
 beatBy p ms r =
-    dealt r ms [] (pick (r .signal) (signalled (withErrors p (r .counters))) (withErrors p (r .counters)))
+    dealt r ms [] [] (pick (r .signal) (signalled (withErrors p (r .counters))) (withErrors p (r .counters)))
 
 abbrev pub timeoutOf : WatchedNode → DllError
 timeoutOf w = HeartbeatTimeout (node (w .node))
@@ -183,6 +194,18 @@ setsBasic p t = pick (ltb 0 (basicTimeout p)) (withDeadline p (At (t + basicTime
 abbrev pub timesOut : Plain → Plain
 timesOut p = pick (ltb 0 (basicTimeout p)) (eventInTick p Timeout) p
 
+abbrev pub timedOut : Plain → Ticked
+timedOut p =
+    record {
+      head = timesOut p;
+      logged = [];
+      event = pick (ltb 0 (basicTimeout p)) (made Timeout) noEvent;
+      marks = [];
+      checked = [];
+      crossings = [];
+      ended = false;
+    }
+
 -- the head with its dictionary values replaced, and those with counters 1, 2 and 3 replaced
 abbrev pub withOd : Plain → Dictionary → Plain
 withOd p o = plainOf (p .nmt) (p .dll) (p .errors) (p .soc) o (p .capacity) (p .queue) (p .history)
@@ -216,14 +239,14 @@ droppedOne p = withOd p (statistics (p .od) (p .od .«counter_1») (p .od .«cou
 unfoldable pub queued : Plain → ErrorEntry → Plain
 queued p e = pick (ltb (length (p .queue)) (p .capacity)) (kept p e) (droppedOne p)
 
--- one error of the SoC check, with the entry of its crossing
-abbrev pub dealBy : Plain → List Mark → ErrorEntry → HandledError → Ticked
-dealBy p ms x r =
-    dealt r ms (pick (r .signal) (x ∷ []) [])
-    (pick (r .signal) (queued (signalled (withErrors (counter1 p) (r .counters))) x) (withErrors (counter1 p) (r .counters)))
+-- one error of the SoC check; where it crosses, it reaches the threshold of its kind, with the entry of that
+abbrev pub dealBy : Plain → List Mark → Bool → ErrorEntry → HandledError → Ticked
+dealBy p ms crosses x r =
+    dealt r ms ms (pick crosses (x ∷ []) [])
+    (pick crosses (queued (signalled (withErrors (counter1 p) (r .counters))) x) (withErrors (counter1 p) (r .counters)))
 
 unfoldable pub deal : ℕ → Plain → DllError → Ticked
-deal t p e = dealBy p (errorMarks (p .errors) e) (crossing e t) (handled (p .errors) e)
+deal t p e = dealBy p (errorMarks (p .errors) e) (crosses (p .errors) e) (crossingEntry e t) (handled (p .errors) e)
 
 -- "The first error whose handling brings an action ends the tick."
 unfoldable pub dealAll : ℕ → Plain → List DllError → Ticked
@@ -253,8 +276,8 @@ withinLimit p t =
     (rescheduled p t)
 
 -- "Elapsed strictly above the limit is a SocTimeout with PReq expected."
-abbrev pub socTimeout : Plain → Dll.Outcome
-socTimeout p = Dll.processed (p .dll) SocTimeout (p .nmt .«current_state») true
+abbrev pub socTimeout : Plain → Dll.CsOutcome
+socTimeout p = Dll.csProcessed (p .dll) SocTimeout (p .nmt .«current_state») true
 
 -- where no error ended the tick, the check goes on
 abbrev pub afterLoss : ℕ → Ticked → Ticked
@@ -270,12 +293,12 @@ socCheck p t =
     (pick (ltb (limitOf (p .od)) (elapsed p t)) (lost p t) (goesOn (withinLimit p t))) (goesOn p)
 
 -- "A deadline passes at now ≥ deadline and is used up."
-abbrev pub passed : Plain → ℕ → Ticked
-passed p t = pick (atNotActive p) (goesOn (timesOut p)) (socCheck p t)
+abbrev pub usedUp : Plain → ℕ → Ticked
+usedUp p t = pick (atNotActive p) (timedOut p) (socCheck p t)
 
 abbrev pub byDeadline : Plain → ℕ → Deadline → Ticked
 byDeadline p t Nothing = goesOn (pick (atNotActive p) (setsBasic p t) p)
-byDeadline p t (At d) = pick (leb d t) (passed (withDeadline p Nothing) t) (goesOn p)
+byDeadline p t (At d) = pick (leb d t) (usedUp (withDeadline p Nothing) t) (goesOn p)
 
 -- the tick: the heartbeats, and what follows where no crossing ended it
 unfoldable pub tickTaken : Plain → ℕ → List WatchedNode → Ticked
@@ -285,7 +308,15 @@ tickTaken p t ws =
 
 abbrev pub tickAnswered : Ticked → List WatchedNode → Step
 tickAnswered k ws =
-    record { head = k .head; answer = tickAnswer (k .logged); lent = ws; marks = k .marks; crossings = k .crossings }
+    record {
+      head = k .head;
+      answer = tickAnswer (k .logged);
+      lent = ws;
+      event = k .event;
+      marks = k .marks;
+      checked = k .checked;
+      crossings = k .crossings;
+    }
 
 abbrev pub tickStep : Plain → ℕ → List WatchedNode → Step
 tickStep p t ws =

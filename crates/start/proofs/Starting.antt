@@ -9,6 +9,7 @@ use lib.Dec.{leb}
 use borrow.Author.Tests.{le-leb, lt-leb}
 use Rattle.types.specs.Pick.{pick}
 use Rattle.types.specs.Types.{node, isNode, readNode}
+use Rattle.types.specs.Refusals.{refusalNumber}
 use Rattle.types.specs.declared.refusals.Refusal.{Refusal}
 use Rattle.types.specs.declared.refusals.Refusal.the-variants.{NodeNumber, QueueCapacity, WatchedNodes}
 use Rattle.types.specs.declared.types.NodeId.{NodeId}
@@ -50,7 +51,7 @@ module _ (ws : List ℕ) (vs : List WatchedNode) (n : ℕ) (f : FeatureFlags) (t
   freshWith x = plainOf (Nmt.fresh x f t) NonCyclic newCounters (socWatch 0 false Nothing false) o c [] []
 
   abbrev no : Refusal → FirstStep
-  no r = record { begun = declined r; lent = vs }
+  no r = record { begun = declined (refusalNumber r); lent = vs }
 
   abbrev yes : NodeId → FirstStep
   yes x = record { begun = begins (freshWith x); lent = unheard vs }

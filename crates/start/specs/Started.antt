@@ -7,6 +7,7 @@ use mathlib.Core.List.{List, [], _∷_}
 use lib.Dec.{leb}
 use lib.ListN.{set, replicate}
 use Rattle.types.specs.Types.{node, isNode}
+use Rattle.types.specs.Refusals.{refusalNumber}
 use Rattle.types.specs.declared.types.NodeId.{NodeId}
 use Rattle.types.specs.declared.refusals.Refusal.the-variants.{NodeNumber, QueueCapacity, WatchedNodes}
 use Rattle.types.specs.declared.nmt.flags.FeatureFlags.{FeatureFlags}
@@ -38,7 +39,7 @@ startOf n f t c o ws = record { node = n; flags = f .0; timeout = t; capacity = 
 -- what start answers, with the head that its words stand for
 abbrev pub begunBy : CallAnswer → Head → List ℕ → List ℕ → Begun
 begunBy answer.Taken h q m = begins (plain h q m)
-begunBy (answer.Refused r) h q m = declined r
+begunBy (answer.Refused r) h q m = declined (refusalNumber r)
 
 -- the places of a head that start gave: queue and history are empty
 abbrev pub FreshPlaces : CallAnswer → Head → ℕ → Type 0

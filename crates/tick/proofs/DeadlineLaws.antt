@@ -26,7 +26,7 @@ use Rattle.head.specs.declared.state.Deadline.the-variants.{At, Nothing}
 use Rattle.head.specs.Head.{Head, with-dll}
 use Rattle.node.specs.Plain.{Plain}
 use Rattle.node.specs.Steps.{plainOf, withSoc, withDll, cycleOf, toleranceOf, limitOf}
-use Rattle.node.specs.Tick.{Ticked, goesOn, behind, checkOff, withDeadline, nextDeadline, rescheduled, withinLimit, socTimeout, dealAll, lost, socCheck, atNotActive, setsBasic, timesOut, eventInTick, passed, byDeadline}
+use Rattle.node.specs.Tick.{Ticked, goesOn, behind, checkOff, withDeadline, nextDeadline, rescheduled, withinLimit, socTimeout, dealAll, lost, socCheck, atNotActive, setsBasic, timesOut, timedOut, eventInTick, usedUp, byDeadline}
 use Rattle.node.specs.Refines.{plain, Becomes, rings, joinsAll}
 use Rattle.heartbeats.specs.Parts.{PartLeft, Ticks, isQuiet}
 use Rattle.tick.specs.Ticks.{Loses}
@@ -149,7 +149,7 @@ itself h = (λ q m. refl, record { queue = refl; history = refl })
 -- a SocTimeout, and its errors: all are quiet
 pub loses :
     (h : Head) (a : DllAnswer) →
-    Dll.outcome a ≡ Dll.processed (h .dll .state) SocTimeout (h .nmt .«current_state») true →
+    Dll.csOutcome a ≡ Dll.csProcessed (h .dll .state) SocTimeout (h .nmt .«current_state») true →
     Loses h (with-dll h (a .machine)) (a .errors)
 loses h a e =
     record {
@@ -158,11 +158,11 @@ loses h a e =
             plainOf (h .nmt) (e i .state) (h .errors) (h .soc) (h .od) (capacityOf (h .queue)) (waiting q (h .queue)) (history m (h .history)),
         record { queue = refl; history = refl },
       );
-      errors = λ q m. ap (λ (o : Dll.Outcome). o .errors) e;
+      errors = λ q m. ap (λ (o : Dll.CsOutcome). o .errors) e;
     }
 
-timeouts-quiet : (s : DllCsState) (n : NmtState) → allOf isQuiet (Dll.processed s SocTimeout n true .errors) ≡ true
-unfolding Dll.processed
+timeouts-quiet : (s : DllCsState) (n : NmtState) → allOf isQuiet (Dll.csProcessed s SocTimeout n true .errors) ≡ true
+unfolding Dll.csProcessed
 timeouts-quiet s n = by (Dll.isCyclic n) s
   where
     by : (b : Bool) (s : DllCsState) → allOf isQuiet (pick b (Dll.cyclic s SocTimeout true) (Dll.goes NonCyclic []) .errors) ≡ true
@@ -290,20 +290,21 @@ module _ (h : Head) (q m : List ℕ) (t : ℕ) (r : PartLeft) where
     pub not-passed : t < at → r ≡ record { head = h; logged = errors.None; ended = false } → Ticks h q m (byDeadline p₀ t (h .soc .«next_tick_us»)) r q m
     not-passed y e =
         ticks-as (goesOn p₀) (byDeadline p₀ t (h .soc .«next_tick_us»))
-        (ap (byDeadline p₀ t) z ∙ ap (λ (b : Bool). pick b (passed (withDeadline p₀ Nothing) t) (goesOn p₀)) (lt-leb at t y)) (on-ticks (λ p. p) (itself h) e)
+        (ap (byDeadline p₀ t) z ∙ ap (λ (b : Bool). pick b (usedUp (withDeadline p₀ Nothing) t) (goesOn p₀)) (lt-leb at t y)) (on-ticks (λ p. p) (itself h) e)
 
     module _ (y : at ≤ t) (u : Head) (k : Becomes h (λ p. withDeadline p Nothing) u) (b : Bool) (a : b ≡ atNotActive (plain u [] [])) where
-      used-up : (c : Bool) → b ≡ c → byDeadline p₀ t (h .soc .«next_tick_us») ≡ pick c (goesOn (timesOut (withDeadline p₀ Nothing))) (socCheck (withDeadline p₀ Nothing) t)
+      used-up : (c : Bool) → b ≡ c → byDeadline p₀ t (h .soc .«next_tick_us») ≡ pick c (timedOut (withDeadline p₀ Nothing)) (socCheck (withDeadline p₀ Nothing) t)
       used-up c x =
           ap (byDeadline p₀ t) z
-          ∙ ap (λ (b : Bool). pick b (passed (withDeadline p₀ Nothing) t) (goesOn p₀)) (le-leb at t y)
-          ∙ ap (λ (b : Bool). pick b (goesOn (timesOut (withDeadline p₀ Nothing))) (socCheck (withDeadline p₀ Nothing) t))
+          ∙ ap (λ (b : Bool). pick b (usedUp (withDeadline p₀ Nothing) t) (goesOn p₀)) (le-leb at t y)
+          ∙ ap (λ (b : Bool). pick b (timedOut (withDeadline p₀ Nothing)) (socCheck (withDeadline p₀ Nothing) t))
           (sym (a ∙ ap atNotActive (k .0 [] [])) ∙ x)
 
       pub passed-idle : b ≡ true → (g : Head) → Becomes u timesOut g → r ≡ record { head = g; logged = errors.None; ended = false } → Ticks h q m (byDeadline p₀ t (h .soc .«next_tick_us»)) r q m
       passed-idle x g n e =
-          ticks-as (goesOn (timesOut (withDeadline p₀ Nothing))) (byDeadline p₀ t (h .soc .«next_tick_us»)) (used-up true x)
-          (on-ticks (λ p. timesOut (withDeadline p Nothing)) (becomes-then (λ p. withDeadline p Nothing) timesOut k n) e)
+          let w = on-ticks (λ p. timesOut (withDeadline p Nothing)) (becomes-then (λ p. withDeadline p Nothing) timesOut k n) e in
+          ticks-as (timedOut (withDeadline p₀ Nothing)) (byDeadline p₀ t (h .soc .«next_tick_us»)) (used-up true x)
+          (record { head = w .head; logged = w .logged; ended = w .ended; joined = w .joined })
 
       pub passed-check : b ≡ false → (q′ m′ : List ℕ) → Ticks u q m (socCheck (plain u q m) t) r q′ m′ → Ticks h q m (byDeadline p₀ t (h .soc .«next_tick_us»)) r q′ m′
       passed-check x q′ m′ w =

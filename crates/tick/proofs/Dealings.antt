@@ -14,7 +14,7 @@ use Rattle.types.specs.declared.frame.error.types.DllErrors.{DllErrors}
 use Rattle.types.specs.declared.frame.error.types.DllErrors.the-variants as errors
 use Rattle.counters.specs.Counters.{effect, handled}
 use Rattle.counters.specs.declared.counters.HandledError.{HandledError}
-use Rattle.entries.specs.Entry.{FitsBytes, crossing}
+use Rattle.entries.specs.Entry.{FitsBytes, crossingEntry}
 use Rattle.entries.specs.Queue.{queue, hasRoom, pushed, pushedBytes}
 use Rattle.entries.specs.History.{errorHistory, joined, joinedBytes}
 use Rattle.entries.specs.declared.status_response.ErrorEntry.{ErrorEntry}
@@ -125,7 +125,7 @@ module _ (ws : List ℕ) (long : length ws ≡ 52) where
         (z .0, z .1, w ∙ sym (ap entered (keeps false y)))
 
 -- one error of the SoC check
-module _ (ws : List ℕ) (long : length ws ≡ 52) (q m : List ℕ) (e : DllError) (t : ℕ) (r : ErrorTaken) (same : r ≡ replied (handled (errorsOf ws) e)) (ws₁ : List ℕ) (there : ws₁ ≡ effectWords ws (effect e)) (long₁ : length ws₁ ≡ 52) (ws₂ : List ℕ) (count : ws₂ ≡ set ws₁ at.counter1 (oneMore (word ws₁ at.counter1))) (a : Bool) (z : a ≡ acts (r .action)) (f : Dealt) (ws′ : List ℕ) where
+module _ (ws : List ℕ) (long : length ws ≡ 52) (q m : List ℕ) (e : DllError) (t : ℕ) (quiet : isQuiet e ≡ true) (r : ErrorTaken) (same : r ≡ replied (handled (errorsOf ws) e)) (ws₁ : List ℕ) (there : ws₁ ≡ effectWords ws (effect e)) (long₁ : length ws₁ ≡ 52) (ws₂ : List ℕ) (count : ws₂ ≡ set ws₁ at.counter1 (oneMore (word ws₁ at.counter1))) (a : Bool) (z : a ≡ acts (r .action)) (f : Dealt) (ws′ : List ℕ) where
   abbrev R : HandledError
   R = handled (errorsOf ws) e
 
@@ -161,7 +161,7 @@ module _ (ws : List ℕ) (long : length ws ≡ 52) (q m : List ℕ) (e : DllErro
   deal-quiet s k =
       record {
         ticks =
-            deal-unsignalled (headOf ws) q m e t R refl (headOf ws₂) counts a ending (dealtOf ws′ f) (signals false s) (logs (headOf ws₂) (k .finishes));
+            deal-unsignalled (headOf ws) q m e t quiet R refl (headOf ws₂) counts a ending (dealtOf ws′ f) (signals false s) (logs (headOf ws₂) (k .finishes));
         words = k .words ∙ ap₂ finishedWords ending (counted ∙ sym (ap ahead (signals false s)));
       }
 
@@ -170,8 +170,8 @@ module _ (ws : List ℕ) (long : length ws ≡ 52) (q m : List ℕ) (e : DllErro
       (ws₃ : List ℕ) →
       Turns ws₂ signalled ws₃ (signalWords ws₂) →
       (ws₄ q′ m′ : List ℕ) →
-      (plain (headOf ws₄) q′ m′ ≡ queued (plain (headOf ws₃) q m) (crossing e t))
-      × (rings (headOf ws₄) q′ m′ ≡ joins (rings (headOf ws₃) q m) (crossing e t))
+      (plain (headOf ws₄) q′ m′ ≡ queued (plain (headOf ws₃) q m) (crossingEntry e t))
+      × (rings (headOf ws₄) q′ m′ ≡ joins (rings (headOf ws₃) q m) (crossingEntry e t))
       × (ws₄ ≡ entryWords ws₃) →
       FinishesIn ws₄ (r .logged) a f ws′ →
       TicksIn ws q m (deal t (plain (headOf ws) q m) e) f ws′ q′ m′ (dealWords ws e)
@@ -179,7 +179,7 @@ module _ (ws : List ℕ) (long : length ws ≡ 52) (q m : List ℕ) (e : DllErro
   deal-loud s ws₃ u ws₄ q′ m′ v k =
       record {
         ticks =
-            deal-signalled (headOf ws) q m e t R refl (headOf ws₂) counts a ending (dealtOf ws′ f) (signals true s) (headOf ws₃) (u .becomes)
+            deal-signalled (headOf ws) q m e t quiet R refl (headOf ws₂) counts a ending (dealtOf ws′ f) (signals true s) (headOf ws₃) (u .becomes)
             (headOf ws₄) q′ m′ (v .0, v .1) (logs (headOf ws₄) (k .finishes));
         words =
             k .words

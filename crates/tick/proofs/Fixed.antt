@@ -3,6 +3,7 @@
 use Prim.Native.Nat.{ℕ}
 use mathlib.Core.Path.{_≡_, refl, sym, ap, _∙_}
 use mathlib.Core.List.{List}
+use Rattle.types.proofs.Refused.{number-fixes}
 use Rattle.types.proofs.Reported.{reported-fixes}
 use Rattle.node.specs.Refines.{Rings}
 use Rattle.node.proofs.Fixed.{apart, refusal-of, errors-of}
@@ -15,7 +16,7 @@ pub tick-said-fixed : (a b : TickAnswer) → tickSaid a ≡ tickSaid b → a ≡
 tick-said-fixed (tick-answer.Taken t) (tick-answer.Taken u) e = ap tick-answer.Taken (reported-fixes t u (errors-of e))
 tick-said-fixed (tick-answer.Taken t) (tick-answer.Refused s) e = apart (sym e) refl refl
 tick-said-fixed (tick-answer.Refused r) (tick-answer.Taken u) e = apart e refl refl
-tick-said-fixed (tick-answer.Refused r) (tick-answer.Refused s) e = ap tick-answer.Refused (refusal-of e)
+tick-said-fixed (tick-answer.Refused r) (tick-answer.Refused s) e = ap tick-answer.Refused (number-fixes (refusal-of e))
 
 leaves-same : {a b : TickAnswer} → a ≡ b → (ws ws′ : List ℕ) → tickLeaves a ws ws′ ≡ tickLeaves b ws ws′
 leaves-same e ws ws′ = ap (λ (a : TickAnswer). tickLeaves a ws ws′) e

@@ -27,7 +27,7 @@ use Rattle.head.specs.Words.{word, stateOf, dllState, socOf, odOf, headOf}
 use Rattle.head.specs.Written.{deadlineWritten}
 use Rattle.head.proofs.Laws.{dll-written}
 use Rattle.heartbeats.specs.declared.dealt.Dealt.{Dealt}
-use Rattle.tick.specs.TickWords.{bare, rescheduledWords, withinWords, lossWords, afterLossWords, dealAllWords, lostWords, checkWords, basicWords, timeoutWords, passedWords, deadlineWords}
+use Rattle.tick.specs.TickWords.{unlent, rescheduledWords, withinWords, lossWords, afterLossWords, dealAllWords, lostWords, checkWords, basicWords, timeoutWords, passedWords, deadlineWords}
 use Rattle.heartbeats.specs.PartsIn.{Turns, dealtOf, TicksIn}
 use Rattle.tick.specs.TickIn.{LosesIn}
 
@@ -36,7 +36,7 @@ on = record { logged = errors.None; ended = false }
 
 pub loses-in :
     (ws : List ℕ) (long : length ws ≡ 52) (a : DllAnswer) →
-    Dll.outcome a ≡ Dll.processed (dllState (word ws at.dll)) SocTimeout (stateOf (word ws at.state)) true →
+    Dll.csOutcome a ≡ Dll.csProcessed (dllState (word ws at.dll)) SocTimeout (stateOf (word ws at.state)) true →
     (ws′ : List ℕ) →
     ws′ ≡ set ws at.dll (Dll.csStateNumber (a .machine .state)) →
     LosesIn ws (a .errors) ws′
@@ -44,21 +44,21 @@ unfolding headOf lossWords
 loses-in ws long a o ws′ w =
     record {
       loses = subst (λ (g : Head). Loses (headOf ws) g (a .errors)) (sym (ap headOf w ∙ dll-written ws long (a .machine .state))) (loses (headOf ws) a o);
-      words = w ∙ ap (λ (o : Dll.Outcome). set ws at.dll (Dll.csStateNumber (o .state))) o;
+      words = w ∙ ap (λ (o : Dll.CsOutcome). set ws at.dll (Dll.csStateNumber (o .state))) o;
     }
 
 -- a lost SoC
 module _ (ws q m : List ℕ) (t : ℕ) (es : DllErrors) (ws₁ : List ℕ) (l : LosesIn ws es ws₁) (d : Dealt) (ws₂ q′ m′ : List ℕ) (w : TicksIn ws₁ q m (dealAll t (plain (headOf ws₁) q m) (reported es)) d ws₂ q′ m′ (dealAllWords ws₁ (reported es))) where
   abbrev after : Bool → List ℕ
-  after b = afterLossWords b (dealAllWords (lossWords ws) (socTimeout (bare ws) .errors)) t
+  after b = afterLossWords b (dealAllWords (lossWords ws) (socTimeout (unlent ws) .errors)) t
 
-  reports : reported es ≡ socTimeout (bare ws) .errors
+  reports : reported es ≡ socTimeout (unlent ws) .errors
   reports = l .loses .errors [] []
 
-  dealt : ws₂ ≡ dealAllWords (lossWords ws) (socTimeout (bare ws) .errors)
+  dealt : ws₂ ≡ dealAllWords (lossWords ws) (socTimeout (unlent ws) .errors)
   dealt = w .words ∙ ap₂ dealAllWords (l .words) reports
 
-  ended : (b : Bool) → d .ended ≡ b → dealAll t (plain (headOf (lossWords ws)) q m) (socTimeout (bare ws) .errors) .ended ≡ b
+  ended : (b : Bool) → d .ended ≡ b → dealAll t (plain (headOf (lossWords ws)) q m) (socTimeout (unlent ws) .errors) .ended ≡ b
   ended b e =
       sym (w .ticks .ended ∙ ap₂ (λ (l : List ℕ) (es : List DllError). dealAll t (plain (headOf l) q m) es .ended) (l .words) reports) ∙ e
 
@@ -130,7 +130,7 @@ module _ (ws q m : List ℕ) (t : ℕ) (r : Dealt) where
   PassesIn ws′ q′ m′ =
       TicksIn ws q m (byDeadline (plain (headOf ws) q m) t (socOf ws .«next_tick_us»)) r ws′ q′ m′ (deadlineWords ws q m t (socOf ws .«next_tick_us»))
 
-  module _ (z : socOf ws .«next_tick_us» ≡ Nothing) (b : Bool) (a : b ≡ atNotActive (bare ws)) where
+  module _ (z : socOf ws .«next_tick_us» ≡ Nothing) (b : Bool) (a : b ≡ atNotActive (unlent ws)) where
     none-there : (c : Bool) → b ≡ c → deadlineWords ws q m t (socOf ws .«next_tick_us») ≡ pick c (basicWords ws t) ws
     unfolding deadlineWords
     none-there c y = ap (deadlineWords ws q m t) z ∙ ap (λ (c : Bool). pick c (basicWords ws t) ws) (sym a ∙ y)
@@ -164,7 +164,7 @@ module _ (ws q m : List ℕ) (t : ℕ) (r : Dealt) where
           words = sym (there false (lt-leb d t y));
         }
 
-    module _ (y : d ≤ t) (ws₁ : List ℕ) (k : Turns ws (λ p. withDeadline p Nothing) ws₁ (deadlineWritten ws Nothing)) (b : Bool) (a : b ≡ atNotActive (bare ws₁)) (ws′ : List ℕ) where
+    module _ (y : d ≤ t) (ws₁ : List ℕ) (k : Turns ws (λ p. withDeadline p Nothing) ws₁ (deadlineWritten ws Nothing)) (b : Bool) (a : b ≡ atNotActive (unlent ws₁)) (ws′ : List ℕ) where
       used-up : (c : Bool) → b ≡ c → deadlineWords ws q m t (socOf ws .«next_tick_us») ≡ pick c (timeoutWords ws₁) (checkWords ws₁ q m t)
       unfolding passedWords
       used-up c x =

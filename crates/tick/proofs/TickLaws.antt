@@ -14,10 +14,10 @@ use Rattle.types.specs.declared.frame.error.types.DllError.{DllError}
 use Rattle.types.specs.declared.frame.error.types.DllErrors.{DllErrors}
 use Rattle.types.specs.declared.frame.error.types.DllErrors.the-variants as errors
 use Rattle.counters.specs.Counters.{handled}
-use Rattle.counters.specs.Marks.{Mark, errorMarks}
+use Rattle.counters.specs.Marks.{Mark, crosses, errorMarks}
 use Rattle.counters.specs.declared.counters.HandledError.{HandledError}
 use lib.ListN.{length, take, drop, drop-of-length-le}
-use Rattle.entries.specs.Entry.{FitsBytes, crossing}
+use Rattle.entries.specs.Entry.{FitsBytes, crossingEntry}
 use Rattle.entries.specs.Ring.{putAt}
 use Rattle.entries.specs.Queue.{queue, lengthOf, capacityOf, hasRoom, waiting, pushed, pushedBytes}
 use Rattle.entries.specs.History.{history, joined, joinedBytes}
@@ -32,7 +32,7 @@ use Rattle.node.specs.Steps.{plainOf, withErrors}
 use Rattle.node.specs.Tick.{Ticked, acts, dealt, dealBy, deal, dealAll, goesOn, behind, oneMore, signalled, eventInTick, statistics, counter1, kept, droppedOne, queued}
 use Rattle.node.specs.Refines.{plain, Becomes, Rings, rings, joins, joinsAll}
 use Rattle.heartbeats.specs.Parts.{PartLeft, Finishes, Ticks, isQuiet}
-use Rattle.heartbeats.proofs.PartLaws.{Quiet, handled-quiet, Alike}
+use Rattle.heartbeats.proofs.PartLaws.{Quiet, handled-quiet, quiet-crosses, Alike}
 use Rattle.tick.specs.Ticks.{errorAt}
 use Rattle.tick.specs.declared.soc.NextError.{NextError}
 use Rattle.tick.specs.declared.soc.NextError.the-variants as next
@@ -110,21 +110,24 @@ module _ (h : Head) (q m q′ : List ℕ) (e : ErrorEntry) (p : Pushed) (a : p �
       )
 
 -- one error of the SoC check, from what its parts left
-module _ (h : Head) (q m : List ℕ) (e : DllError) (t : ℕ) (r : HandledError) (e₁ : r ≡ handled (h .errors) e) where
+module _ (h : Head) (q m : List ℕ) (e : DllError) (t : ℕ) (quiet : isQuiet e ≡ true) (r : HandledError) (e₁ : r ≡ handled (h .errors) e) where
   abbrev p₀ : Plain
   p₀ = plain h q m
 
   abbrev ms : List Mark
   ms = errorMarks (h .errors) e
 
-  by-handled : deal t p₀ e ≡ dealBy p₀ ms (crossing e t) r
-  unfolding deal
-  by-handled = ap (dealBy p₀ ms (crossing e t)) (sym e₁)
+  crossed : r .signal ≡ crosses (h .errors) e
+  crossed = ap (λ (r : HandledError). r .signal) e₁ ∙ quiet-crosses (h .errors) e quiet
 
-  module _ (g : Head) (q′ m′ : List ℕ) (b : Bool) (cs : List ErrorEntry) (p : Plain) (s : dealBy p₀ ms (crossing e t) r ≡ dealt r ms cs p) (x : plain g q′ m′ ≡ p) (j : rings g q′ m′ ≡ joinsAll (rings h q m) cs) where
+  by-handled : deal t p₀ e ≡ dealBy p₀ ms (r .signal) (crossingEntry e t) r
+  unfolding deal
+  by-handled = ap₂ (λ (b : Bool) (r : HandledError). dealBy p₀ ms b (crossingEntry e t) r) (sym crossed) (sym e₁)
+
+  module _ (g : Head) (q′ m′ : List ℕ) (b : Bool) (cs : List ErrorEntry) (p : Plain) (s : dealBy p₀ ms (r .signal) (crossingEntry e t) r ≡ dealt r ms ms cs p) (x : plain g q′ m′ ≡ p) (j : rings g q′ m′ ≡ joinsAll (rings h q m) cs) where
     deal-ends : (a : Bool) → a ≡ acts (r .action) → (f : PartLeft) → Finishes g (r .logged) a f → Ticks h q m (deal t p₀ e) f q′ m′
     deal-ends a d f k =
-        let k′ : deal t p₀ e ≡ dealt r ms cs p = by-handled ∙ s in
+        let k′ : deal t p₀ e ≡ dealt r ms ms cs p = by-handled ∙ s in
         record {
           head =
               k .head q′ m′
@@ -142,7 +145,7 @@ module _ (h : Head) (q m : List ℕ) (e : DllError) (t : ℕ) (r : HandledError)
     pub deal-unsignalled : r .signal ≡ false → Finishes c (r .logged) a f → Ticks h q m (deal t p₀ e) f q m
     deal-unsignalled z k =
         deal-ends c q m a [] (withErrors (counter1 p₀) (r .counters))
-        (ap (λ (b : Bool). dealt r ms (pick b (crossing e t ∷ []) []) (pick b (queued (signalled (withErrors (counter1 p₀) (r .counters))) (crossing e t)) (withErrors (counter1 p₀) (r .counters)))) z)
+        (ap (λ (b : Bool). dealt r ms ms (pick b (crossingEntry e t ∷ []) []) (pick b (queued (signalled (withErrors (counter1 p₀) (r .counters))) (crossingEntry e t)) (withErrors (counter1 p₀) (r .counters)))) z)
         (d .0 q m) (λ i. record { queue = d .1 .queue i; queueBytes = q; history = d .1 .history i; historyBytes = m }) a n f k
 
     pub deal-signalled :
@@ -150,16 +153,16 @@ module _ (h : Head) (q m : List ℕ) (e : DllError) (t : ℕ) (r : HandledError)
         (s : Head) →
         Becomes c signalled s →
         (g : Head) (q′ m′ : List ℕ) →
-        (plain g q′ m′ ≡ queued (plain s q m) (crossing e t)) × (rings g q′ m′ ≡ joins (rings s q m) (crossing e t)) →
+        (plain g q′ m′ ≡ queued (plain s q m) (crossingEntry e t)) × (rings g q′ m′ ≡ joins (rings s q m) (crossingEntry e t)) →
         Finishes g (r .logged) a f →
         Ticks h q m (deal t p₀ e) f q′ m′
     deal-signalled z s u g q′ m′ v k =
-        deal-ends g q′ m′ a (crossing e t ∷ []) (queued (signalled (withErrors (counter1 p₀) (r .counters))) (crossing e t))
-        (ap (λ (b : Bool). dealt r ms (pick b (crossing e t ∷ []) []) (pick b (queued (signalled (withErrors (counter1 p₀) (r .counters))) (crossing e t)) (withErrors (counter1 p₀) (r .counters)))) z)
-        (v .0 ∙ ap (λ (p : Plain). queued p (crossing e t)) (u .0 q m ∙ ap signalled (d .0 q m)))
+        deal-ends g q′ m′ a (crossingEntry e t ∷ []) (queued (signalled (withErrors (counter1 p₀) (r .counters))) (crossingEntry e t))
+        (ap (λ (b : Bool). dealt r ms ms (pick b (crossingEntry e t ∷ []) []) (pick b (queued (signalled (withErrors (counter1 p₀) (r .counters))) (crossingEntry e t)) (withErrors (counter1 p₀) (r .counters)))) z)
+        (v .0 ∙ ap (λ (p : Plain). queued p (crossingEntry e t)) (u .0 q m ∙ ap signalled (d .0 q m)))
         (v .1
-        ∙ (λ i. joins (record { queue = u .1 .queue i; queueBytes = q; history = u .1 .history i; historyBytes = m }) (crossing e t))
-        ∙ (λ i. joins (record { queue = d .1 .queue i; queueBytes = q; history = d .1 .history i; historyBytes = m }) (crossing e t)))
+        ∙ (λ i. joins (record { queue = u .1 .queue i; queueBytes = q; history = u .1 .history i; historyBytes = m }) (crossingEntry e t))
+        ∙ (λ i. joins (record { queue = d .1 .queue i; queueBytes = q; history = d .1 .history i; historyBytes = m }) (crossingEntry e t)))
         a n f k
 
 -- a quiet error that brings no action: the walk goes on from the head that it left, and nothing has joined
@@ -174,7 +177,7 @@ module _ (t : ℕ) (p : Plain) (e : DllError) (q : isQuiet e ≡ true) (n : deal
 
   pub quiet-crossings : deal t p e .crossings ≡ []
   unfolding deal
-  quiet-crossings = ap (λ (b : Bool). pick b (crossing e t ∷ []) []) (quiet-handled .signal)
+  quiet-crossings = ap (λ (b : Bool). pick b (crossingEntry e t ∷ []) []) (sym (quiet-crosses (p .errors) e q) ∙ quiet-handled .signal)
 
   walk-on : (es : List DllError) → Alike (dealAll t p (e ∷ es)) (dealAll t (deal t p e .head) es)
   unfolding dealAll
@@ -212,7 +215,7 @@ none-left [] (suc i) h = refl
 none-left (x ∷ es) zero h = absurd (let z : _≡_ {A = ℕ} 1 0 = ap (λ (n : NextError). length (listOf n)) h in let f : ⊥ = omega arith in f)
 none-left (x ∷ es) (suc i) h = none-left es i h
 
-quiet-from : (es : List DllError) (e : DllError) (i : ℕ) → allOf isQuiet es ≡ true → errorAt es i ≡ next.Error e → isQuiet e ≡ true
+pub quiet-from : (es : List DllError) (e : DllError) (i : ℕ) → allOf isQuiet es ≡ true → errorAt es i ≡ next.Error e → isQuiet e ≡ true
 unfolding errorAt
 quiet-from [] e zero q h = absurd (let z : _≡_ {A = ℕ} 0 1 = ap (λ (n : NextError). length (listOf n)) h in let f : ⊥ = omega arith in f)
 quiet-from [] e (suc i) q h = absurd (let z : _≡_ {A = ℕ} 0 1 = ap (λ (n : NextError). length (listOf n)) h in let f : ⊥ = omega arith in f)

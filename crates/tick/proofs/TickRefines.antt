@@ -6,8 +6,6 @@ use mathlib.Core.Bool.{Bool, true, false, true≢false}
 use mathlib.Core.List.{List, [], _∷_, _++_, map}
 use Rattle.types.specs.Pick.{pick}
 use Rattle.types.specs.Errors.{reported}
-use Rattle.types.specs.declared.refusals.Refusal.{Refusal}
-use Rattle.types.specs.declared.refusals.Refusal.the-variants.{WatchedNodes, TimeLimit, BeforeHeard}
 use Rattle.types.specs.declared.frame.error.types.DllError.{DllError}
 use Rattle.entries.specs.declared.status_response.ErrorEntry.{ErrorEntry}
 use Rattle.head.specs.Head.{Head}
@@ -121,24 +119,24 @@ module _ (h : Head) (q m : List ℕ) (vs : List WatchedNode) (t : ℕ) where
   TickLeft a g q′ m′ l =
       Refines h q m (tick t vs) (left g a) q′ m′ l × (rings g q′ m′ ≡ joinsAll (rings h q m) (step p₀ (tick t vs) .crossings))
 
-  tick-declined : (x : Refusal) → step p₀ (tick t vs) ≡ declines p₀ vs x → TickLeft (refused x) h q m vs
+  tick-declined : (x : ℕ) → step p₀ (tick t vs) ≡ declines p₀ vs x → TickLeft (refused x) h q m vs
   tick-declined x s = (
     refined h q m (tick t vs) _ q m vs (declines p₀ vs x) s refl refl refl,
     sym (ap (λ (k : Step). joinsAll (rings h q m) (k .crossings)) s),
   )
 
-  pub tick-unformed : wellFormed vs ≡ false → TickLeft (refused WatchedNodes) h q m vs
-  tick-unformed a = tick-declined WatchedNodes (rw a)
+  pub tick-unformed : wellFormed vs ≡ false → TickLeft (refused 3) h q m vs
+  tick-unformed a = tick-declined 3 (rw a)
 
-  pub tick-late : wellFormed vs ≡ true → inTime t ≡ false → TickLeft (refused TimeLimit) h q m vs
-  tick-late a b = tick-declined TimeLimit (rw (a, b))
+  pub tick-late : wellFormed vs ≡ true → inTime t ≡ false → TickLeft (refused 5) h q m vs
+  tick-late a b = tick-declined 5 (rw (a, b))
 
   module _ (a : wellFormed vs ≡ true) (b : inTime t ≡ true) where
     abbrev checks : Bool
     checks = checksHeartbeats (h .nmt .«current_state»)
 
-    pub tick-before : pick checks (allOf (notBefore t) vs) true ≡ false → TickLeft (refused BeforeHeard) h q m vs
-    tick-before d = tick-declined BeforeHeard (rw (a, b, d))
+    pub tick-before : pick checks (allOf (notBefore t) vs) true ≡ false → TickLeft (refused 6) h q m vs
+    tick-before d = tick-declined 6 (rw (a, b, d))
 
     -- from the phases, and the look at the nodes
     pub tick-accepted :

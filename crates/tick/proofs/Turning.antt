@@ -24,7 +24,7 @@ use Rattle.head.specs.Written.{deadlineWritten}
 use Rattle.head.proofs.Whole.{whole}
 use Rattle.head.proofs.Laws.{time-back, statistic-written}
 use Rattle.heartbeats.specs.PartWords.{eventWords}
-use Rattle.tick.specs.TickWords.{bare, rescheduledWords, limitAt, withinWords, basicWords, timeoutWords}
+use Rattle.tick.specs.TickWords.{unlent, rescheduledWords, limitAt, withinWords, basicWords, timeoutWords}
 use Rattle.heartbeats.specs.PartsIn.{Turns}
 use Rattle.heartbeats.proofs.Turns.{turned}
 
@@ -94,7 +94,7 @@ module _ (ws : List ℕ) (t y : ℕ) (b : y ≡ cycleOf (odOf ws)) (ws′ : List
   cycles c e = ap (ltb 0) (sym b) ∙ e
 
   pub goes-to :
-      0 < y → (n : ℕ) → n ≡ nextDeadline (bare ws) t → Turns ws (λ p. withDeadline p (At n)) ws′ (deadlineWritten ws (At n)) →
+      0 < y → (n : ℕ) → n ≡ nextDeadline (unlent ws) t → Turns ws (λ p. withDeadline p (At n)) ws′ (deadlineWritten ws (At n)) →
       Turns ws (λ p. rescheduled p t) ws′ (rescheduledWords ws t)
   unfolding headOf rescheduledWords
   goes-to z n e k =
@@ -102,7 +102,7 @@ module _ (ws : List ℕ) (t y : ℕ) (b : y ≡ cycleOf (odOf ws)) (ws′ : List
         becomes = resched-on (headOf ws) t y b (headOf ws′) z n e (k .becomes);
         words =
             k .words ∙ ap (λ (n : ℕ). deadlineWritten ws (At n)) e
-            ∙ sym (ap (λ (c : Bool). pick c (deadlineWritten ws (At (nextDeadline (bare ws) t))) (set ws at.check 0)) (cycles true (lt-ltb 0 y z)));
+            ∙ sym (ap (λ (c : Bool). pick c (deadlineWritten ws (At (nextDeadline (unlent ws) t))) (set ws at.check 0)) (cycles true (lt-ltb 0 y z)));
       }
 
   pub goes-off :
@@ -114,7 +114,7 @@ module _ (ws : List ℕ) (t y : ℕ) (b : y ≡ cycleOf (odOf ws)) (ws′ : List
         becomes = resched-off (headOf ws) t y b (headOf ws′) z (k .becomes);
         words =
             k .words
-            ∙ sym (ap (λ (c : Bool). pick c (deadlineWritten ws (At (nextDeadline (bare ws) t))) (set ws at.check 0)) (cycles false (le-ltb 0 y z)));
+            ∙ sym (ap (λ (c : Bool). pick c (deadlineWritten ws (At (nextDeadline (unlent ws) t))) (set ws at.check 0)) (cycles false (le-ltb 0 y z)));
       }
 
   abbrev chosen : Bool → List ℕ

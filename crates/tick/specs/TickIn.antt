@@ -6,6 +6,7 @@ use mathlib.Core.Bool.{Bool, not}
 use mathlib.Core.List.{List}
 use Rattle.types.specs.Pick.{pick, both}
 use Rattle.types.specs.Errors.{reported}
+use Rattle.types.specs.Refusals.{refusalNumber}
 use Rattle.types.specs.declared.frame.error.types.DllErrors.{DllErrors}
 use Rattle.node.specs.Plain.{Call, Answer, refused, tickAnswer}
 use Rattle.watched.specs.Watched.{allOf, wellFormed, watchedOf}
@@ -34,7 +35,7 @@ rousedOf c t vs = pick (wellFormed vs) (seen.Formed (both c (not (allOf (rests t
 -- what a tick answers
 abbrev pub tickSaid : TickAnswer → Answer
 tickSaid (answer.Taken es) = tickAnswer (reported es)
-tickSaid (answer.Refused r) = refused r
+tickSaid (answer.Refused r) = refused (refusalNumber r)
 
 -- by a declined tick no word is written
 abbrev pub tickLeaves : TickAnswer → List ℕ → List ℕ → List ℕ

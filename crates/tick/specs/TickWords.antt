@@ -49,22 +49,22 @@ dealAllWords ws [] = ws
 dealAllWords ws (e ∷ es) = pick (endsBy ws e) (dealWords ws e) (dealAllWords (dealWords ws e) es)
 
 -- the deadlines; what is read of the head is read of it with no memory
-abbrev pub bare : List ℕ → Plain
-bare ws = plain (headOf ws) [] []
+abbrev pub unlent : List ℕ → Plain
+unlent ws = plain (headOf ws) [] []
 
 unfoldable pub rescheduledWords : List ℕ → ℕ → List ℕ
 rescheduledWords ws t =
-    pick (ltb 0 (cycleOf (odOf ws))) (deadlineWritten ws (At (nextDeadline (bare ws) t))) (set ws at.check 0)
+    pick (ltb 0 (cycleOf (odOf ws))) (deadlineWritten ws (At (nextDeadline (unlent ws) t))) (set ws at.check 0)
 
 abbrev pub limitAt : List ℕ → ℕ
-limitAt ws = lastSoc (bare ws) + limitOf (odOf ws)
+limitAt ws = lastSoc (unlent ws) + limitOf (odOf ws)
 
 unfoldable pub withinWords : List ℕ → ℕ → List ℕ
 withinWords ws t =
     pick (both (ltb 0 (cycleOf (odOf ws))) (ltb t (limitAt ws))) (deadlineWritten ws (At (limitAt ws))) (rescheduledWords ws t)
 
 unfoldable pub lossWords : List ℕ → List ℕ
-lossWords ws = set ws at.dll (csStateNumber (socTimeout (bare ws) .state))
+lossWords ws = set ws at.dll (csStateNumber (socTimeout (unlent ws) .state))
 
 -- a lost SoC: its errors, and where none ends the tick the next deadline
 abbrev pub afterLossWords : Bool → List ℕ → ℕ → List ℕ
@@ -72,13 +72,13 @@ afterLossWords ended ws t = pick ended ws (rescheduledWords ws t)
 
 unfoldable pub lostWords : List ℕ → List ℕ → List ℕ → ℕ → List ℕ
 lostWords ws q m t =
-    afterLossWords (dealAll t (plain (headOf (lossWords ws)) q m) (socTimeout (bare ws) .errors) .ended)
-    (dealAllWords (lossWords ws) (socTimeout (bare ws) .errors)) t
+    afterLossWords (dealAll t (plain (headOf (lossWords ws)) q m) (socTimeout (unlent ws) .errors) .ended)
+    (dealAllWords (lossWords ws) (socTimeout (unlent ws) .errors)) t
 
 unfoldable pub checkWords : List ℕ → List ℕ → List ℕ → ℕ → List ℕ
 checkWords ws q m t =
     pick (socOf ws .«soc_timeout_check_active»)
-    (pick (ltb (limitOf (odOf ws)) (elapsed (bare ws) t)) (lostWords ws q m t) (withinWords ws t)) ws
+    (pick (ltb (limitOf (odOf ws)) (elapsed (unlent ws) t)) (lostWords ws q m t) (withinWords ws t)) ws
 
 unfoldable pub basicWords : List ℕ → ℕ → List ℕ
 basicWords ws t = pick (ltb 0 (word ws at.timeout)) (deadlineWritten ws (At (t + word ws at.timeout))) ws
@@ -87,11 +87,11 @@ unfoldable pub timeoutWords : List ℕ → List ℕ
 timeoutWords ws = pick (ltb 0 (word ws at.timeout)) (eventWords ws Timeout) ws
 
 unfoldable pub passedWords : List ℕ → List ℕ → List ℕ → ℕ → List ℕ
-passedWords ws q m t = pick (atNotActive (bare ws)) (timeoutWords ws) (checkWords ws q m t)
+passedWords ws q m t = pick (atNotActive (unlent ws)) (timeoutWords ws) (checkWords ws q m t)
 
 -- by the deadline that stands
 unfoldable pub deadlineWords : List ℕ → List ℕ → List ℕ → ℕ → Deadline → List ℕ
-deadlineWords ws q m t Nothing = pick (atNotActive (bare ws)) (basicWords ws t) ws
+deadlineWords ws q m t Nothing = pick (atNotActive (unlent ws)) (basicWords ws t) ws
 deadlineWords ws q m t (At d) = pick (leb d t) (passedWords (set ws at.due 0) q m t) ws
 
 -- the tick: the heartbeats of the nodes, where they are checked, and what follows where no crossing ended it

@@ -7,7 +7,7 @@ ghost use Rattle.node.specs.Tick.{withDeadline, nextDeadline, rescheduled, with
 ghost use Rattle.node.specs.Refines.{plain};
 ghost use Rattle.head.specs.Words.{odOf, socOf, headOf};
 ghost use Rattle.head.specs.Written.{deadlineWritten};
-ghost use Rattle.tick.specs.TickWords.{bare, rescheduledWords, withinWords, lostWords, checkWords, basicWords, timeoutWords, deadlineWords};
+ghost use Rattle.tick.specs.TickWords.{unlent, rescheduledWords, withinWords, lostWords, checkWords, basicWords, timeoutWords, deadlineWords};
 ghost use Rattle.heartbeats.specs.PartsIn.{Turns, TicksIn};
 ghost use Rattle.tick.specs.TickIn.{LosesIn};
 use crate::soc::deal_all;
@@ -46,7 +46,7 @@ fn with_deadline(head: &mut Head, deadline: Deadline)
 // The end of the cycle that runs now, with the tolerance.
 fn next_deadline(head: &Head, time: u64) -> u64
     requires { ⌜ (time ≤ 4611686018427387903) × (0 < cycleOf (odOf (now head))) ⌝ }
-    ensures { λ r. ⌜ r ≡ nextDeadline (bare (now (head .entry))) time ⌝ }
+    ensures { λ r. ⌜ r ≡ nextDeadline (unlent (now (head .entry))) time ⌝ }
 {
     let last = last_soc(soc_of(head));
     let od = od_of(head);
@@ -144,7 +144,7 @@ fn soc_check(head: &mut Head, queue: &mut [u8; 640], history: &mut [u8; 5080], t
 }
 
 fn at_not_active(head: &Head) -> bool
-    ensures { λ r. ⌜ r ≡ atNotActive (bare (now (head .entry))) ⌝ }
+    ensures { λ r. ⌜ r ≡ atNotActive (unlent (now (head .entry))) ⌝ }
 {
     let state = state_at(head);
     match state {

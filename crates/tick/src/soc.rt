@@ -3,7 +3,7 @@ ghost use mathlib.Core.Path.{_≡_};
 ghost use mathlib.Core.Bool.{true};
 ghost use lib.ListN.{length};
 ghost use Rattle.types.specs.Errors.{reported};
-ghost use Rattle.entries.specs.Entry.{crossing};
+ghost use Rattle.entries.specs.Entry.{crossingEntry};
 ghost use Rattle.watched.specs.Watched.{allOf};
 ghost use Rattle.node.specs.Tick.{queued, deal, dealAll};
 ghost use Rattle.node.specs.Refines.{plain, rings, joins};
@@ -44,8 +44,8 @@ fn queue_entry(
     error: DllError,
     time: u64,
 )
-    ensures { λ _. ⌜ (plain (headOf (now (head .exit))) (now (queue .exit)) (now (history .exit)) ≡ queued (plain (headOf (now (head .entry))) (now (queue .entry)) (now (history .entry))) (crossing error time))
-        × (rings (headOf (now (head .exit))) (now (queue .exit)) (now (history .exit)) ≡ joins (rings (headOf (now (head .entry))) (now (queue .entry)) (now (history .entry))) (crossing error time))
+    ensures { λ _. ⌜ (plain (headOf (now (head .exit))) (now (queue .exit)) (now (history .exit)) ≡ queued (plain (headOf (now (head .entry))) (now (queue .entry)) (now (history .entry))) (crossingEntry error time))
+        × (rings (headOf (now (head .exit))) (now (queue .exit)) (now (history .exit)) ≡ joins (rings (headOf (now (head .entry))) (now (queue .entry)) (now (history .entry))) (crossingEntry error time))
         × (now (head .exit) ≡ entryWords (now (head .entry))) ⌝ }
 {
     whole(head);
@@ -72,6 +72,7 @@ fn deal(
     error: DllError,
     time: u64,
 ) -> Dealt
+    requires { ⌜ isQuiet error ≡ true ⌝ }
     ensures { λ r. ⌜ TicksIn (now (head .entry)) (now (queue .entry)) (now (history .entry)) (deal time (plain (headOf (now (head .entry))) (now (queue .entry)) (now (history .entry))) error) r (now (head .exit)) (now (queue .exit)) (now (history .exit)) (dealWords (now (head .entry)) error) ⌝ }
 {
     whole(head);

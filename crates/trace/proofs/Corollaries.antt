@@ -12,7 +12,6 @@ use Rattle.types.specs.Events.{readEvent}
 use Rattle.types.specs.CsEvents.{readCsEvent}
 use Rattle.types.specs.Errors.{readError}
 use Rattle.types.specs.States.{sameState}
-use Rattle.types.specs.declared.refusals.Refusal.the-variants.{ReadyToOperate, TimeLimit}
 use Rattle.types.specs.declared.nmt.states.NmtState.the-variants.{NmtReadyToOperate}
 use Rattle.types.specs.declared.nmt.events.NmtEventRead.{NmtEventRead}
 use Rattle.types.specs.declared.nmt.events.NmtEventRead.the-variants as event
@@ -26,9 +25,9 @@ use Rattle.watched.specs.declared.nodes.WatchedNode.{WatchedNode}
 use Rattle.watched.specs.Watched.{latest, inTime, heardAt}
 use Rattle.node.specs.declared.calls.CallAnswer.the-variants as answer
 use Rattle.node.specs.Plain.{Plain, Call, nmtEvent, dllEvent, error, cycleComplete, withdraw, heard, handOut, load, arm, tick, Start, taken, Step}
-use Rattle.node.specs.Steps.{must, answers, declines, withNmt, withSoc, nmtStep, dllStep, errorStep, withdrawn, heardTests, armed, cycleOf, fresh}
+use Rattle.node.specs.Steps.{answers, declines, withNmt, withSoc, nmtStep, dllStep, errorStep, withdrawn, heardTests, armed, cycleOf, fresh}
 use Rattle.node.specs.Tick.{tickTests, tickTaken, tickAnswered, lookedAt, lastSoc}
-use Rattle.node.specs.Run.{step, run, Said}
+use Rattle.node.specs.Run.{step, stepAll, Said}
 use Rattle.trace.specs.Claim.{Claim}
 use Rattle.trace.specs.Driven.{Made, Began, Driven, stop, next}
 use Rattle.trace.proofs.Ticking.{picked, tick-part}
@@ -93,7 +92,7 @@ module _ (p : Plain) (h : last p ≤ latest) where
       armed-at true x y f g = f
       armed-at false x y f g = g
 
-      by : (b : Bool) → inTime t ≡ b → Timed (pick b (answers (withSoc p (armed (p .soc) (p .od) t)) taken []) (declines p [] TimeLimit))
+      by : (b : Bool) → inTime t ≡ b → Timed (pick b (answers (withSoc p (armed (p .soc) (p .od) t)) taken []) (declines p [] 5))
       by true e = let z = leb-true t latest e in armed-at (ltb 0 (cycleOf (p .od))) _ _ z z
       by false e = h
 
@@ -103,7 +102,7 @@ module _ (p : Plain) (h : last p ≤ latest) where
   timed (error k a b) = error-timed (readError k a b)
   timed cycleComplete = h
   timed withdraw =
-      picked Timed (not (sameState (p .nmt .«current_state») NmtReadyToOperate)) {x = answers (withNmt p (withdrawn (p .nmt))) taken []} {y = declines p [] ReadyToOperate} h h
+      picked Timed (not (sameState (p .nmt .«current_state») NmtReadyToOperate)) {x = answers (withNmt p (withdrawn (p .nmt))) taken []} {y = declines p [] 8} h h
   timed (heard n t ws) = tried-by Timed (heardTests n t ws) (declines p ws) (answers p taken (heardAt n t ws)) (λ r. h) h
   timed handOut = h
   timed (load v u) = h
@@ -112,15 +111,15 @@ module _ (p : Plain) (h : last p ≤ latest) where
       tried-by Timed (tickTests p t ws) (declines p ws) (tickAnswered (tickTaken p t ws) (lookedAt p t ws)) (λ r. h)
       (subst (λ (n : ℕ). n ≤ latest) (sym (tick-part p t ws .last)) h)
 
-timed-all : (p : Plain) (cs : List Call) → last p ≤ latest → last (run p cs) ≤ latest
-unfolding run
+timed-all : (p : Plain) (cs : List Call) → last p ≤ latest → last (stepAll p cs) ≤ latest
+unfolding stepAll
 timed-all p [] h = h
 timed-all p (c ∷ cs) h = timed-all (step p c .head) cs (timed p h c)
 
 -- so the plain tick reads it as it is, after any list of calls from a start
-pub last-soc-in-time : (s : Start) (cs : List Call) → last (run (fresh s) cs) ≤ latest
+pub last-soc-in-time : (s : Start) (cs : List Call) → last (stepAll (fresh s) cs) ≤ latest
 unfolding fresh
 last-soc-in-time s cs = timed-all (fresh s) cs (lit≤ tt)
 
-pub last-soc-as-it-is : (s : Start) (cs : List Call) → lastSoc (run (fresh s) cs) ≡ last (run (fresh s) cs)
+pub last-soc-as-it-is : (s : Start) (cs : List Call) → lastSoc (stepAll (fresh s) cs) ≡ last (stepAll (fresh s) cs)
 last-soc-as-it-is s cs = let h = last-soc-in-time s cs in omega arith

@@ -4,6 +4,7 @@ use Prim.Native.Nat.{ℕ}
 use mathlib.Core.Path.{_≡_, _∙_}
 use mathlib.Core.List.{List, [], _∷_, _++_}
 use denote.Ref.{now}
+use Rattle.types.specs.Refusals.{refusalNumber}
 use Rattle.types.specs.declared.refusals.Refusal.{Refusal}
 use Rattle.head.specs.Words.{headOf}
 use Rattle.watched.specs.declared.nodes.WatchedNode.{WatchedNode}
@@ -18,6 +19,7 @@ use Rattle.start.specs.Started.{Begins}
 use Rattle.start.proofs.start.start.Reads as start-reads
 use Rattle.start.proofs.Links.{start-begins, start-leaves}
 use Rattle.tick.proofs.Links.{process-tick-refines}
+use Rattle.lent.proofs.Links.{Start-learnt}
 use Rattle.trace.specs.Claim.{Claim}
 use Rattle.trace.specs.Driven.{Made, Began, Driven, stop, next}
 use Rattle.trace.proofs.Follows.{Follows, finished, begins-fresh, declined-lent, followed}
@@ -74,14 +76,17 @@ demand-3 {s = s} {ws₀ = ws₀} {q₀ = q₀} {m₀ = m₀} b d =
 pub start-declined :
     {s : Start} {r : Refusal} {l : List WatchedNode} {ws : List ℕ} →
     Began s (answer.Refused r) l ws →
-    (declined r ≡ started s .begun) × (l ≡ s .watched)
+    (declined (refusalNumber r) ≡ started s .begun) × (l ≡ s .watched)
 start-declined {s = s} {r = r} b =
-    let e : declined r ≡ started s .begun = begins b .begun [] [] in (e, begins b .lent ∙ declined-lent s r e)
+    let e : declined (refusalNumber r) ≡ started s .begun = begins b .begun [] [] in (e, begins b .lent ∙ declined-lent s (refusalNumber r) e)
 
--- the words of its nodes too, where it was lent words
+-- nor is a word of the head written; nor one of the nodes, where it was lent words
 pub start-declined-words :
-    (κs : _) (a : _) (r : Refusal) (x : _) → start-reads.Learnt κs a (answer.Refused r) x → now (x .1 .0) ≡ now (a .1 .0)
-start-declined-words κs a r x e = start-leaves κs a (answer.Refused r) x e
+    (κs : _) (a : _) (r : Refusal) (x : _) → start-reads.Learnt κs a (answer.Refused r) x → (now (x .0) ≡ now (a .0)) × (now (x .1 .0) ≡ now (a .1 .0))
+start-declined-words κs a r x e = (e .on .words, start-leaves κs a (answer.Refused r) x e)
+
+pub start-declined-run : (κs : _) (a : _) (r : Refusal) (x : _) → Start-learnt κs a (answer.Refused r) x → now (x .0) ≡ now (a .0)
+start-declined-run κs a r x e = e .words
 
 -- what was lent to start is left as the plain start leaves it
 pub start-lent : {s : Start} {o : CallAnswer} {l : List WatchedNode} {ws : List ℕ} → Began s o l ws → l ≡ started s .lent

@@ -4,13 +4,12 @@ use Prim.Native.Nat.{ℕ}
 use mathlib.Core.Path.{_≡_, refl, ap, ap₂, _∙_}
 use mathlib.Core.List.{List, [], _∷_}
 use native.Mathlib.Omega.{arith}
-use Rattle.types.specs.declared.refusals.Refusal.{Refusal}
 use Rattle.head.specs.Head.{Head}
 use Rattle.watched.specs.declared.nodes.WatchedNode.{WatchedNode}
 use Rattle.watched.specs.Watched.{unheard}
 use Rattle.node.specs.Plain.{Plain, Call, Answer, Start, begins, declined, FirstStep}
 use Rattle.node.specs.Steps.{fresh, startTests, started}
-use Rattle.node.specs.Run.{run, Said, said}
+use Rattle.node.specs.Run.{stepAll, Said, saidAll}
 use Rattle.node.specs.Refines.{plain, Left, Refines}
 use Rattle.trace.specs.Claim.{Claim}
 use Rattle.trace.proofs.Shares.{tried-by}
@@ -31,20 +30,20 @@ pub data Follows : Head → List ℕ → List ℕ → List Call → List Said �
 pub follows-run :
     {h h′ : Head} {q m q′ m′ : List ℕ} {cs : List Call} {says : List Said} →
     Follows h q m cs says h′ q′ m′ →
-    plain h′ q′ m′ ≡ run (plain h q m) cs
-unfolding run
+    plain h′ q′ m′ ≡ stepAll (plain h q m) cs
+unfolding stepAll
 follows-run finished = refl
-follows-run (next {cs = cs} r f) = follows-run f ∙ ap (λ (p : Plain). run p cs) (r .head)
+follows-run (next {cs = cs} r f) = follows-run f ∙ ap (λ (p : Plain). stepAll p cs) (r .head)
 
 pub follows-said :
     {h h′ : Head} {q m q′ m′ : List ℕ} {cs : List Call} {says : List Said} →
     Follows h q m cs says h′ q′ m′ →
-    says ≡ said (plain h q m) cs
-unfolding said
+    says ≡ saidAll (plain h q m) cs
+unfolding saidAll
 follows-said finished = refl
 follows-said (next {cs = cs} r f) =
     ap₂ (λ (s : Said) (l : List Said). s ∷ l) (ap₂ saying (r .answer) (r .lent))
-    (follows-said f ∙ ap (λ (p : Plain). said p cs) (r .head))
+    (follows-said f ∙ ap (λ (p : Plain). saidAll p cs) (r .head))
 
 -- a plain start that begins, begins with a fresh plain head
 pub begins-fresh : (s : Start) (p : Plain) → begins p ≡ started s .begun → p ≡ fresh s
@@ -55,7 +54,7 @@ begins-fresh s p =
     (λ r e. absurd (let z : _≡_ {A = ℕ} 0 1 = cc in let f : ⊥ = omega arith in f)) (λ e. cc)
 
 -- a plain start that is declined leaves what was lent
-pub declined-lent : (s : Start) (x : Refusal) → declined x ≡ started s .begun → started s .lent ≡ s .watched
+pub declined-lent : (s : Start) (x : ℕ) → declined x ≡ started s .begun → started s .lent ≡ s .watched
 unfolding started
 declined-lent s x =
     tried-by (λ (f : FirstStep). declined x ≡ f .begun → f .lent ≡ s .watched) (startTests s)
@@ -69,5 +68,5 @@ pub followed :
     Follows h₀ q₀ m₀ cs says h q m →
     Claim s cs says h q m
 followed {h₀} {h} {q₀} {m₀} {q} {m} {cs} {says} s e f =
-    claimed s cs says h q m (follows-run f ∙ ap (λ (p : Plain). run p cs) e)
-    (follows-said f ∙ ap (λ (p : Plain). said p cs) e)
+    claimed s cs says h q m (follows-run f ∙ ap (λ (p : Plain). stepAll p cs) e)
+    (follows-said f ∙ ap (λ (p : Plain). saidAll p cs) e)

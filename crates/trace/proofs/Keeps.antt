@@ -1,7 +1,7 @@
 -- What every call keeps, so that a list of calls keeps it, and the claim that follows from it.
 -- Assumes nothing.
 use Prim.Native.Nat.{ℕ, _+_, _≤_}
-use mathlib.Core.Path.{_≡_, refl, sym, ap, subst, _∙_}
+use mathlib.Core.Path.{_≡_, refl, sym, ap, ap₂, subst, _∙_}
 use mathlib.Core.Bool.{Bool, true, false}
 use mathlib.Core.List.{List, [], _∷_, _++_}
 use native.Mathlib.Omega.{arith}
@@ -9,17 +9,17 @@ use lib.Dec.{lit<, lit≤}
 use lib.ListN.{length, length-append}
 use Rattle.types.specs.Pick.{either}
 use Rattle.counters.specs.Counters.{counter, newCounter, top}
-use Rattle.counters.specs.Marks.{isCrossed, level, N}
+use Rattle.counters.specs.Marks.{isCrossed, isCrossing, countOf, level, N}
 use Rattle.counters.specs.declared.counters.CounterKind.{CounterKind}
 use Rattle.counters.proofs.ByKind.{counter-new}
 use Rattle.counters.proofs.Balance.{Balanced, balanced-none, balanced-then, FromZero, from-zero, count-append}
 use Rattle.head.specs.Head.{Head}
 use Rattle.node.specs.Plain.{Plain, Call, Start, Step}
 use Rattle.node.specs.Steps.{fresh}
-use Rattle.node.specs.Run.{step, run, Said, said}
+use Rattle.node.specs.Run.{step, stepAll, Said, saidAll}
 use Rattle.node.specs.Refines.{plain}
 use Rattle.trace.specs.Tally.{Tally, noted, nothing, tally, droppedBy, loadsCounter3}
-use Rattle.trace.specs.Claim.{Merge, empty, Each, counted, Claim}
+use Rattle.trace.specs.Claim.{Merge, empty, Each, tallied, Claim}
 use Rattle.trace.proofs.Modes.{mode, mode-word, mode-enabled, mode-ready}
 use Rattle.trace.proofs.Visits.{enabled-before, word-before}
 use Rattle.trace.proofs.Queues.{merge-queued}
@@ -31,6 +31,7 @@ pub record Kept (lost₀ : ℕ) (p : Plain) (z : Tally) : Type 0 where
   pub told : mode (p .nmt) (z .told) ≡ true
   pub balance : (k : CounterKind) → Balanced 15 k (newCounter 15) (z .marks) (counter k (p .errors))
   pub count : (k : CounterKind) → Rises 0 (N k (z .marks)) (counter k (p .errors) .«cumulative_cnt»)
+  pub crossings : length (z .crossings) ≡ countOf isCrossing (z .checked)
   pub entries : Merge (z .crossings) (z .handed ++ p .queue) (z .dropped)
   pub lost :
       z .loaded ≡ false →
@@ -57,6 +58,10 @@ kept-by lost₀ p z c t s i =
       told = s .told (z .told) (i .told);
       balance = λ k. balanced-then (i .balance k) (s .counts .balance k (i .balance k .kept));
       count = λ k. rw (count-append (isCrossed k) (z .marks) (t .marks)) (rises-then (i .count k) (s .counts .count k));
+      crossings =
+          length-append (z .crossings) (t .crossings)
+          ∙ ap₂ (λ (m n : ℕ). m + n) (i .crossings) (s .crossed)
+          ∙ sym (count-append isCrossing (z .checked) (t .checked));
       entries = merge-queued (z .crossings) (z .handed) (z .dropped) (s .queue) (i .entries);
       lost =
           λ l b.
@@ -68,8 +73,8 @@ kept-by lost₀ p z c t s i =
 
 -- and so does a list of calls
 pub keeps-all :
-    (lost₀ : ℕ) (p : Plain) (z : Tally) (cs : List Call) → Kept lost₀ p z → Kept lost₀ (run p cs) (tally p cs z)
-unfolding run tally
+    (lost₀ : ℕ) (p : Plain) (z : Tally) (cs : List Call) → Kept lost₀ p z → Kept lost₀ (stepAll p cs) (tally p cs z)
+unfolding stepAll tally
 keeps-all lost₀ p z [] i = i
 keeps-all lost₀ p z (c ∷ cs) i =
     keeps-all lost₀ (step p c .head) (noted p c (step p c) z) cs (kept-by lost₀ p z c (step p c) (shares p c) i)
@@ -82,6 +87,7 @@ starts s =
       told = refl;
       balance = λ k. rw (counter-new k) (balanced-none 15 k (newCounter 15) refl);
       count = λ k. rw (counter-new k) (rises-none 0);
+      crossings = refl;
       entries = empty;
       lost = λ l b. omega arith;
     }
@@ -94,30 +100,31 @@ each p (c ∷ cs) = (rule p c, each (step p c .head) cs)
 -- the claim, of a head that is as the plain head's list leaves it, and answers that are the plain head's
 pub claimed :
     (s : Start) (cs : List Call) (says : List Said) (h : Head) (q m : List ℕ) →
-    plain h q m ≡ run (fresh s) cs →
-    says ≡ said (fresh s) cs →
+    plain h q m ≡ stepAll (fresh s) cs →
+    says ≡ saidAll (fresh s) cs →
     Claim s cs says h q m
 claimed s cs says h q m alike answered =
-    let k : Kept (s .od .«counter_3») (plain h q m) (counted s cs) =
-    subst (λ (p : Plain). Kept (s .od .«counter_3») p (counted s cs)) (sym alike)
+    let k : Kept (s .od .«counter_3») (plain h q m) (tallied s cs) =
+    subst (λ (p : Plain). Kept (s .od .«counter_3») p (tallied s cs)) (sym alike)
     (keeps-all (s .od .«counter_3») (fresh s) nothing cs (starts s))
     in
     record {
       alike = alike;
       answered = answered;
       asked = λ r. enabled-before s cs (sym (ap (λ (p : Plain). p .nmt .«current_state») alike) ∙ r);
-      enabled = λ r. mode-enabled (h .nmt) (counted s cs .told) (k .told) r;
+      enabled = λ r. mode-enabled (h .nmt) (tallied s cs .told) (k .told) r;
       word =
           λ r.
           word-before s cs
-          (sym (ap (λ (p : Plain). p .nmt .«app_ready») alike) ∙ mode-word (h .nmt) (counted s cs .told) (k .told)
-          ∙ mode-ready (h .nmt) (counted s cs .told) (k .told) r .1);
-      heeded = mode-word (h .nmt) (counted s cs .told) (k .told);
+          (sym (ap (λ (p : Plain). p .nmt .«app_ready») alike) ∙ mode-word (h .nmt) (tallied s cs .told) (k .told)
+          ∙ mode-ready (h .nmt) (tallied s cs .told) (k .told) r .1);
+      heeded = mode-word (h .nmt) (tallied s cs .told) (k .told);
       balance =
           λ j.
-          let z : FromZero 15 j (counted s cs .marks) (level j (h .errors)) = from-zero (lit< tt) (lit≤ tt) refl (k .balance j) in
+          let z : FromZero 15 j (tallied s cs .marks) (level j (h .errors)) = from-zero (lit< tt) (lit≤ tt) refl (k .balance j) in
           record { low = z .low; high = z .high };
       crossed = λ j b. let r = k .count j .risen b in omega arith;
+      crossings = k .crossings;
       entries = k .entries;
       each = each (fresh s) cs;
       lost = k .lost;

@@ -8,4 +8,5 @@ pub mod Keeps
 pub mod Follows
 pub mod Driven
 pub mod Corollaries
+pub mod Declines
 pub mod Worked

@@ -9,7 +9,6 @@ use Rattle.types.specs.States.{sameState}
 use Rattle.types.specs.Events.{readEvent}
 use Rattle.types.specs.CsEvents.{readCsEvent}
 use Rattle.types.specs.Errors.{readError}
-use Rattle.types.specs.declared.refusals.Refusal.the-variants.{ReadyToOperate, TimeLimit}
 use Rattle.types.specs.declared.nmt.states.NmtState.the-variants.{NmtReadyToOperate}
 use Rattle.types.specs.declared.nmt.events.NmtEvent.{NmtEvent}
 use Rattle.types.specs.declared.nmt.events.NmtEventRead.{NmtEventRead}
@@ -21,8 +20,8 @@ use Rattle.types.specs.declared.frame.error.types.DllErrorRead.the-variants as 
 use Rattle.nmt.specs.Nmt.{processed}
 use Rattle.nmt.specs.declared.cn_state_machine.CnNmtStateMachine.{CnNmtStateMachine}
 use Rattle.watched.specs.Watched.{inTime, heardAt}
-use Rattle.node.specs.Plain.{Plain, Call, nmtEvent, dllEvent, error, cycleComplete, withdraw, heard, handOut, load, arm, tick, taken, Step}
-use Rattle.node.specs.Steps.{must, answers, declines, withNmt, withSoc, nmtStep, dllStep, errorStep, withdrawn, heardTests, armed}
+use Rattle.node.specs.Plain.{Plain, Call, nmtEvent, dllEvent, error, cycleComplete, withdraw, heard, handOut, load, arm, tick, taken, EventMade, Step}
+use Rattle.node.specs.Steps.{answers, declines, withNmt, withSoc, nmtStep, dllStep, errorStep, withdrawn, heardTests, armTests, armed}
 use Rattle.node.specs.Tick.{tickTests, tickTaken, tickAnswered, lookedAt}
 use Rattle.node.specs.Run.{step}
 use Rattle.trace.proofs.Ticking.{InTick, tick-part}
@@ -33,7 +32,7 @@ pub data Moves (p : Plain) (c : Call) : CnNmtStateMachine → Type 0 where
   same : Moves p c (p .nmt)
   takes-back : Moves p c (withdrawn (p .nmt))
   told : (n : ℕ) (e : NmtEvent) → c ≡ nmtEvent n → readEvent n ≡ event.Taken e → Moves p c (processed (p .nmt) e .machine)
-  ticks : {m : CnNmtStateMachine} → InTick (p .nmt) m → Moves p c m
+  ticks : {e : EventMade} {m : CnNmtStateMachine} → InTick (p .nmt) e m → Moves p c m
 
 abbrev MovesTo : Plain → Call → Step → Type 0
 MovesTo p c t = Moves p c (t .head .nmt)
@@ -50,7 +49,7 @@ error-moves : (p : Plain) (k a b : ℕ) (r : DllErrorRead) → MovesTo p (error 
 error-moves p k a b (error-read.Taken e) = same
 error-moves p k a b (error-read.Refused r) = same
 
-withdraw-moves : (p : Plain) (b : Bool) → MovesTo p withdraw (pick b (answers (withNmt p (withdrawn (p .nmt))) taken []) (declines p [] ReadyToOperate))
+withdraw-moves : (p : Plain) (b : Bool) → MovesTo p withdraw (pick b (answers (withNmt p (withdrawn (p .nmt))) taken []) (declines p [] 8))
 withdraw-moves p true = takes-back
 withdraw-moves p false = same
 
@@ -64,7 +63,7 @@ moves p (heard n t ws) = tried-by (MovesTo p (heard n t ws)) (heardTests n t ws)
 moves p handOut = same
 moves p (load v h) = same
 moves p (arm t) =
-    tried-by (MovesTo p (arm t)) (must (inTime t) TimeLimit ∷ []) (declines p []) (answers (withSoc p (armed (p .soc) (p .od) t)) taken []) (λ r. same) same
+    tried-by (MovesTo p (arm t)) (armTests t) (declines p []) (answers (withSoc p (armed (p .soc) (p .od) t)) taken []) (λ r. same) same
 moves p (tick t ws) =
     tried-by (MovesTo p (tick t ws)) (tickTests p t ws) (declines p ws) (tickAnswered (tickTaken p t ws) (lookedAt p t ws)) (λ r. same)
     (ticks (tick-part p t ws .moves))

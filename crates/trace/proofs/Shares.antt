@@ -12,8 +12,7 @@ use Rattle.types.specs.States.{sameState}
 use Rattle.types.specs.Events.{readEvent}
 use Rattle.types.specs.CsEvents.{readCsEvent}
 use Rattle.types.specs.Errors.{readError}
-use Rattle.types.specs.declared.refusals.Refusal.{Refusal}
-use Rattle.types.specs.declared.refusals.Refusal.the-variants.{ReadyToOperate, TimeLimit}
+use Rattle.types.specs.Refusals.{refusalNumber}
 use Rattle.types.specs.declared.nmt.states.NmtState.the-variants.{NmtReadyToOperate}
 use Rattle.types.specs.declared.nmt.events.NmtEventRead.{NmtEventRead}
 use Rattle.types.specs.declared.nmt.events.NmtEventRead.the-variants as event
@@ -22,6 +21,7 @@ use Rattle.types.specs.declared.frame.cs_state_machine.DllCsEventRead.the-varia
 use Rattle.types.specs.declared.frame.error.types.DllErrorRead.{DllErrorRead}
 use Rattle.types.specs.declared.frame.error.types.DllErrorRead.the-variants as error-read
 use Rattle.counters.specs.Counters.{top}
+use Rattle.counters.specs.Marks.{isCrossing, countOf}
 use Rattle.entries.specs.Ring.{nth, rest}
 use Rattle.entries.specs.declared.status_response.ErrorEntry.{ErrorEntry}
 use Rattle.entries.specs.declared.status_response.FoundEntry.the-variants.{None}
@@ -29,18 +29,18 @@ use Rattle.node.specs.declared.load.CounterUpdate.{CounterUpdate}
 use Rattle.node.specs.declared.load.CounterUpdate.the-variants.{Set, Keep}
 use Rattle.node.specs.declared.load.DictionaryUpdate.{DictionaryUpdate}
 use Rattle.watched.specs.declared.nodes.WatchedNode.{WatchedNode}
-use Rattle.watched.specs.Watched.{inTime, heardAt}
+use Rattle.watched.specs.Watched.{heardAt}
 use Rattle.node.specs.Plain.{Plain, HistoryUpdate, Call, nmtEvent, dllEvent, error, cycleComplete, withdraw, heard, handOut, load, arm, tick, taken, handOutAnswer, Step}
-use Rattle.node.specs.Steps.{Test, must, tried, answers, declines, withNmt, withSoc, nmtStep, dllStep, errorStep, withdrawn, heardTests, updatedCounter, updated, armed}
+use Rattle.node.specs.Steps.{Test, tried, answers, declines, withNmt, withSoc, nmtStep, dllStep, errorStep, withdrawn, heardTests, updatedCounter, updated, armTests, armed}
 use Rattle.node.specs.Tick.{Ticked, tickTests, tickTaken, tickAnswered, lookedAt}
 use Rattle.node.specs.Run.{step}
 use Rattle.trace.specs.Tally.{Told, toldAt, handedBy, droppedBy, isFull, isSet, loadsCounter3}
 use Rattle.trace.specs.Claim.{Queued, still, kept, dropped, handed, Rule}
 use Rattle.trace.proofs.Modes.{mode, mode-event, mode-withdraw}
 use Rattle.counters.proofs.Counts.{Counting, counting-none, counting-handled, counting-completed}
-use Rattle.trace.proofs.Ticking.{seen, Enters, none, one, PartOf, picked, still-tells, tells, tick-part}
+use Rattle.trace.proofs.Ticking.{seen, Enters, none, one, PartOf, picked, tells, tick-part}
 
--- the mode's share, the queue's, the counters' and counter 3's
+-- the mode's share, the queue's, the counters', that of crossings, and counter 3's
 abbrev pub ModeShare : Plain → Call → Step → Type 0
 ModeShare p c t = (w : Told) → mode (p .nmt) w ≡ true → mode (t .head .nmt) (toldAt p c t w) ≡ true
 
@@ -57,16 +57,21 @@ LostShare p c t =
     p .od .«counter_3» + length (droppedBy p (t .crossings)) ≤ top →
     t .head .od .«counter_3» ≡ p .od .«counter_3» + length (droppedBy p (t .crossings))
 
+abbrev pub CrossedShare : Step → Type 0
+CrossedShare t = length (t .crossings) ≡ countOf isCrossing (t .checked)
+
 pub record Shares (p : Plain) (c : Call) (t : Step) : Type 0 where
   pub told : ModeShare p c t
   pub queue : QueueShare p t
   pub counts : CountShare p t
+  pub crossed : CrossedShare t
   pub lost : LostShare p c t
 
 -- A call without a crossing that hands out nothing and leaves the queue and, but for a load, counter 3.
 pub record Quiet (p : Plain) (c : Call) (t : Step) : Type 0 where
   pub queue : t .head .queue ≡ p .queue
   pub crossings : t .crossings ≡ []
+  pub crossed : CrossedShare t
   pub handed : handedBy (t .answer) ≡ []
   pub lost : loadsCounter3 c ≡ false → t .head .od .«counter_3» ≡ p .od .«counter_3»
 
@@ -84,6 +89,7 @@ quiet p c t h m n =
       told = m;
       queue = rw (h .crossings, h .handed, h .queue, none-dropped (isFull p)) still;
       counts = n;
+      crossed = h .crossed;
       lost = lost-none p c t (h .crossings) (h .lost);
     }
 
@@ -128,40 +134,40 @@ untouched p c t h m w e n =
     quiet p c t h (λ v g. ap₂ mode m (w v) ∙ g) (rw (e, n) (counting-none (p .errors)))
 
 -- a declined call
-declined : (p : Plain) (c : Call) (l : List WatchedNode) (r : Refusal) → ((w : Told) → toldAt p c (declines p l r) w ≡ w) → Shares p c (declines p l r)
+declined : (p : Plain) (c : Call) (l : List WatchedNode) (r : ℕ) → ((w : Told) → toldAt p c (declines p l r) w ≡ w) → Shares p c (declines p l r)
 declined p c l r w =
-    untouched p c (declines p l r) (record { queue = refl; crossings = refl; handed = refl; lost = λ h. refl }) refl w refl refl
+    untouched p c (declines p l r) (record { queue = refl; crossings = refl; crossed = refl; handed = refl; lost = λ h. refl }) refl w refl refl
 
 -- what a call declines, and what it takes
 pub tried-by :
-    {A : Type 0} (P : A → Type 0) (ts : List Test) (refuse : Refusal → A) (accept : A) →
-    ((r : Refusal) → P (refuse r)) → P accept → P (tried ts refuse accept)
+    {A : Type 0} (P : A → Type 0) (ts : List (Test ℕ)) (refuse : ℕ → A) (accept : A) →
+    ((r : ℕ) → P (refuse r)) → P accept → P (tried ts refuse accept)
 tried-by P [] refuse accept d a = a
 tried-by P (t ∷ ts) refuse accept d a = picked P (t .holds) (tried-by P ts refuse accept d a) (d (t .otherwise))
 
 nmt-shares : (p : Plain) (n : ℕ) (r : NmtEventRead) → readEvent n ≡ r → Shares p (nmtEvent n) (nmtStep p r)
 nmt-shares p n (event.Taken e) h =
     quiet p (nmtEvent n) (nmtStep p (event.Taken e))
-    (record { queue = refl; crossings = refl; handed = refl; lost = λ l. refl })
-    (λ w g. rw h (mode-event (p .nmt) e w g)) (counting-none (p .errors))
-nmt-shares p n (event.Refused r) h = declined p (nmtEvent n) [] r (λ w. rw h)
+    (record { queue = refl; crossings = refl; crossed = refl; handed = refl; lost = λ l. refl })
+    (λ w g. mode-event (p .nmt) e w g) (counting-none (p .errors))
+nmt-shares p n (event.Refused r) h = declined p (nmtEvent n) [] (refusalNumber r) (λ w. refl)
 
 dll-shares : (p : Plain) (n : ℕ) (x : Bool) (r : DllCsEventRead) → Shares p (dllEvent n x) (dllStep p x r)
 dll-shares p n x (cs-event.Taken e) =
     untouched p (dllEvent n x) (dllStep p x (cs-event.Taken e))
-    (record { queue = refl; crossings = refl; handed = refl; lost = λ l. refl }) refl (λ w. refl) refl refl
-dll-shares p n x (cs-event.Refused r) = declined p (dllEvent n x) [] r (λ w. refl)
+    (record { queue = refl; crossings = refl; crossed = refl; handed = refl; lost = λ l. refl }) refl (λ w. refl) refl refl
+dll-shares p n x (cs-event.Refused r) = declined p (dllEvent n x) [] (refusalNumber r) (λ w. refl)
 
 error-shares : (p : Plain) (k a b : ℕ) (r : DllErrorRead) → Shares p (error k a b) (errorStep p r)
 error-shares p k a b (error-read.Taken e) =
     quiet p (error k a b) (errorStep p (error-read.Taken e))
-    (record { queue = refl; crossings = refl; handed = refl; lost = λ l. refl }) (λ w g. g)
+    (record { queue = refl; crossings = refl; crossed = refl; handed = refl; lost = λ l. refl }) (λ w g. g)
     (counting-handled (p .errors) e)
-error-shares p k a b (error-read.Refused r) = declined p (error k a b) [] r (λ w. refl)
+error-shares p k a b (error-read.Refused r) = declined p (error k a b) [] (refusalNumber r) (λ w. refl)
 
 cycle-shares : (p : Plain) → Shares p cycleComplete (step p cycleComplete)
 cycle-shares p =
-    quiet p cycleComplete (step p cycleComplete) (record { queue = refl; crossings = refl; handed = refl; lost = λ l. refl })
+    quiet p cycleComplete (step p cycleComplete) (record { queue = refl; crossings = refl; crossed = refl; handed = refl; lost = λ l. refl })
     (λ w g. g) (counting-completed (p .errors))
 
 withdraw-shares : (p : Plain) → Shares p withdraw (step p withdraw)
@@ -170,19 +176,19 @@ withdraw-shares p = by (not (sameState (p .nmt .«current_state») NmtReadyToOpe
     by :
         (b : Bool) →
         not (sameState (p .nmt .«current_state») NmtReadyToOperate) ≡ b →
-        Shares p withdraw (pick b (answers (withNmt p (withdrawn (p .nmt))) taken []) (declines p [] ReadyToOperate))
+        Shares p withdraw (pick b (answers (withNmt p (withdrawn (p .nmt))) taken []) (declines p [] 8))
     by true h =
         quiet p withdraw (answers (withNmt p (withdrawn (p .nmt))) taken [])
-        (record { queue = refl; crossings = refl; handed = refl; lost = λ l. refl })
+        (record { queue = refl; crossings = refl; crossed = refl; handed = refl; lost = λ l. refl })
         (λ w g. mode-withdraw (p .nmt) w h g) (counting-none (p .errors))
-    by false h = declined p withdraw [] ReadyToOperate (λ w. refl)
+    by false h = declined p withdraw [] 8 (λ w. refl)
 
 heard-shares : (p : Plain) (n t : ℕ) (ws : List WatchedNode) → Shares p (heard n t ws) (step p (heard n t ws))
 heard-shares p n t ws =
     tried-by (Shares p (heard n t ws)) (heardTests n t ws) (declines p ws) (answers p taken (heardAt n t ws))
     (λ r. declined p (heard n t ws) ws r (λ w. refl))
     (untouched p (heard n t ws) (answers p taken (heardAt n t ws))
-    (record { queue = refl; crossings = refl; handed = refl; lost = λ l. refl }) refl (λ w. refl) refl refl)
+    (record { queue = refl; crossings = refl; crossed = refl; handed = refl; lost = λ l. refl }) refl (λ w. refl) refl refl)
 
 -- the oldest leaves, or none
 hand-out-queue :
@@ -197,6 +203,7 @@ hand-out-shares p =
       told = λ w g. g;
       queue = hand-out-queue (p .capacity) (p .queue) (isFull p);
       counts = counting-none (p .errors);
+      crossed = refl;
       lost = lost-none p handOut (step p handOut) refl (λ l. refl);
     }
 
@@ -212,6 +219,7 @@ load-shares p v h =
     (record {
       queue = refl;
       crossings = refl;
+      crossed = refl;
       handed = refl;
       lost = counter-kept (p .od .«counter_3») (v .«counter_3»);
     })
@@ -219,11 +227,11 @@ load-shares p v h =
 
 arm-shares : (p : Plain) (t : ℕ) → Shares p (arm t) (step p (arm t))
 arm-shares p t =
-    tried-by (Shares p (arm t)) (must (inTime t) TimeLimit ∷ []) (declines p [])
+    tried-by (Shares p (arm t)) (armTests t) (declines p [])
     (answers (withSoc p (armed (p .soc) (p .od) t)) taken [])
     (λ r. declined p (arm t) [] r (λ w. refl))
     (untouched p (arm t) (answers (withSoc p (armed (p .soc) (p .od) t)) taken [])
-    (record { queue = refl; crossings = refl; handed = refl; lost = λ l. refl }) refl (λ w. refl) refl refl)
+    (record { queue = refl; crossings = refl; crossed = refl; handed = refl; lost = λ l. refl }) refl (λ w. refl) refl refl)
 
 -- what a tick's crossing does, if it has one: its entry waits or is dropped, and counter 3
 enters-queue :
@@ -249,13 +257,14 @@ tick-taken-shares p t ws l k h =
       told = tells (h .moves);
       queue = enters-queue p (h .enters);
       counts = h .counts;
+      crossed = h .crossed;
       lost = enters-lost p (tick t ws) (tickAnswered k l) (h .enters) refl refl;
     }
 
 tick-shares : (p : Plain) (t : ℕ) (ws : List WatchedNode) → Shares p (tick t ws) (step p (tick t ws))
 tick-shares p t ws =
     tried-by (Shares p (tick t ws)) (tickTests p t ws) (declines p ws) (tickAnswered (tickTaken p t ws) (lookedAt p t ws))
-    (λ r. declined p (tick t ws) ws r (still-tells (p .nmt)))
+    (λ r. declined p (tick t ws) ws r (λ w. refl))
     (tick-taken-shares p t ws (lookedAt p t ws) (tickTaken p t ws) (tick-part p t ws))
 
 -- each call

@@ -5,54 +5,37 @@ use mathlib.Core.Path.{_≡_, refl, sym, ap, ap₂, subst, _∙_}
 use mathlib.Core.Bool.{Bool, true, false, not, true≢false}
 use mathlib.Core.List.{List, [], _∷_, _++_}
 use lib.Dec.{leb, ltb}
-use lib.ListN.{length}
+use lib.ListN.{length, length-append}
 use borrow.Author.Tests.{leb-true, leb-false, lt-ltb, le-ltb}
 use Rattle.types.specs.Pick.{pick, both}
 use Rattle.types.specs.declared.nmt.events.NmtEvent.the-variants.{Error, Timeout}
 use Rattle.types.specs.declared.frame.error.types.DllError.{DllError}
 use Rattle.nmt.specs.Nmt as Nmt
 use Rattle.nmt.specs.declared.cn_state_machine.CnNmtStateMachine.{CnNmtStateMachine}
-use Rattle.dll.specs.Dll.{goes, cyclic, isCyclic, processed}
+use Rattle.dll.specs.Dll.{goes, cyclic, isCyclic, csProcessed}
 use Rattle.dll.specs.declared.cs_state_machine.DllCsState.{DllCsState}
 use Rattle.dll.specs.declared.cs_state_machine.DllCsState.the-variants.{NonCyclic, WaitSoc, WaitPreq, WaitSoa}
 use Rattle.types.specs.declared.frame.cs_state_machine.DllCsEvent.the-variants.{SocTimeout}
-use Rattle.counters.specs.Counters.{handled}
-use Rattle.counters.specs.Marks.{Mark, errorMarks}
+use Rattle.counters.specs.Counters.{counter, afterError, Effect, counts, losesLink, isLogged, nothing, effect, handled}
+use Rattle.counters.specs.Marks.{Mark, given, crossed, isCrossing, countOf, effectCrosses, crosses, effectMarks, errorMarks}
+use Rattle.counters.specs.declared.counters.CounterKind.{CounterKind}
 use Rattle.counters.specs.declared.counters.CnErrorCounters.{CnErrorCounters}
 use Rattle.counters.specs.declared.counters.HandledError.{HandledError}
-use Rattle.entries.specs.Entry.{crossing}
+use Rattle.entries.specs.Entry.{crossingEntry}
 use Rattle.entries.specs.declared.status_response.ErrorEntry.{ErrorEntry}
 use Rattle.head.specs.declared.state.Deadline.{Deadline}
 use Rattle.head.specs.declared.state.Deadline.the-variants.{At, Nothing}
 use Rattle.watched.specs.declared.nodes.WatchedNode.{WatchedNode}
 use Rattle.watched.specs.Watched.{allOf}
-use Rattle.node.specs.Plain.{Plain}
+use Rattle.node.specs.Plain.{Plain, EventMade, made, noEvent}
 use Rattle.node.specs.Steps.{withDll, withErrors, withSoc, cycleOf, limitOf}
-use Rattle.node.specs.Tick.{Ticked, goesOn, behind, checksHeartbeats, acts, oneMore, signalled, checkOff, finished, dealt, beatBy, timeoutOf, beat, beatAll, lateOnes, heartbeats, withDeadline, atNotActive, basicTimeout, timesOut, counter1, kept, droppedOne, queued, dealBy, deal, dealAll, lastSoc, elapsed, nextDeadline, rescheduled, withinLimit, socTimeout, lost, socCheck, passed, byDeadline, tickTaken}
+use Rattle.node.specs.Tick.{Ticked, goesOn, behind, checksHeartbeats, acts, oneMore, signalled, checkOff, finished, dealt, beatBy, timeoutOf, beat, beatAll, lateOnes, heartbeats, withDeadline, atNotActive, basicTimeout, eventInTick, timedOut, counter1, kept, droppedOne, queued, dealBy, deal, dealAll, lastSoc, elapsed, nextDeadline, rescheduled, withinLimit, socTimeout, lost, socCheck, usedUp, byDeadline, tickTaken}
 use Rattle.heartbeats.specs.Parts.{isQuiet}
-use Rattle.heartbeats.proofs.PartLaws.{handled-quiet}
-use Rattle.trace.specs.Tally.{Told, told, toldBy, toldInTick, inPreOperational2}
+use Rattle.heartbeats.proofs.PartLaws.{handled-quiet, quiet-crosses}
+use Rattle.trace.specs.Tally.{Told, toldMade}
 use Rattle.trace.proofs.Modes.{mode, mode-event, both-first, both-second}
+use Rattle.counters.proofs.Balance.{count-append}
 use Rattle.counters.proofs.Counts.{Counting, counting-none, counting-then, counting-handled}
-
--- Timeout tells what Error does, and a machine that stays tells nothing
-pub timeout-tells : (m m′ : CnNmtStateMachine) (w : Told) → toldBy m Timeout m′ w ≡ toldInTick m m′ w
-timeout-tells m m′ w = refl
-
-pub still-tells : (m : CnNmtStateMachine) (w : Told) → toldInTick m m w ≡ w
-still-tells m w = by (inPreOperational2 m) (w .asked) (w .word)
-  where
-    by :
-        (b asked word : Bool) →
-        told (pick b (pick asked true false) (pick b false asked)) (pick word true (pick b false false)) ≡ told asked word
-    by true true true = refl
-    by true true false = refl
-    by true false true = refl
-    by true false false = refl
-    by false true true = refl
-    by false true false = refl
-    by false false true = refl
-    by false false false = refl
 
 -- what the shares see of a head, besides the counters
 pub record Seen : Type 0 where
@@ -76,14 +59,14 @@ abbrev full : Seen → Bool
 full s = leb (s .capacity) (length (s .queue))
 
 -- what a tick does to the machine: nothing, or the event Error or Timeout
-pub data InTick (m : CnNmtStateMachine) : CnNmtStateMachine → Type 0 where
-  still : InTick m m
-  fails : InTick m (Nmt.processed m Error .machine)
-  times-out : InTick m (Nmt.processed m Timeout .machine)
+pub data InTick (m : CnNmtStateMachine) : EventMade → CnNmtStateMachine → Type 0 where
+  still : InTick m noEvent m
+  fails : InTick m (made Error) (Nmt.processed m Error .machine)
+  times-out : InTick m (made Timeout) (Nmt.processed m Timeout .machine)
 
 -- the mode, over it
-pub tells : {m m′ : CnNmtStateMachine} → InTick m m′ → (w : Told) → mode m w ≡ true → mode m′ (toldInTick m m′ w) ≡ true
-tells {m = m} still w h = ap (mode m) (still-tells m w) ∙ h
+pub tells : {m m′ : CnNmtStateMachine} {e : EventMade} → InTick m e m′ → (w : Told) → mode m w ≡ true → mode m′ (toldMade m e m′ w) ≡ true
+tells {m = m} still w h = h
 tells {m = m} fails w h = mode-event m Error w h
 tells {m = m} times-out w h = mode-event m Timeout w h
 
@@ -96,9 +79,11 @@ pub data Enters (s : Seen) : List ErrorEntry → List ErrorEntry → ℕ → Typ
 
 -- a part of a tick, from a head of which s is seen, with the counters e
 pub record Part (s : Seen) (e : CnErrorCounters) (k : Ticked) : Type 0 where
-  pub moves : InTick (s .nmt) (k .head .nmt)
+  pub moves : InTick (s .nmt) (k .event) (k .head .nmt)
   pub counts : Counting e (k .marks) (k .head .errors)
   pub enters : Enters s (k .crossings) (k .head .queue) (k .head .od .«counter_3»)
+  -- a crossing is one that reached the threshold
+  pub crossed : length (k .crossings) ≡ countOf isCrossing (k .checked)
   -- a tick leaves the last SoC time
   pub last : k .head .soc .«last_soc_reception_time_us» ≡ s .last
 
@@ -122,7 +107,7 @@ picked P false h g = g
 idle : (p : Plain) → WalkOf p (goesOn p)
 idle p =
     record {
-      part = record { moves = still; counts = counting-none (p .errors); enters = none; last = refl };
+      part = record { moves = still; counts = counting-none (p .errors); enters = none; crossed = refl; last = refl };
       stays = λ h. refl;
       uncrossed = λ h. refl;
     }
@@ -133,11 +118,15 @@ module _ (s : Seen) (e : CnErrorCounters) (a : Ticked) (w : Walk s e a) (b : Tic
   part-behind h g =
       let z : seen (a .head) ≡ s = w .stays h in
       record {
-        moves = subst (λ (s : Seen). InTick (s .nmt) (b .head .nmt)) z (g .moves);
+        moves = subst (λ (s : Seen). InTick (s .nmt) (b .event) (b .head .nmt)) z (g .moves);
         counts = counting-then (w .part .counts) (g .counts);
         enters =
             subst (λ (cs : List ErrorEntry). Enters s (cs ++ b .crossings) (b .head .queue) (b .head .od .«counter_3»)) (sym (w .uncrossed h))
             (subst (λ (s : Seen). Enters s (b .crossings) (b .head .queue) (b .head .od .«counter_3»)) z (g .enters));
+        crossed =
+            length-append (a .crossings) (b .crossings)
+            ∙ ap₂ (λ (m n : ℕ). m + n) (w .part .crossed) (g .crossed)
+            ∙ sym (count-append isCrossing (a .checked) (b .checked));
         last = g .last ∙ ap (λ (s : Seen). s .last) z;
       }
 
@@ -162,33 +151,36 @@ module _ (s : Seen) (e : CnErrorCounters) (a : Ticked) (w : Walk s e a) (b : Tic
 
 -- an error was handled, which left g of the head p: the event Error, where it ends the tick
 finishes :
-    (p g : Plain) (ends : Bool) (es : List DllError) (ms : List Mark) (cs : List ErrorEntry) →
+    (p g : Plain) (ends : Bool) (es : List DllError) (ms checked : List Mark) (cs : List ErrorEntry) →
     g .nmt ≡ p .nmt →
     g .soc .«last_soc_reception_time_us» ≡ p .soc .«last_soc_reception_time_us» →
     Counting (p .errors) ms (g .errors) →
     Enters (seen p) cs (g .queue) (g .od .«counter_3») →
+    length cs ≡ countOf isCrossing checked →
     (ends ≡ false → seen g ≡ seen p) →
     (ends ≡ false → cs ≡ []) →
-    WalkOf p (finished ends es ms cs g)
-finishes p g true es ms cs m l c n s u =
+    WalkOf p (finished ends es ms checked cs g)
+finishes p g true es ms checked cs m l c n x s u =
     record {
       part =
           record {
-            moves = subst (λ (m : CnNmtStateMachine). InTick (p .nmt) (Nmt.processed m Error .machine)) (sym m) fails;
+            moves = subst (λ (m : CnNmtStateMachine). InTick (p .nmt) (made Error) (Nmt.processed m Error .machine)) (sym m) fails;
             counts = c;
             enters = n;
+            crossed = x;
             last = l;
           };
       stays = λ h. absurd (true≢false h);
       uncrossed = λ h. absurd (true≢false h);
     }
-finishes p g false es ms cs m l c n s u =
+finishes p g false es ms checked cs m l c n x s u =
     record {
       part =
           record {
-            moves = subst (λ (m : CnNmtStateMachine). InTick (p .nmt) m) (sym m) still;
+            moves = subst (λ (m : CnNmtStateMachine). InTick (p .nmt) noEvent m) (sym m) still;
             counts = c;
             enters = n;
+            crossed = x;
             last = l;
           };
       stays = s;
@@ -199,10 +191,10 @@ finishes p g false es ms cs m l c n s u =
 beat-by : (p : Plain) (ms : List Mark) (r : HandledError) → Counting (p .errors) ms (r .counters) → WalkOf p (beatBy p ms r)
 beat-by p ms r c = by (r .signal)
   where
-    by : (b : Bool) → WalkOf p (dealt r ms [] (pick b (signalled (withErrors p (r .counters))) (withErrors p (r .counters))))
+    by : (b : Bool) → WalkOf p (dealt r ms [] [] (pick b (signalled (withErrors p (r .counters))) (withErrors p (r .counters))))
     by true =
-        finishes p (signalled (withErrors p (r .counters))) (acts (r .action)) _ ms [] refl refl c none (λ h. refl) (λ h. refl)
-    by false = finishes p (withErrors p (r .counters)) (acts (r .action)) _ ms [] refl refl c none (λ h. refl) (λ h. refl)
+        finishes p (signalled (withErrors p (r .counters))) (acts (r .action)) _ ms [] [] refl refl c none refl (λ h. refl) (λ h. refl)
+    by false = finishes p (withErrors p (r .counters)) (acts (r .action)) _ ms [] [] refl refl c none refl (λ h. refl) (λ h. refl)
 
 pub beat-walk : (p : Plain) (w : WatchedNode) → WalkOf p (beat p w)
 unfolding beat
@@ -235,37 +227,52 @@ entered :
 entered s x b f =
     subst (λ (b : Bool). Enters s (x ∷ []) (pick b (s .queue) (s .queue ++ (x ∷ []))) (pick b (oneMore (s .lost)) (s .lost))) f one
 
--- An error of the SoC check that signals only with an action: it crosses at most once, and then ends the tick.
-module _ (p : Plain) (ms : List Mark) (x : ErrorEntry) (r : HandledError) (c : Counting (p .errors) ms (r .counters)) (q : acts (r .action) ≡ false → r .signal ≡ false) where
+-- an error that crosses leaves one mark of it
+crossed-once : (s : CnErrorCounters) (e : DllError) → countOf isCrossing (errorMarks s e) ≡ pick (crosses s e) 1 0
+unfolding errorMarks crosses
+crossed-once s e = by (effect e)
+  where
+    reached : (k : CounterKind) (b : Bool) → countOf isCrossing (given k ∷ pick b (crossed k ∷ []) []) ≡ pick b 1 0
+    reached k true = refl
+    reached k false = refl
+
+    by : (f : Effect) → countOf isCrossing (effectMarks f s) ≡ pick (effectCrosses f s) 1 0
+    by (counts k) = reached k (afterError (counter k s) .reached)
+    by losesLink = refl
+    by isLogged = refl
+    by nothing = refl
+
+-- An error of the SoC check that crosses only with an action: it crosses at most once, and then ends the tick.
+module _ (p : Plain) (ms : List Mark) (crosses : Bool) (x : ErrorEntry) (r : HandledError) (c : Counting (p .errors) ms (r .counters)) (q : acts (r .action) ≡ false → crosses ≡ false) (n : countOf isCrossing ms ≡ pick crosses 1 0) where
   abbrev g : Plain
   g = withErrors (counter1 p) (r .counters)
 
   abbrev joins : Bool → Plain
   joins room = pick room (kept (signalled g) x) (droppedOne (signalled g))
 
-  crosses : r .signal ≡ true → (b : Bool) → full (seen p) ≡ b → WalkOf p (dealt r ms (x ∷ []) (joins (not b)))
-  crosses h true f =
-      finishes p (joins false) (acts (r .action)) _ ms (x ∷ []) refl refl c (entered (seen p) x true f)
+  enters-one : crosses ≡ true → (b : Bool) → full (seen p) ≡ b → WalkOf p (dealt r ms ms (x ∷ []) (joins (not b)))
+  enters-one h true f =
+      finishes p (joins false) (acts (r .action)) _ ms ms (x ∷ []) refl refl c (entered (seen p) x true f) (sym (n ∙ ap (λ (b : Bool). pick b 1 0) h))
       (λ a. absurd (true≢false (sym h ∙ q a))) (λ a. absurd (true≢false (sym h ∙ q a)))
-  crosses h false f =
-      finishes p (joins true) (acts (r .action)) _ ms (x ∷ []) refl refl c (entered (seen p) x false f)
+  enters-one h false f =
+      finishes p (joins true) (acts (r .action)) _ ms ms (x ∷ []) refl refl c (entered (seen p) x false f) (sym (n ∙ ap (λ (b : Bool). pick b 1 0) h))
       (λ a. absurd (true≢false (sym h ∙ q a))) (λ a. absurd (true≢false (sym h ∙ q a)))
 
-  deal-by : WalkOf p (dealBy p ms x r)
+  deal-by : WalkOf p (dealBy p ms crosses x r)
   unfolding queued
-  deal-by = by (r .signal) refl
+  deal-by = by crosses refl
     where
-      by : (b : Bool) → r .signal ≡ b → WalkOf p (dealt r ms (pick b (x ∷ []) []) (pick b (queued (signalled g) x) g))
+      by : (b : Bool) → crosses ≡ b → WalkOf p (dealt r ms ms (pick b (x ∷ []) []) (pick b (queued (signalled g) x) g))
       by true h =
-          subst (λ (b : Bool). WalkOf p (dealt r ms (x ∷ []) (joins b))) (sym (room-or-full (length (p .queue)) (p .capacity)))
-          (crosses h (full (seen p)) refl)
-      by false h = finishes p g (acts (r .action)) _ ms [] refl refl c none (λ a. refl) (λ a. refl)
+          subst (λ (b : Bool). WalkOf p (dealt r ms ms (x ∷ []) (joins b))) (sym (room-or-full (length (p .queue)) (p .capacity)))
+          (enters-one h (full (seen p)) refl)
+      by false h = finishes p g (acts (r .action)) _ ms ms [] refl refl c none (sym (n ∙ ap (λ (b : Bool). pick b 1 0) h)) (λ a. refl) (λ a. refl)
 
 pub deal-walk : (t : ℕ) (p : Plain) (e : DllError) → isQuiet e ≡ true → WalkOf p (deal t p e)
 unfolding deal
 deal-walk t p e q =
-    deal-by p (errorMarks (p .errors) e) (crossing e t) (handled (p .errors) e) (counting-handled (p .errors) e)
-    (λ a. handled-quiet (p .errors) e q a .signal)
+    deal-by p (errorMarks (p .errors) e) (crosses (p .errors) e) (crossingEntry e t) (handled (p .errors) e) (counting-handled (p .errors) e)
+    (λ a. sym (quiet-crosses (p .errors) e q) ∙ handled-quiet (p .errors) e q a .signal) (crossed-once (p .errors) e)
 
 pub deal-all-walk : (t : ℕ) (p : Plain) (es : List DllError) → allOf isQuiet es ≡ true → WalkOf p (dealAll t p es)
 unfolding dealAll
@@ -277,7 +284,7 @@ deal-all-walk t p (e ∷ es) q =
 
 -- a SocTimeout reports LossOfSoc, LossOfSoa or UnexpectedEventInState
 soc-quiet : (p : Plain) → allOf isQuiet (socTimeout p .errors) ≡ true
-unfolding processed
+unfolding csProcessed
 soc-quiet p = by (isCyclic (p .nmt .«current_state»)) (p .dll)
   where
     by : (b : Bool) (d : DllCsState) → allOf isQuiet (pick b (cyclic d SocTimeout true) (goes NonCyclic []) .errors) ≡ true
@@ -311,12 +318,17 @@ soc-check-walk p t =
     (picked (WalkOf p) (ltb (limitOf (p .od)) (elapsed p t)) (lost-walk p t) (within-walk p t)) (idle p)
 
 -- at NotActive: the event Timeout
-pub times-out-part : (p : Plain) → PartOf p (goesOn (timesOut p))
-times-out-part p =
-    picked (λ (g : Plain). PartOf p (goesOn g)) (ltb 0 (basicTimeout p))
-    (record { moves = times-out; counts = counting-none (p .errors); enters = none; last = refl }) (idle p .part)
+pub times-out-part : (p : Plain) → PartOf p (timedOut p)
+times-out-part p = by (ltb 0 (basicTimeout p))
+  where
+    by :
+        (b : Bool) →
+        PartOf p
+        (record { head = pick b (eventInTick p Timeout) p; logged = []; event = pick b (made Timeout) noEvent; marks = []; checked = []; crossings = []; ended = false })
+    by true = record { moves = times-out; counts = counting-none (p .errors); enters = none; crossed = refl; last = refl }
+    by false = record { moves = still; counts = counting-none (p .errors); enters = none; crossed = refl; last = refl }
 
-pub passed-part : (p : Plain) (t : ℕ) → PartOf p (passed p t)
+pub passed-part : (p : Plain) (t : ℕ) → PartOf p (usedUp p t)
 passed-part p t = picked (PartOf p) (atNotActive p) (times-out-part p) (soc-check-walk p t .part)
 
 pub by-deadline-part : (p : Plain) (t : ℕ) (d : Deadline) → PartOf p (byDeadline p t d)

@@ -21,12 +21,11 @@ use Rattle.nmt.specs.Nmt.{enter, rowOf, applied, resetBy, processed}
 use Rattle.nmt.specs.declared.cn_state_machine.CnNmtStateMachine.{CnNmtStateMachine}
 use Rattle.head.specs.Words as words
 use Rattle.head.proofs.Laws.{state-back}
-use Rattle.types.specs.declared.refusals.Refusal.the-variants.{ReadyToOperate}
-use Rattle.node.specs.Plain.{Plain, Call, nmtEvent, dllEvent, error, cycleComplete, withdraw, heard, handOut, load, arm, tick, Start, taken}
+use Rattle.node.specs.Plain.{Plain, Call, nmtEvent, dllEvent, error, cycleComplete, withdraw, heard, handOut, load, arm, tick, Start, taken, EventMade}
 use Rattle.node.specs.Steps.{answers, declines, withNmt, withdrawn, fresh}
-use Rattle.node.specs.Run.{step, run}
+use Rattle.node.specs.Run.{step, stepAll}
 use Rattle.trace.specs.Tally.{Told, told, asks}
-use Rattle.trace.specs.Visits.{stateOf, Stays, InVisit, Asking, Asked, visiting, Enabled, at-once, later, isWithdraw, isTaken, NoneWithdrawn, ReadyWord, first, given}
+use Rattle.trace.specs.Visits.{nmtState, Stays, InVisit, Asking, Asked, visiting, Enabled, at-once, later, isWithdraw, isTaken, NoneWithdrawn, ReadyWord, first, given}
 use Rattle.trace.proofs.Modes.{implies, always, every, always-at, every-at, follows, both-first, both-second}
 use Rattle.trace.proofs.Ticking.{InTick}
 use Rattle.trace.proofs.Moves.{Moves, moves}
@@ -51,18 +50,18 @@ at-end : (xs : List Call) → xs ++ [] ≡ xs
 at-end [] = refl
 at-end (x ∷ xs) = ap (λ (l : List Call). x ∷ l) (at-end xs)
 
-pub run-then : (p : Plain) (xs : List Call) (c : Call) → run p (xs ++ (c ∷ [])) ≡ step (run p xs) c .head
-unfolding run
+pub run-then : (p : Plain) (xs : List Call) (c : Call) → stepAll p (xs ++ (c ∷ [])) ≡ step (stepAll p xs) c .head
+unfolding stepAll
 run-then p [] c = refl
 run-then p (x ∷ xs) c = run-then (step p x .head) xs c
 
-stays-then : (s : NmtState) (p : Plain) (xs : List Call) (c : Call) → Stays s p xs → stateOf (step (run p xs) c .head) ≡ s → Stays s p (xs ++ (c ∷ []))
-unfolding Stays run
+stays-then : (s : NmtState) (p : Plain) (xs : List Call) (c : Call) → Stays s p xs → nmtState (step (stepAll p xs) c .head) ≡ s → Stays s p (xs ++ (c ∷ []))
+unfolding Stays stepAll
 stays-then s p [] c h e = (e, tt)
 stays-then s p (x ∷ xs) c h e = (h .0, stays-then s (step p x .head) xs c (h .1) e)
 
-run-on : (p : Plain) (xs ys : List Call) → run p (xs ++ ys) ≡ run (run p xs) ys
-unfolding run
+run-on : (p : Plain) (xs ys : List Call) → stepAll p (xs ++ ys) ≡ stepAll (stepAll p xs) ys
+unfolding stepAll
 run-on p [] ys = refl
 run-on p (x ∷ xs) ys = run-on (step p x .head) xs ys
 
@@ -137,7 +136,7 @@ module _ (p : Plain) (c : Call) (h : calm (p .nmt) ≡ true) where
   unasked : (e : NmtEvent) → asks e ≡ false → asked-now (p .nmt) e ≡ true → Asking p c
   unasked e a x = absurd (true≢false (sym (both-second (pre2 (p .nmt)) (asks e) x) ∙ a))
 
-  in-tick : {m : CnNmtStateMachine} → InTick (p .nmt) m → Came p c m
+  in-tick : {e : EventMade} {m : CnNmtStateMachine} → InTick (p .nmt) e m → Came p c m
   in-tick InTick.still = stays
   in-tick InTick.fails = by-event Error (unasked Error refl)
   in-tick InTick.times-out = by-event Timeout (unasked Timeout refl)
@@ -153,41 +152,41 @@ module _ (p : Plain) (c : Call) (h : calm (p .nmt) ≡ true) where
         call = x;
         read = r;
         passes = both-second (pre2 (p .nmt)) (asks e) a;
-        visit = state-is (stateOf p) NmtPreOperational2 (both-first (pre2 (p .nmt)) (asks e) a);
+        visit = state-is (nmtState p) NmtPreOperational2 (both-first (pre2 (p .nmt)) (asks e) a);
       })
   came (Moves.ticks t) = in-tick t
 
 -- after some calls from the head p
 record Known (p : Plain) (cs : List Call) : Type 0 where
-  calms : calm (run p cs .nmt) ≡ true
-  asked : enabling (run p cs .nmt) ≡ true → Asked p cs
-  entered : ready (run p cs .nmt) ≡ true → Enabled p cs
+  calms : calm (stepAll p cs .nmt) ≡ true
+  asked : enabling (stepAll p cs .nmt) ≡ true → Asked p cs
+  entered : ready (stepAll p cs .nmt) ≡ true → Enabled p cs
 
-asked-then : (p : Plain) {cs : List Call} → Asked p cs → (c : Call) → stateOf (step (run p cs) c .head) ≡ NmtPreOperational2 → Asked p (cs ++ (c ∷ []))
+asked-then : (p : Plain) {cs : List Call} → Asked p cs → (c : Call) → nmtState (step (stepAll p cs) c .head) ≡ NmtPreOperational2 → Asked p (cs ++ (c ∷ []))
 asked-then p (visiting before a visit x s) c e =
     subst (Asked p) (sym (again before (a ∷ visit) (c ∷ [])))
     (visiting before a (visit ++ (c ∷ [])) x
-    (stays-then NmtPreOperational2 (run p before) (a ∷ visit) c s
-    (ap (λ (g : Plain). stateOf (step g c .head)) (sym (run-on p before (a ∷ visit))) ∙ e)))
+    (stays-then NmtPreOperational2 (stepAll p before) (a ∷ visit) c s
+    (ap (λ (g : Plain). nmtState (step g c .head)) (sym (run-on p before (a ∷ visit))) ∙ e)))
 
-enabled-then : (p : Plain) {cs : List Call} → Enabled p cs → (c : Call) → stateOf (step (run p cs) c .head) ≡ NmtReadyToOperate → Enabled p (cs ++ (c ∷ []))
+enabled-then : (p : Plain) {cs : List Call} → Enabled p cs → (c : Call) → nmtState (step (stepAll p cs) c .head) ≡ NmtReadyToOperate → Enabled p (cs ++ (c ∷ []))
 enabled-then p (at-once before a after x s) c e =
     subst (Enabled p) (sym (again before (a ∷ after) (c ∷ [])))
     (at-once before a (after ++ (c ∷ [])) x
-    (stays-then NmtReadyToOperate (run p before) (a ∷ after) c s
-    (ap (λ (g : Plain). stateOf (step g c .head)) (sym (run-on p before (a ∷ after))) ∙ e)))
+    (stays-then NmtReadyToOperate (stepAll p before) (a ∷ after) c s
+    (ap (λ (g : Plain). nmtState (step g c .head)) (sym (run-on p before (a ∷ after))) ∙ e)))
 enabled-then p (later {visited = visited} k a after s) c e =
     subst (Enabled p) (sym (again visited (a ∷ after) (c ∷ [])))
     (later k a (after ++ (c ∷ []))
-    (stays-then NmtReadyToOperate (run p visited) (a ∷ after) c s
-    (ap (λ (g : Plain). stateOf (step g c .head)) (sym (run-on p visited (a ∷ after))) ∙ e)))
+    (stays-then NmtReadyToOperate (stepAll p visited) (a ∷ after) c s
+    (ap (λ (g : Plain). nmtState (step g c .head)) (sym (run-on p visited (a ∷ after))) ∙ e)))
 
 known-then : (p : Plain) (cs : List Call) (c : Call) → Known p cs → Known p (cs ++ (c ∷ []))
 unfolding Stays
 known-then p cs c k =
-    let g = run p cs in
+    let g = stepAll p cs in
     let z = came g c (k .calms) (moves g c) in
-    let on : run p (cs ++ (c ∷ [])) .nmt ≡ step g c .head .nmt = ap (λ (g : Plain). g .nmt) (run-then p cs c) in
+    let on : stepAll p (cs ++ (c ∷ [])) .nmt ≡ step g c .head .nmt = ap (λ (g : Plain). g .nmt) (run-then p cs c) in
     record {
       calms = ap calm on ∙ z .calms;
       asked = λ o. visits (sym (ap enabling on) ∙ o) (z .opens (sym (ap enabling on) ∙ o));
@@ -195,7 +194,7 @@ known-then p cs c k =
     }
   where
     g₀ : Plain
-    g₀ = run p cs
+    g₀ = stepAll p cs
 
     visits : enabling (step g₀ c .head .nmt) ≡ true → (enabling (g₀ .nmt) ≡ true) ⊎ Asking g₀ c → Asked p (cs ++ (c ∷ []))
     visits o (inl x) = asked-then p (k .asked x) c (state-is _ NmtPreOperational2 (both-first (pre2 (step g₀ c .head .nmt)) _ o))
@@ -212,11 +211,11 @@ known-all p done (c ∷ cs) k = subst (Known p) (again done (c ∷ []) cs) (know
 
 -- what holds of the fresh head: neither in PreOperational2 nor at ReadyToOperate, and not enabled
 known-fresh : (s : Start) → Known (fresh s) []
-unfolding fresh run
+unfolding fresh stepAll
 known-fresh s = record { calms = refl; asked = λ h. absurd (true≢false (sym h)); entered = λ h. absurd (true≢false (sym h)) }
 
 -- AT READYTOOPERATE, after any list of calls from a fresh head
-pub enabled-before : (s : Start) (cs : List Call) → stateOf (run (fresh s) cs) ≡ NmtReadyToOperate → Enabled (fresh s) cs
+pub enabled-before : (s : Start) (cs : List Call) → nmtState (stepAll (fresh s) cs) ≡ NmtReadyToOperate → Enabled (fresh s) cs
 enabled-before s cs h = known-all (fresh s) [] cs (known-fresh s) .entered (is-state _ NmtReadyToOperate h)
 
 -- The ready word. Ready comes of a ready word in PreOperational2, and no call that leaves it on is a withdrawal that was accepted.
@@ -253,7 +252,7 @@ module _ (p : Plain) (c : Call) where
   unworded : (e : NmtEvent) → sameEvent e CnConfigurationComplete ≡ false → worded-now (p .nmt) e ≡ true → Wording p c
   unworded e a x = absurd (true≢false (sym (both-second (pre2 (p .nmt)) (sameEvent e CnConfigurationComplete) x) ∙ a))
 
-  word-in-tick : {m : CnNmtStateMachine} → InTick (p .nmt) m → m .«app_ready» ≡ true → (p .nmt .«app_ready» ≡ true) ⊎ Wording p c
+  word-in-tick : {e : EventMade} {m : CnNmtStateMachine} → InTick (p .nmt) e m → m .«app_ready» ≡ true → (p .nmt .«app_ready» ≡ true) ⊎ Wording p c
   word-in-tick InTick.still h = inl h
   word-in-tick InTick.fails h = word-by Error (unworded Error refl) h
   word-in-tick InTick.times-out h = word-by Timeout (unworded Timeout refl) h
@@ -269,7 +268,7 @@ module _ (p : Plain) (c : Call) where
         call = x;
         read = r;
         passes = event-is e CnConfigurationComplete (both-second (pre2 (p .nmt)) (sameEvent e CnConfigurationComplete) a);
-        visit = state-is (stateOf p) NmtPreOperational2 (both-first (pre2 (p .nmt)) (sameEvent e CnConfigurationComplete) a);
+        visit = state-is (nmtState p) NmtPreOperational2 (both-first (pre2 (p .nmt)) (sameEvent e CnConfigurationComplete) a);
       }) h
   word-came (Moves.ticks t) h = word-in-tick t h
 
@@ -279,12 +278,12 @@ not-withdrawn p (nmtEvent n) h = refl
 not-withdrawn p (dllEvent n x) h = refl
 not-withdrawn p (error k a b) h = refl
 not-withdrawn p cycleComplete h = refl
-not-withdrawn p withdraw h = by (not (sameState (stateOf p) NmtReadyToOperate)) h
+not-withdrawn p withdraw h = by (not (sameState (nmtState p) NmtReadyToOperate)) h
   where
     by :
         (b : Bool) →
-        pick b (answers (withNmt p (withdrawn (p .nmt))) taken []) (declines p [] ReadyToOperate) .head .nmt .«app_ready» ≡ true →
-        isTaken (pick b (answers (withNmt p (withdrawn (p .nmt))) taken []) (declines p [] ReadyToOperate) .answer) ≡ false
+        pick b (answers (withNmt p (withdrawn (p .nmt))) taken []) (declines p [] 8) .head .nmt .«app_ready» ≡ true →
+        isTaken (pick b (answers (withNmt p (withdrawn (p .nmt))) taken []) (declines p [] 8) .answer) ≡ false
     by true g = absurd (true≢false (sym g))
     by false g = refl
 not-withdrawn p (heard n t ws) h = refl
@@ -294,38 +293,38 @@ not-withdrawn p (arm t) h = refl
 not-withdrawn p (tick t ws) h = refl
 
 none-then :
-    (p : Plain) (xs : List Call) (c : Call) → NoneWithdrawn p xs → both (isWithdraw c) (isTaken (step (run p xs) c .answer)) ≡ false →
+    (p : Plain) (xs : List Call) (c : Call) → NoneWithdrawn p xs → both (isWithdraw c) (isTaken (step (stepAll p xs) c .answer)) ≡ false →
     NoneWithdrawn p (xs ++ (c ∷ []))
-unfolding NoneWithdrawn run
+unfolding NoneWithdrawn stepAll
 none-then p [] c h e = (e, tt)
 none-then p (x ∷ xs) c h e = (h .0, none-then (step p x .head) xs c (h .1) e)
 
 word-then :
-    (p : Plain) {cs : List Call} → ReadyWord p cs → (c : Call) → both (isWithdraw c) (isTaken (step (run p cs) c .answer)) ≡ false →
+    (p : Plain) {cs : List Call} → ReadyWord p cs → (c : Call) → both (isWithdraw c) (isTaken (step (stepAll p cs) c .answer)) ≡ false →
     ReadyWord p (cs ++ (c ∷ []))
 word-then p (first {cs = cs} k) c e = first (none-then p cs c k e)
 word-then p (given before a after x k) c e =
     subst (ReadyWord p) (sym (again before (a ∷ after) (c ∷ [])))
     (given before a (after ++ (c ∷ [])) x
-    (none-then (run p before) (a ∷ after) c k
+    (none-then (stepAll p before) (a ∷ after) c k
     (ap (λ (g : Plain). both (isWithdraw c) (isTaken (step g c .answer))) (sym (run-on p before (a ∷ after))) ∙ e)))
 
-word-all : (p : Plain) (done cs : List Call) → (run p done .nmt .«app_ready» ≡ true → ReadyWord p done) → run p (done ++ cs) .nmt .«app_ready» ≡ true → ReadyWord p (done ++ cs)
+word-all : (p : Plain) (done cs : List Call) → (stepAll p done .nmt .«app_ready» ≡ true → ReadyWord p done) → stepAll p (done ++ cs) .nmt .«app_ready» ≡ true → ReadyWord p (done ++ cs)
 unfolding NoneWithdrawn
-word-all p done [] k = subst (λ (l : List Call). run p l .nmt .«app_ready» ≡ true → ReadyWord p l) (sym (at-end done)) k
+word-all p done [] k = subst (λ (l : List Call). stepAll p l .nmt .«app_ready» ≡ true → ReadyWord p l) (sym (at-end done)) k
 word-all p done (c ∷ cs) k =
-    subst (λ (l : List Call). run p l .nmt .«app_ready» ≡ true → ReadyWord p l) (again done (c ∷ []) cs) (word-all p (done ++ (c ∷ [])) cs next)
+    subst (λ (l : List Call). stepAll p l .nmt .«app_ready» ≡ true → ReadyWord p l) (again done (c ∷ []) cs) (word-all p (done ++ (c ∷ [])) cs next)
   where
-    next : run p (done ++ (c ∷ [])) .nmt .«app_ready» ≡ true → ReadyWord p (done ++ (c ∷ []))
-    next h = by (word-came (run p done) c (moves (run p done) c) g)
+    next : stepAll p (done ++ (c ∷ [])) .nmt .«app_ready» ≡ true → ReadyWord p (done ++ (c ∷ []))
+    next h = by (word-came (stepAll p done) c (moves (stepAll p done) c) g)
       where
-        g : step (run p done) c .head .nmt .«app_ready» ≡ true
+        g : step (stepAll p done) c .head .nmt .«app_ready» ≡ true
         g = sym (ap (λ (q : Plain). q .nmt .«app_ready») (run-then p done c)) ∙ h
 
-        by : (run p done .nmt .«app_ready» ≡ true) ⊎ Wording (run p done) c → ReadyWord p (done ++ (c ∷ []))
-        by (inl x) = word-then p (k x) c (not-withdrawn (run p done) c g)
-        by (inr x) = given done c [] x (not-withdrawn (run p done) c g, tt)
+        by : (stepAll p done .nmt .«app_ready» ≡ true) ⊎ Wording (stepAll p done) c → ReadyWord p (done ++ (c ∷ []))
+        by (inl x) = word-then p (k x) c (not-withdrawn (stepAll p done) c g)
+        by (inr x) = given done c [] x (not-withdrawn (stepAll p done) c g, tt)
 
-pub word-before : (s : Start) (cs : List Call) → run (fresh s) cs .nmt .«app_ready» ≡ true → ReadyWord (fresh s) cs
+pub word-before : (s : Start) (cs : List Call) → stepAll (fresh s) cs .nmt .«app_ready» ≡ true → ReadyWord (fresh s) cs
 unfolding NoneWithdrawn
 word-before s cs h = word-all (fresh s) [] cs (λ g. first tt) h

@@ -14,9 +14,9 @@ use Rattle.nmt.specs.Nmt.{enter, rowOf, applied, resetBy, processed}
 use Rattle.dll.specs.Dll as Dll
 use Rattle.counters.specs.Counters.{replaced, afterError, handled}
 use Rattle.counters.specs.Counters as Counters
-use Rattle.counters.specs.Marks.{E, N, errorMarks}
+use Rattle.counters.specs.Marks.{E, N, crosses, errorMarks}
 use Rattle.counters.specs.declared.counters.CounterKind.the-variants.{LossOfSoc, HeartbeatTimeout}
-use Rattle.entries.specs.Entry.{crossing}
+use Rattle.entries.specs.Entry.{crossingEntry}
 use Rattle.entries.specs.Ring.{nth}
 use Rattle.entries.specs.declared.status_response.ErrorEntry.{ErrorEntry}
 use Rattle.head.specs.declared.state.ObjectValue.the-variants.{Unsigned32}
@@ -24,9 +24,9 @@ use Rattle.watched.specs.Watched.{wellFormed, watchedNode}
 use Rattle.node.specs.Plain.{Plain, Call, nmtEvent, dllEvent, withdraw, handOut, arm, tick, Start}
 use Rattle.node.specs.Steps.{fresh, armed}
 use Rattle.node.specs.Tick.{beat, beatAll, queued, deal, dealAll, socCheck, tickTaken}
-use Rattle.node.specs.Run.{run}
+use Rattle.node.specs.Run.{stepAll}
 use Rattle.trace.specs.Tally.{Told, told, Tally, tally}
-use Rattle.trace.specs.Claim.{counted}
+use Rattle.trace.specs.Claim.{tallied}
 
 -- SwReset, and two SoCs: in PreOperational2
 abbrev booted : List Call → List Call
@@ -35,32 +35,32 @@ booted cs = nmtEvent 5 ∷ nmtEvent 13 ∷ nmtEvent 13 ∷ cs
 module _ (s : Start) where
   -- where the head is, and what it was told
   state : List Call → NmtState
-  state cs = run (fresh s) (booted cs) .nmt .«current_state»
+  state cs = stepAll (fresh s) (booted cs) .nmt .«current_state»
 
   heardOf : List Call → Told
-  heardOf cs = counted s (booted cs) .told
+  heardOf cs = tallied s (booted cs) .told
 
   -- withdrawn, an enable: stays; the ready word: ReadyToOperate
   enabled-stays : (state (withdraw ∷ nmtEvent 3 ∷ []) ≡ NmtPreOperational2) × (heardOf (withdraw ∷ nmtEvent 3 ∷ []) ≡ told true false)
-  unfolding state heardOf run tally fresh readEvent processed resetBy applied enter rowOf isReset statesEntered
+  unfolding state heardOf stepAll tally fresh readEvent processed resetBy applied enter rowOf isReset statesEntered
   enabled-stays = (refl, refl)
 
   then-ready :
       (state (withdraw ∷ nmtEvent 3 ∷ nmtEvent 15 ∷ []) ≡ NmtReadyToOperate)
       × (heardOf (withdraw ∷ nmtEvent 3 ∷ nmtEvent 15 ∷ []) ≡ told true true)
-  unfolding state heardOf run tally fresh readEvent processed resetBy applied enter rowOf isReset statesEntered
+  unfolding state heardOf stepAll tally fresh readEvent processed resetBy applied enter rowOf isReset statesEntered
   then-ready = (refl, refl)
 
   -- an enable, a reset and the way back: the old visit's enable counts no more
   reset-forgets :
       (state (withdraw ∷ nmtEvent 3 ∷ booted (nmtEvent 15 ∷ [])) ≡ NmtPreOperational2)
       × (heardOf (withdraw ∷ nmtEvent 3 ∷ booted (nmtEvent 15 ∷ [])) ≡ told false true)
-  unfolding state heardOf run tally fresh readEvent processed resetBy applied enter rowOf isReset statesEntered
+  unfolding state heardOf stepAll tally fresh readEvent processed resetBy applied enter rowOf isReset statesEntered
   reset-forgets = (refl, refl)
 
   -- a ready word in PreOperational1 does not count
-  unheeded : counted s (nmtEvent 5 ∷ nmtEvent 13 ∷ withdraw ∷ nmtEvent 15 ∷ []) .told ≡ told false false
-  unfolding run tally fresh readEvent processed resetBy applied enter rowOf isReset statesEntered
+  unheeded : tallied s (nmtEvent 5 ∷ nmtEvent 13 ∷ withdraw ∷ nmtEvent 15 ∷ []) .told ≡ told false false
+  unfolding stepAll tally fresh readEvent processed resetBy applied enter rowOf isReset statesEntered
   unheeded = refl
 
 -- a start with a queue of n places, counter 3 at c, cycle 1000 and tolerance 100,000 ns
@@ -91,13 +91,13 @@ twoLosses cs =
     (nmtEvent 3 ∷ nmtEvent 0 ∷ dllEvent 0 false ∷ dllEvent 3 false ∷ arm 10000 ∷ tick 11101 [] ∷ tick 12100 [] ∷ cs)
 
 after : ℕ → ℕ → List Call → Plain
-after n c cs = run (fresh (begun n c)) (twoLosses cs)
+after n c cs = stepAll (fresh (begun n c)) (twoLosses cs)
 
 countedOf : ℕ → ℕ → List Call → Tally
-countedOf n c cs = counted (begun n c) (twoLosses cs)
+countedOf n c cs = tallied (begun n c) (twoLosses cs)
 
 abbrev lossAt : ErrorEntry
-lossAt = crossing error.LossOfSoc 12100
+lossAt = crossingEntry error.LossOfSoc 12100
 
 -- in a queue of 1 its entry waits
 waits :
@@ -107,12 +107,12 @@ waits :
     × (countedOf 1 0 [] .dropped ≡ [])
     × (E LossOfSoc (countedOf 1 0 [] .marks) ≡ 2)
     × (N LossOfSoc (countedOf 1 0 [] .marks) ≡ 1)
-unfolding after countedOf run tally fresh readEvent readCsEvent processed resetBy applied enter rowOf isReset statesEntered Dll.processed armed wellFormed tickTaken beatAll socCheck dealAll deal queued handled Counters.counted afterError replaced errorMarks
+unfolding after countedOf stepAll tally fresh readEvent readCsEvent processed resetBy applied enter rowOf isReset statesEntered Dll.csProcessed armed wellFormed tickTaken beatAll socCheck dealAll deal queued handled Counters.countedError afterError replaced errorMarks crosses
 waits = (refl, refl, refl, refl, refl, refl)
 
 -- and is handed out
 handed-out : (after 1 0 (handOut ∷ []) .queue ≡ []) × (countedOf 1 0 (handOut ∷ []) .handed ≡ lossAt ∷ [])
-unfolding after countedOf run tally fresh readEvent readCsEvent processed resetBy applied enter rowOf isReset statesEntered Dll.processed armed wellFormed tickTaken beatAll socCheck dealAll deal queued handled Counters.counted afterError replaced errorMarks nth
+unfolding after countedOf stepAll tally fresh readEvent readCsEvent processed resetBy applied enter rowOf isReset statesEntered Dll.csProcessed armed wellFormed tickTaken beatAll socCheck dealAll deal queued handled Counters.countedError afterError replaced errorMarks crosses nth
 handed-out = (refl, refl)
 
 -- with a queue of 0 it is dropped: counter 3 is 1, and from its top it goes to 0
@@ -121,7 +121,7 @@ dropped-full :
     × (countedOf 0 0 [] .dropped ≡ lossAt ∷ [])
     × (after 0 0 [] .od .«counter_3» ≡ 1)
     × (after 0 4294967295 [] .od .«counter_3» ≡ 0)
-unfolding after countedOf run tally fresh readEvent readCsEvent processed resetBy applied enter rowOf isReset statesEntered Dll.processed armed wellFormed tickTaken beatAll socCheck dealAll deal queued handled Counters.counted afterError replaced errorMarks
+unfolding after countedOf stepAll tally fresh readEvent readCsEvent processed resetBy applied enter rowOf isReset statesEntered Dll.csProcessed armed wellFormed tickTaken beatAll socCheck dealAll deal queued handled Counters.countedError afterError replaced errorMarks crosses
 dropped-full = (refl, refl, refl, refl)
 
 -- a node with timeout 50, heard at 100, is late at two ticks: a crossing of its kind, without an entry
@@ -130,9 +130,9 @@ lateTwice =
     let ws = watchedNode 5 50 100 ∷ [] in booted (nmtEvent 3 ∷ nmtEvent 0 ∷ tick 151 ws ∷ tick 251 ws ∷ [])
 
 beats :
-    (run (fresh (begun 1 0)) lateTwice .nmt .«current_state» ≡ NmtPreOperational1)
-    × (counted (begun 1 0) lateTwice .crossings ≡ [])
-    × (E HeartbeatTimeout (counted (begun 1 0) lateTwice .marks) ≡ 2)
-    × (N HeartbeatTimeout (counted (begun 1 0) lateTwice .marks) ≡ 1)
-unfolding run tally fresh readEvent processed resetBy applied enter rowOf isReset statesEntered wellFormed tickTaken beatAll beat handled Counters.counted afterError replaced errorMarks
+    (stepAll (fresh (begun 1 0)) lateTwice .nmt .«current_state» ≡ NmtPreOperational1)
+    × (tallied (begun 1 0) lateTwice .crossings ≡ [])
+    × (E HeartbeatTimeout (tallied (begun 1 0) lateTwice .marks) ≡ 2)
+    × (N HeartbeatTimeout (tallied (begun 1 0) lateTwice .marks) ≡ 1)
+unfolding stepAll tally fresh readEvent processed resetBy applied enter rowOf isReset statesEntered wellFormed tickTaken beatAll beat handled Counters.countedError afterError replaced errorMarks
 beats = (refl, refl, refl, refl)

@@ -7,14 +7,14 @@ use mathlib.Core.List.{List, [], _∷_, _++_}
 use lib.ListN.{length}
 use Rattle.types.specs.declared.nmt.states.NmtState.the-variants.{NmtPreOperational2, NmtReadyToOperate}
 use Rattle.counters.specs.Counters.{counter, top}
-use Rattle.counters.specs.Marks.{Mark, level, E, N, D}
+use Rattle.counters.specs.Marks.{Mark, level, isCrossing, countOf, E, N, D}
 use Rattle.counters.specs.declared.counters.CounterKind.{CounterKind}
 use Rattle.entries.specs.declared.status_response.ErrorEntry.{ErrorEntry}
 use Rattle.entries.specs.declared.status_response.FoundEntry.the-variants.{None}
 use Rattle.head.specs.Head.{Head}
 use Rattle.node.specs.Plain.{Plain, Call, handOut, Start, handOutAnswer}
 use Rattle.node.specs.Steps.{fresh}
-use Rattle.node.specs.Run.{step, run, Said, said}
+use Rattle.node.specs.Run.{step, stepAll, Said, saidAll}
 use Rattle.node.specs.Refines.{plain}
 use Rattle.trace.specs.Tally.{Tally, handedBy, droppedBy, nothing, tally}
 use Rattle.trace.specs.Visits.{Enabled, ReadyWord}
@@ -58,39 +58,41 @@ pub record Balance (k : CounterKind) (ms : List Mark) (L : ℕ) : Type 0 where
   pub high : 8 * E k ms ≤ 22 * N k ms + L + D k ms
 
 -- what is counted of the calls cs after a start s
-abbrev pub counted : Start → List Call → Tally
-counted s cs = tally (fresh s) cs nothing
+abbrev pub tallied : Start → List Call → Tally
+tallied s cs = tally (fresh s) cs nothing
 
 -- THE CLAIM, of a start s, the calls cs after it, what they said, and the head h with its queue's bytes q and its history's
 -- bytes m after them
 pub record Claim (s : Start) (cs : List Call) (says : List Said) (h : Head) (q m : List ℕ) : Type 0 where
   -- "After it, all answers, fields and lent memory are those of document 01's plain head, compared as said there."
-  pub alike : plain h q m ≡ run (fresh s) cs
-  pub answered : says ≡ said (fresh s) cs
+  pub alike : plain h q m ≡ stepAll (fresh s) cs
+  pub answered : says ≡ saidAll (fresh s) cs
   -- "At ReadyToOperate, an enable or StartNode came during the PreOperational2 visit just before,"
   pub asked : h .nmt .«current_state» ≡ NmtReadyToOperate → Enabled (fresh s) cs
   -- and in PreOperational2 the head is enabled exactly where one came in this visit
-  pub enabled : h .nmt .«current_state» ≡ NmtPreOperational2 → h .nmt .«ready_to_operate_enabled» ≡ counted s cs .told .asked
+  pub enabled : h .nmt .«current_state» ≡ NmtPreOperational2 → h .nmt .«ready_to_operate_enabled» ≡ tallied s cs .told .asked
   -- "and the application's last counted word is ready."
   pub word : h .nmt .«current_state» ≡ NmtReadyToOperate → ReadyWord (fresh s) cs
   -- that word is the one that the head keeps, in every state
-  pub heeded : h .nmt .«app_ready» ≡ counted s cs .told .word
+  pub heeded : h .nmt .«app_ready» ≡ tallied s cs .told .word
   -- "For each kind with a threshold, with E errors counted, N crossings of the threshold, D cycles drained and level L:
   -- 15N + L + D ≤ 8E ≤ 22N + L + D."
-  pub balance : (k : CounterKind) → Balance k (counted s cs .marks) (level k (h .errors))
+  pub balance : (k : CounterKind) → Balance k (tallied s cs .marks) (level k (h .errors))
   -- N is the cumulative count, which stops at the 32-bit top
   pub crossed :
       (k : CounterKind) →
       counter k (h .errors) .«cumulative_cnt» < top →
-      counter k (h .errors) .«cumulative_cnt» ≡ N k (counted s cs .marks)
+      counter k (h .errors) .«cumulative_cnt» ≡ N k (tallied s cs .marks)
   -- "Crossings at a tick's SoC check = entries handed out + waiting + dropped, each crossing and nothing else once, the kept
   -- ones in order;"
-  pub entries : Merge (counted s cs .crossings) (counted s cs .handed ++ plain h q m .queue) (counted s cs .dropped)
+  -- a crossing is one that reached the threshold: as many as the N of the errors dealt with at the SoC check
+  pub crossings : length (tallied s cs .crossings) ≡ countOf isCrossing (tallied s cs .checked)
+  pub entries : Merge (tallied s cs .crossings) (tallied s cs .handed ++ plain h q m .queue) (tallied s cs .dropped)
   -- "one is dropped exactly when the queue is full, and "none" handed out exactly when it is empty."
   pub each : Each (fresh s) cs
   -- "The number dropped is counter 3's rise since the start, while that counter has not reached its top and was not loaded
   -- after the start." Past the top it goes on from 0.
   pub lost :
-      counted s cs .loaded ≡ false →
-      s .od .«counter_3» + length (counted s cs .dropped) ≤ top →
-      h .od .«counter_3» ≡ s .od .«counter_3» + length (counted s cs .dropped)
+      tallied s cs .loaded ≡ false →
+      s .od .«counter_3» + length (tallied s cs .dropped) ≤ top →
+      h .od .«counter_3» ≡ s .od .«counter_3» + length (tallied s cs .dropped)

@@ -2,3 +2,4 @@ pub mod Tally
 pub mod Visits
 pub mod Claim
 pub mod Driven
+pub mod Declined

@@ -7,12 +7,10 @@ use lib.Dec.{leb}
 use lib.ListN.{length}
 use Rattle.types.specs.Pick.{pick, both, either}
 use Rattle.types.specs.States.{sameState}
-use Rattle.types.specs.Events.{sameEvent, readEvent}
+use Rattle.types.specs.Events.{sameEvent}
 use Rattle.types.specs.declared.nmt.states.NmtState.the-variants.{NmtPreOperational2}
 use Rattle.types.specs.declared.nmt.events.NmtEvent.{NmtEvent}
-use Rattle.types.specs.declared.nmt.events.NmtEvent.the-variants.{StartNode, EnableReadyToOperate, CnConfigurationComplete, Error}
-use Rattle.types.specs.declared.nmt.events.NmtEventRead.{NmtEventRead}
-use Rattle.types.specs.declared.nmt.events.NmtEventRead.the-variants as event
+use Rattle.types.specs.declared.nmt.events.NmtEvent.the-variants.{StartNode, EnableReadyToOperate, CnConfigurationComplete}
 use Rattle.nmt.specs.declared.cn_state_machine.CnNmtStateMachine.{CnNmtStateMachine}
 use Rattle.counters.specs.Marks.{Mark}
 use Rattle.entries.specs.declared.status_response.ErrorEntry.{ErrorEntry}
@@ -20,7 +18,7 @@ use Rattle.entries.specs.declared.status_response.FoundEntry.{FoundEntry}
 use Rattle.entries.specs.declared.status_response.FoundEntry.the-variants.{Entry, None}
 use Rattle.node.specs.declared.load.CounterUpdate.{CounterUpdate}
 use Rattle.node.specs.declared.load.CounterUpdate.the-variants.{Set, Keep}
-use Rattle.node.specs.Plain.{Plain, Call, nmtEvent, dllEvent, error, cycleComplete, withdraw, heard, handOut, load, arm, tick, Answer, refused, taken, nmtAnswer, dllAnswer, errorAnswer, cycleAnswer, handOutAnswer, tickAnswer, Step}
+use Rattle.node.specs.Plain.{Plain, Call, nmtEvent, dllEvent, error, cycleComplete, withdraw, heard, handOut, load, arm, tick, Answer, refused, taken, nmtAnswer, dllAnswer, errorAnswer, cycleAnswer, handOutAnswer, tickAnswer, EventMade, made, noEvent, Step}
 use Rattle.node.specs.Run.{step}
 
 -- What the node was told: an enable or StartNode came in the last visit to PreOperational2; the application's last counted
@@ -52,10 +50,10 @@ wordBy m e word = either word (both (inPreOperational2 m) (sameEvent e CnConfigu
 abbrev pub toldBy : CnNmtStateMachine → NmtEvent → CnNmtStateMachine → Told → Told
 toldBy m e m′ w = told (askedBy m e m′ (w .asked)) (wordBy m e (w .word))
 
--- an event whose number names none tells nothing
-abbrev pub toldRead : CnNmtStateMachine → NmtEventRead → CnNmtStateMachine → Told → Told
-toldRead m (event.Taken e) m′ w = toldBy m e m′ w
-toldRead m (event.Refused r) m′ w = w
+-- the event that a call made, or none, which tells nothing
+abbrev pub toldMade : CnNmtStateMachine → EventMade → CnNmtStateMachine → Told → Told
+toldMade m (made e) m′ w = toldBy m e m′ w
+toldMade m noEvent m′ w = w
 
 -- "a withdrawal counts when accepted"
 abbrev pub toldWithdrawn : Answer → Told → Told
@@ -68,14 +66,9 @@ toldWithdrawn (cycleAnswer b) w = w
 toldWithdrawn (handOutAnswer f) w = w
 toldWithdrawn (tickAnswer es) w = w
 
--- A tick's event is Error, or Timeout at NotActive. Neither asks nor is a ready word, so either tells what Error does: what
--- the machines before and after it show. A tick without an event leaves the machine, and tells nothing.
-abbrev pub toldInTick : CnNmtStateMachine → CnNmtStateMachine → Told → Told
-toldInTick m m′ w = toldBy m Error m′ w
-
 -- by the call
 abbrev pub toldAt : Plain → Call → Step → Told → Told
-toldAt p (nmtEvent n) t w = toldRead (p .nmt) (readEvent n) (t .head .nmt) w
+toldAt p (nmtEvent n) t w = toldMade (p .nmt) (t .event) (t .head .nmt) w
 toldAt p (dllEvent n x) t w = w
 toldAt p (error k a b) t w = w
 toldAt p cycleComplete t w = w
@@ -84,7 +77,7 @@ toldAt p (heard n s ws) t w = w
 toldAt p handOut t w = w
 toldAt p (load v h) t w = w
 toldAt p (arm s) t w = w
-toldAt p (tick s ws) t w = toldInTick (p .nmt) (t .head .nmt) w
+toldAt p (tick s ws) t w = toldMade (p .nmt) (t .event) (t .head .nmt) w
 
 -- the entry that an answer hands out
 abbrev pub found : FoundEntry → List ErrorEntry
@@ -125,11 +118,13 @@ loadsCounter3 (load v h) = isSet (v .«counter_3»)
 loadsCounter3 (arm t) = false
 loadsCounter3 (tick t ws) = false
 
--- What is counted: what the node was told; the counters' marks, from which E, N and D are counted; the entries of the
--- SoC-check crossings, those handed out and those dropped, each in order; and whether counter 3 was loaded.
+-- What is counted: what the node was told; the counters' marks, from which E, N and D are counted, and those of them that the
+-- errors of the SoC check left; the entries of the crossings there, those handed out and those dropped, each in order; and
+-- whether counter 3 was loaded.
 pub record Tally : Type 0 where
   pub told : Told
   pub marks : List Mark
+  pub checked : List Mark
   pub crossings : List ErrorEntry
   pub handed : List ErrorEntry
   pub dropped : List ErrorEntry
@@ -138,7 +133,7 @@ pub record Tally : Type 0 where
 -- at the start: "A fresh head's word is ready."
 abbrev pub nothing : Tally
 nothing =
-    record { told = told false true; marks = []; crossings = []; handed = []; dropped = []; loaded = false }
+    record { told = told false true; marks = []; checked = []; crossings = []; handed = []; dropped = []; loaded = false }
 
 -- a call on the head p, of which t came
 abbrev pub noted : Plain → Call → Step → Tally → Tally
@@ -146,6 +141,7 @@ noted p c t z =
     record {
       told = toldAt p c t (z .told);
       marks = z .marks ++ t .marks;
+      checked = z .checked ++ t .checked;
       crossings = z .crossings ++ t .crossings;
       handed = z .handed ++ handedBy (t .answer);
       dropped = z .dropped ++ droppedBy p (t .crossings);

@@ -12,16 +12,16 @@ use Rattle.types.specs.declared.nmt.events.NmtEvent.{NmtEvent}
 use Rattle.types.specs.declared.nmt.events.NmtEvent.the-variants.{CnConfigurationComplete}
 use Rattle.types.specs.declared.nmt.events.NmtEventRead.the-variants.{Taken}
 use Rattle.node.specs.Plain.{Plain, Call, nmtEvent, dllEvent, error, cycleComplete, withdraw, heard, handOut, load, arm, tick, Answer, refused, taken, nmtAnswer, dllAnswer, errorAnswer, cycleAnswer, handOutAnswer, tickAnswer}
-use Rattle.node.specs.Run.{step, run}
+use Rattle.node.specs.Run.{step, stepAll}
 use Rattle.trace.specs.Tally.{asks}
 
-abbrev pub stateOf : Plain → NmtState
-stateOf p = p .nmt .«current_state»
+abbrev pub nmtState : Plain → NmtState
+nmtState p = p .nmt .«current_state»
 
 -- from the head p on, after each of the calls the NMT state is s
 unfoldable pub Stays : NmtState → Plain → List Call → Type 0
 Stays s p [] = Unit {0}
-Stays s p (c ∷ cs) = (stateOf (step p c .head) ≡ s) × Stays s (step p c .head) cs
+Stays s p (c ∷ cs) = (nmtState (step p c .head) ≡ s) × Stays s (step p c .head) cs
 
 -- an NMT event by its number, taken in PreOperational2, which passes a test
 pub record InVisit (test : NmtEvent → Type 0) (p : Plain) (c : Call) : Type 0 where
@@ -30,7 +30,7 @@ pub record InVisit (test : NmtEvent → Type 0) (p : Plain) (c : Call) : Type 0 
   pub call : c ≡ nmtEvent number
   pub read : readEvent number ≡ Taken event
   pub passes : test event
-  pub visit : stateOf p ≡ NmtPreOperational2
+  pub visit : nmtState p ≡ NmtPreOperational2
 
 -- "an enable or StartNode came"
 abbrev pub Asking : Plain → Call → Type 0
@@ -39,17 +39,17 @@ Asking p c = InVisit (λ (e : NmtEvent). asks e ≡ true) p c
 -- In PreOperational2: some calls, then an enable or StartNode, and from there on the head stays there.
 pub data Asked (p : Plain) : List Call → Type 0 where
   visiting :
-      (before : List Call) (c : Call) (visit : List Call) → Asking (run p before) c → Stays NmtPreOperational2 (run p before) (c ∷ visit) →
+      (before : List Call) (c : Call) (visit : List Call) → Asking (stepAll p before) c → Stays NmtPreOperational2 (stepAll p before) (c ∷ visit) →
       Asked p (before ++ (c ∷ visit))
 
 -- "At ReadyToOperate, an enable or StartNode came during the PreOperational2 visit just before": it entered ReadyToOperate itself, or the head stayed in
 -- PreOperational2 until another call entered ReadyToOperate; from there on the head stays there.
 pub data Enabled (p : Plain) : List Call → Type 0 where
   at-once :
-      (before : List Call) (c : Call) (after : List Call) → Asking (run p before) c → Stays NmtReadyToOperate (run p before) (c ∷ after) →
+      (before : List Call) (c : Call) (after : List Call) → Asking (stepAll p before) c → Stays NmtReadyToOperate (stepAll p before) (c ∷ after) →
       Enabled p (before ++ (c ∷ after))
   later :
-      {visited : List Call} → Asked p visited → (c : Call) (after : List Call) → Stays NmtReadyToOperate (run p visited) (c ∷ after) →
+      {visited : List Call} → Asked p visited → (c : Call) (after : List Call) → Stays NmtReadyToOperate (stepAll p visited) (c ∷ after) →
       Enabled p (visited ++ (c ∷ after))
 
 -- "a withdrawal counts when accepted"
@@ -85,5 +85,5 @@ NoneWithdrawn p (c ∷ cs) = (both (isWithdraw c) (isTaken (step p c .answer)) �
 pub data ReadyWord (p : Plain) : List Call → Type 0 where
   first : {cs : List Call} → NoneWithdrawn p cs → ReadyWord p cs
   given :
-      (before : List Call) (c : Call) (after : List Call) → InVisit (λ (e : NmtEvent). e ≡ CnConfigurationComplete) (run p before) c →
-      NoneWithdrawn (run p before) (c ∷ after) → ReadyWord p (before ++ (c ∷ after))
+      (before : List Call) (c : Call) (after : List Call) → InVisit (λ (e : NmtEvent). e ≡ CnConfigurationComplete) (stepAll p before) c →
+      NoneWithdrawn (stepAll p before) (c ∷ after) → ReadyWord p (before ++ (c ∷ after))

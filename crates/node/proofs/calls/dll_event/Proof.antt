@@ -27,7 +27,7 @@ dll-event-spec =
     let a = t .before .before .before .args in
     dll-yes (now (a .head)) (t .before .whole .ensures) _ (a .event) (a .expect-preq) _ (p .process-event .result)
     (sym (t .try-from .ensures) ∙ e .event .given .1)
-    (p .process-event .ensures ∙ (λ i. Dll.processed (d .dll-of .ensures i .state) (e .event .given .0 .0) (p .before .state-at .ensures i) (a .expect-preq)))
+    (p .process-event .ensures ∙ (λ i. Dll.csProcessed (d .dll-of .ensures i .state) (e .event .given .0 .0) (p .before .state-at .ensures i) (a .expect-preq)))
     (c .set-dll .ensures))
     (λ c. search needs)
     (λ c.

@@ -28,5 +28,5 @@ soc-timeout-spec =
     let v8 = v6 .before .before in
     let v11 = v8 .before .before in
     loses-in (now (v11 .args .head)) (v8 .whole .ensures) (v3 .process-event .result)
-    (v3 .process-event .ensures ∙ ap₂ (λ (m : DllCsStateMachine) (s : NmtState). Dll.processed (m .state) SocTimeout s true) (v6 .dll-of .ensures) (v4 .state-at .ensures))
+    (v3 .process-event .ensures ∙ ap₂ (λ (m : DllCsStateMachine) (s : NmtState). Dll.csProcessed (m .state) SocTimeout s true) (v6 .dll-of .ensures) (v4 .state-at .ensures))
     _ (c .set-dll .ensures)))

@@ -9,7 +9,7 @@ use mathlib.Core.Bool.{true}
 use Rattle.types.specs.Errors.{reported}
 use Rattle.watched.specs.Watched.{allOf}
 use Rattle.heartbeats.specs.Parts.{isQuiet}
-use Rattle.tick.proofs.TickLaws.{two-over, none-left}
+use Rattle.tick.proofs.TickLaws.{two-over, none-left, quiet-from}
 use Rattle.tick.proofs.Dealings.{WalkingIn, walk-begins, walk-over, walk-stops, walk-goes-on}
 use Rattle.tick.proofs.soc.deal_all.Statement.{statement}
 use Rattle.tick.proofs.soc.deal_all.Tie as tie
@@ -31,7 +31,11 @@ deal-all-spec =
     (λ c κs. search needs)
     (λ c. search needs)
     (λ c. search needs)
-    (λ c κs. search needs)
+    (λ c κs.
+    let v4 = c .before .before .before .before in
+    let v6 = v4 .before .before in
+    let v8 = v6 .before .before in
+    quiet-from (reported (v8 .before .args .errors)) _ (v8 .walk .i) (v8 .walk .inv .1) (sym (v6 .error-at .ensures) ∙ v4 .found .given .1))
     (λ c. search needs)
     (λ c. search needs)
     (λ c.

@@ -5,7 +5,7 @@ use borrow.Author.Needs.{needs}
 use mathlib.Core.Path.{ap, ap₂, _∙_}
 use mathlib.Core.List.{List}
 use Prim.Native.Nat.{ℕ}
-use Rattle.entries.specs.Entry.{crossing}
+use Rattle.entries.specs.Entry.{crossingEntry}
 use Rattle.entries.specs.Queue.{pushed, pushedBytes}
 use Rattle.entries.specs.History.{joined, joinedBytes}
 use Rattle.entries.proofs.Entries.{crossing-fits}
@@ -42,7 +42,7 @@ queue-entry-spec =
     let v20 = v17 .before .before .before in
     let v23 = v20 .before .before .before in
     let v26 = v23 .before .before in
-    enters (now (v26 .args .head)) (v23 .whole .ensures) (now (v26 .args .queue)) (now (v26 .args .history)) _ (crossing (v26 .args .error) (v26 .args .time)) (v12 .push-back .result)
+    enters (now (v26 .args .head)) (v23 .whole .ensures) (now (v26 .args .queue)) (now (v26 .args .history)) _ (crossingEntry (v26 .args .error) (v26 .args .time)) (v12 .push-back .result)
     (v12 .push-back .ensures .0 ∙ ap pushed (v14 .queue-of .ensures))
     (v12 .push-back .ensures .1 ∙ ap₂ (pushedBytes (now (v26 .args .queue))) (v14 .queue-of .ensures) (v16 .of-crossing .ensures)) (v20 .long .ensures) (v17 .long2 .ensures) (crossing-fits (v26 .args .error) (v26 .args .time)) (v11 .if1 .taken)
     (v7 .write-error-to-history .result) _ (
@@ -60,6 +60,6 @@ queue-entry-spec =
     let v11 = v7 .before .before .before .before in
     let v14 = v11 .before .before .before in
     let v17 = v14 .before .before in
-    drops (now (v17 .args .head)) (v14 .whole .ensures) (now (v17 .args .queue)) (now (v17 .args .history)) _ (crossing (v17 .args .error) (v17 .args .time)) (v3 .push-back .result)
+    drops (now (v17 .args .head)) (v14 .whole .ensures) (now (v17 .args .queue)) (now (v17 .args .history)) _ (crossingEntry (v17 .args .error) (v17 .args .time)) (v3 .push-back .result)
     (v3 .push-back .ensures .0 ∙ ap pushed (v5 .queue-of .ensures))
     (v3 .push-back .ensures .1 ∙ ap₂ (pushedBytes (now (v17 .args .queue))) (v5 .queue-of .ensures) (v7 .of-crossing .ensures)) (v11 .long .ensures) (v2 .if1 .left) _ (c .increment-counter2 .ensures)))

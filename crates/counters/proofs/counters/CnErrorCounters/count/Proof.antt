@@ -5,7 +5,7 @@ use mathlib.Core.Path.{_≡_, ap, _∙_}
 use mathlib.Core.Bool.{true, false}
 use borrow.Author.Needs.{needs}
 use Rattle.types.specs.declared.frame.error.types.DllError.{DllError}
-use Rattle.counters.specs.Counters.{counter, replaced, incremented, checked, crossing, unsignalled, afterError, counted}
+use Rattle.counters.specs.Counters.{counter, replaced, incremented, checked, crossedAnswer, unsignalled, afterError, countedError}
 use Rattle.counters.specs.declared.counters.ThresholdCheck.{ThresholdCheck}
 use Rattle.counters.specs.declared.counters.CounterKind.{CounterKind}
 use Rattle.counters.specs.declared.counters.CnErrorCounters.{CnErrorCounters}
@@ -14,12 +14,12 @@ use Rattle.counters.proofs.counters.CnErrorCounters.count.Tie as tie
 
 -- r is the kind's counter after the error, and s′ the counters with it
 module _ (k : CounterKind) (s s′ : CnErrorCounters) (e : DllError) (r : ThresholdCheck) (given : r ≡ afterError (counter k s)) (next : s′ ≡ replaced k (r .counter) s) where
-  crosses : r .reached ≡ true → crossing s′ e ≡ counted k s e
-  unfolding counted
+  crosses : r .reached ≡ true → crossedAnswer s′ e ≡ countedError k s e
+  unfolding countedError
   crosses h = rw (next, ← given, h)
 
-  stays : r .reached ≡ false → unsignalled s′ ≡ counted k s e
-  unfolding counted
+  stays : r .reached ≡ false → unsignalled s′ ≡ countedError k s e
+  unfolding countedError
   stays h = rw (next, ← given, h)
 
 after-error :

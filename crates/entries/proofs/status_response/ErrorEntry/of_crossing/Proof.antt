@@ -1,12 +1,12 @@
 -- `entries::status_response::ErrorEntry::of_crossing` meets its contract.
 -- Assumes nothing.
 use borrow.Author.Needs.{needs}
-use Rattle.entries.specs.Entry.{crossing}
+use Rattle.entries.specs.Entry.{crossingEntry}
 use Rattle.entries.proofs.status_response.ErrorEntry.of_crossing.Statement.{statement}
 use Rattle.entries.proofs.status_response.ErrorEntry.of_crossing.Tie as tie
 
 pub of-crossing-spec : {M : Type 1} → statement M
-unfolding crossing
+unfolding crossingEntry
 of-crossing-spec =
     tie.close
     (tie.spec

@@ -1,0 +1,56 @@
+-- Demand 1, of one call: "Whoever drives a head, with whatever numbers and times, gets an answer or one of the numbered refusals, and a refused call changes no
+-- field of the head and no lent byte."
+-- Assumes nothing.
+use Prim.Native.Nat.{ℕ}
+use mathlib.Core.Path.{_≡_}
+use mathlib.Core.Bool.{Bool, true}
+use mathlib.Core.List.{List, [], _∷_}
+use lib.Dec.{eqb}
+use Rattle.head.specs.Words.{headOf}
+use Rattle.watched.specs.declared.nodes.WatchedNode.{WatchedNode}
+use Rattle.watched.specs.Watched.{someOf}
+use Rattle.node.specs.Plain.{Call, nmtEvent, dllEvent, error, cycleComplete, withdraw, heard, handOut, load, arm, tick, refused}
+use Rattle.node.specs.Run.{step, Said}
+use Rattle.node.specs.Refines.{plain}
+
+-- the numbers that document 01 gives each call
+abbrev pub refusalsOf : Call → List ℕ
+refusalsOf (nmtEvent n) = 4 ∷ []
+refusalsOf (dllEvent n x) = 4 ∷ []
+refusalsOf (error k a b) = 4 ∷ 1 ∷ []
+refusalsOf cycleComplete = []
+refusalsOf withdraw = 8 ∷ []
+refusalsOf (heard n t ws) = 3 ∷ 5 ∷ 7 ∷ []
+refusalsOf handOut = []
+refusalsOf (load v h) = []
+refusalsOf (arm t) = 5 ∷ []
+refusalsOf (tick t ws) = 3 ∷ 5 ∷ 6 ∷ []
+
+abbrev pub isAmong : ℕ → List ℕ → Bool
+isAmong n ns = someOf (eqb n) ns
+
+-- the watched nodes that a call is lent
+abbrev pub lentTo : Call → List WatchedNode
+lentTo (nmtEvent n) = []
+lentTo (dllEvent n x) = []
+lentTo (error k a b) = []
+lentTo cycleComplete = []
+lentTo withdraw = []
+lentTo (heard n t ws) = ws
+lentTo handOut = []
+lentTo (load v h) = []
+lentTo (arm t) = []
+lentTo (tick t ws) = ws
+
+-- Of a call c on the words ws, the memory q and m and the words of nodes ns, which was declined with the number n, said s, and left ws′, q′, m′ and ns′.
+pub record Declined (ws q m ns : List ℕ) (c : Call) (n : ℕ) (s : Said) (ws′ q′ m′ ns′ : List ℕ) : Type 0 where
+  -- one of the numbers that the call has
+  pub number : isAmong n (refusalsOf c) ≡ true
+  -- the plain head's: by `step`, the first that applies
+  pub first : step (plain (headOf ws) q m) c .answer ≡ refused n
+  -- no word of the head, no lent byte, no watched node
+  pub words : ws′ ≡ ws
+  pub queue : q′ ≡ q
+  pub history : m′ ≡ m
+  pub nodes : ns′ ≡ ns
+  pub lent : s .lent ≡ lentTo c
