@@ -3,7 +3,7 @@ use crate::print::Buffer;
 use crate::print::flush;
 use libc::STDIN_FILENO;
 
-// The longest line; the longest call, a load of everything, has some 12,500 characters.
+// The longest line; the longest call, a load of everything, has 12,420 characters.
 pub type LineBuffer = [u8; 16384];
 
 // What was read last.

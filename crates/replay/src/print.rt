@@ -1,6 +1,8 @@
 // What is printed gathers in a buffer, which is written when it is full and whenever the program waits for more of the
 // script.
+ghost use mathlib.Core.Path.{_≡_};
 ghost use Prim.Native.Nat.{_+_, _≤_, _<_};
+ghost use Rattle.replay.specs.Forms.{placeOf, numberIn, opens};
 use answers::NOTHING;
 use bytes::scan::find;
 use libc::STDOUT_FILENO;
@@ -9,7 +11,9 @@ use libc::STDOUT_FILENO;
 // bytes, the low one first.
 pub type Buffer = [u8; 65538];
 
-fn place_of(low: u8, high: u8) -> u16 {
+fn place_of(low: u8, high: u8) -> u16
+    ensures { λ r. ⌜ r ≡ placeOf low high ⌝ }
+{
     low as u16 + 256 * (high as u16)
 }
 
@@ -80,7 +84,7 @@ fn numbers_in(mark: u8) -> usize
 // How many groups hide what follows, after one more is opened.
 fn opened(hidden: usize, hides: bool) -> usize
     requires { ⌜ hidden < 18446744073709551615 ⌝ }
-    ensures { λ r. ⌜ r ≤ hidden + 1 ⌝ }
+    ensures { λ r. ⌜ (r ≡ opens hidden hides) × (r ≤ hidden + 1) ⌝ }
 {
     if 0 < hidden {
         return hidden + 1;
@@ -110,7 +114,9 @@ fn hiding(hidden: usize, mark: u8, n: u64) -> usize
 }
 
 // The number at a place; behind the last it is 0.
-fn number_at(numbers: &[u64], place: usize) -> u64 {
+fn number_at(numbers: &[u64], place: usize) -> u64
+    ensures { λ r. ⌜ r ≡ numberIn (now (numbers .entry)) place ⌝ }
+{
     if place < numbers.len() {
         return numbers[place];
     }

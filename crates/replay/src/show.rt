@@ -1,5 +1,7 @@
 // The forms of a head and of the lent run.
-ghost use Prim.Native.Nat.{_+_, _*_, _≤_};
+ghost use mathlib.Core.Path.{_≡_};
+ghost use Prim.Native.Nat.{_+_, _*_, _≤_, min};
+ghost use Rattle.replay.specs.Values.{deadlineNumber, objectNumber};
 ghost use lib.ListN.{length};
 use crate::print::Buffer;
 use crate::print::say;
@@ -39,7 +41,9 @@ fn show_machines(out: &mut Buffer, head: &Head) {
     )
 }
 
-fn wide(n: u32) -> u64 {
+fn wide(n: u32) -> u64
+    ensures { λ r. ⌜ r ≡ n ⌝ }
+{
     n as u64
 }
 
@@ -75,7 +79,9 @@ fn show_counters(out: &mut Buffer, head: &Head) {
     )
 }
 
-fn deadline_number(deadline: Deadline) -> u64 {
+fn deadline_number(deadline: Deadline) -> u64
+    ensures { λ r. ⌜ r ≡ deadlineNumber deadline ⌝ }
+{
     match deadline {
         Deadline::At(time) => time,
         Deadline::Nothing => NOTHING,
@@ -97,7 +103,9 @@ fn show_soc(out: &mut Buffer, head: &Head) {
     )
 }
 
-fn object_number(value: ObjectValue) -> u64 {
+fn object_number(value: ObjectValue) -> u64
+    ensures { λ r. ⌜ r ≡ objectNumber value ⌝ }
+{
     match value {
         ObjectValue::Unsigned32(n) => n as u64,
         ObjectValue::Missing => NOTHING,
@@ -165,7 +173,7 @@ fn show_records(out: &mut Buffer, words: &[u64], count: usize)
 
 // The smaller number.
 fn least(a: usize, b: usize) -> usize
-    ensures { λ r. ⌜ (r ≤ a) × (r ≤ b) ⌝ }
+    ensures { λ r. ⌜ r ≡ min a b ⌝ }
 {
     if a < b { a } else { b }
 }

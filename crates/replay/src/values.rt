@@ -1,5 +1,7 @@
 // The numbers of a line as the values that its call takes.
+ghost use mathlib.Core.Path.{_≡_};
 ghost use Prim.Native.Nat.{_≤_};
+ghost use Rattle.replay.specs.Values.{at, byteOf, wordOf, objectOf, dictionaryOf, byteUpdate, counterUpdate, objectUpdate, updatesOf};
 use crate::load::KEPT;
 use crate::words::Given;
 use answers::NOTHING;
@@ -12,21 +14,28 @@ use node::load::ObjectUpdate;
 
 pub(crate) fn number(given: Given, place: usize) -> u64
     requires { ⌜ place ≤ 10 ⌝ }
+    ensures { λ r. ⌜ r ≡ at given place ⌝ }
 {
     given[place]
 }
 
 // A number that was read as one of 8 bits.
-pub(crate) fn byte(n: u64) -> u8 {
+pub(crate) fn byte(n: u64) -> u8
+    ensures { λ r. ⌜ r ≡ byteOf n ⌝ }
+{
     (n % 256) as u8
 }
 
 // A number that was read as one of 32 bits.
-pub(crate) fn word(n: u64) -> u32 {
+pub(crate) fn word(n: u64) -> u32
+    ensures { λ r. ⌜ r ≡ wordOf n ⌝ }
+{
     (n % 4294967296) as u32
 }
 
-fn object(n: u64) -> ObjectValue {
+fn object(n: u64) -> ObjectValue
+    ensures { λ r. ⌜ r ≡ objectOf n ⌝ }
+{
     if n == NOTHING {
         return ObjectValue::Missing;
     }
@@ -34,7 +43,9 @@ fn object(n: u64) -> ObjectValue {
 }
 
 // The dictionary values of a start.
-pub(crate) fn dictionary(given: Given) -> Dictionary {
+pub(crate) fn dictionary(given: Given) -> Dictionary
+    ensures { λ r. ⌜ r ≡ dictionaryOf given ⌝ }
+{
     let cycle_time = object(number(given, 5));
     let tolerance = object(number(given, 6));
     Dictionary {
@@ -48,21 +59,27 @@ pub(crate) fn dictionary(given: Given) -> Dictionary {
     }
 }
 
-fn byte_update(n: u64) -> ByteUpdate {
+fn byte_update(n: u64) -> ByteUpdate
+    ensures { λ r. ⌜ r ≡ byteUpdate n ⌝ }
+{
     if n == KEPT {
         return ByteUpdate::Keep;
     }
     ByteUpdate::Set(byte(n))
 }
 
-fn counter_update(n: u64) -> CounterUpdate {
+fn counter_update(n: u64) -> CounterUpdate
+    ensures { λ r. ⌜ r ≡ counterUpdate n ⌝ }
+{
     if n == KEPT {
         return CounterUpdate::Keep;
     }
     CounterUpdate::Set(word(n))
 }
 
-fn object_update(n: u64) -> ObjectUpdate {
+fn object_update(n: u64) -> ObjectUpdate
+    ensures { λ r. ⌜ r ≡ objectUpdate n ⌝ }
+{
     if n == KEPT {
         return ObjectUpdate::Keep;
     }
@@ -70,7 +87,9 @@ fn object_update(n: u64) -> ObjectUpdate {
 }
 
 // What a load names.
-pub(crate) fn updates(given: Given) -> DictionaryUpdate {
+pub(crate) fn updates(given: Given) -> DictionaryUpdate
+    ensures { λ r. ⌜ r ≡ updatesOf given ⌝ }
+{
     let error_register = byte_update(number(given, 0));
     let cycle_time = object_update(number(given, 1));
     let tolerance = object_update(number(given, 2));

@@ -1,6 +1,8 @@
 // Matching a line with a pattern. In a pattern a capital letter stands for a number by its width, and any other character for
 // itself. The place behind what was matched is UNREADABLE where it does not match, and so is every place from there on.
+ghost use mathlib.Core.Path.{_≡_};
 ghost use Prim.Native.Nat.{_≤_, _<_};
+ghost use Rattle.replay.specs.Words.{digitOf, radix, grown, digitsAt, isHex, numberAt, numbersIn};
 ghost use lib.ListN.{length};
 use answers::NOTHING;
 
@@ -18,7 +20,7 @@ struct Number {
 
 // The value of a hexadecimal digit of either case; 16 of any other character.
 pub(crate) fn digit_of(c: u8) -> u8
-    ensures { λ r. ⌜ r ≤ 16 ⌝ }
+    ensures { λ r. ⌜ (r ≡ digitOf c) × (r ≤ 16) ⌝ }
 {
     match c {
         b'0'..=b'9' => c - b'0',
@@ -31,6 +33,7 @@ pub(crate) fn digit_of(c: u8) -> u8
 // A number with a digit behind it, which ends at a place, where it fits 64 bits.
 fn grown(n: u64, digit: u8, base: u8, end: usize) -> Number
     requires { ⌜ digit ≤ 15 ⌝ }
+    ensures { λ r. ⌜ r ≡ grown n digit (radix base) end ⌝ }
 {
     let d = digit as u64;
     if base == 16 {
@@ -48,6 +51,7 @@ fn grown(n: u64, digit: u8, base: u8, end: usize) -> Number
 // The number whose digits stand from a place on, up to another character; there has to be one.
 fn digits(line: &[u8], from: usize, base: u8) -> Number
     requires { ⌜ base ≤ 16 ⌝ }
+    ensures { λ r. ⌜ r ≡ digitsAt (now (line .entry)) from base ⌝ }
 {
     let mut number = Number {
         n: 0,
@@ -66,17 +70,28 @@ fn digits(line: &[u8], from: usize, base: u8) -> Number
     number
 }
 
+// Whether 0x stands at a place.
+fn is_hex(line: &[u8], at: usize) -> bool
+    requires { ⌜ at < length (now line) ⌝ }
+    ensures { λ r. ⌜ r ≡ isHex (now (line .entry)) at ⌝ }
+{
+    let next = at + 1;
+    if line.len() <= next {
+        return false;
+    }
+    if line[next] != b'x' {
+        return false;
+    }
+    line[at] == b'0'
+}
+
 // The number at a place: hexadecimal behind 0x, or decimal.
 fn number_at(line: &[u8], at: usize) -> Number
     requires { ⌜ at < length (now line) ⌝ }
+    ensures { λ r. ⌜ r ≡ numberAt (now (line .entry)) at ⌝ }
 {
-    let next = at + 1;
-    if next < line.len() {
-        if line[next] == b'x' {
-            if line[at] == b'0' {
-                return digits(line, next + 1, 16);
-            }
-        }
+    if is_hex(line, at) {
+        return digits(line, at + 2, 16);
     }
     digits(line, at, 10)
 }
@@ -124,7 +139,7 @@ fn read_number(line: &[u8], at: usize, width: u8, given: &mut Given, place: usiz
 
 // How many numbers a character of a pattern stands for.
 fn numbers_in(c: u8) -> usize
-    ensures { λ r. ⌜ r ≤ 1 ⌝ }
+    ensures { λ r. ⌜ (r ≡ numbersIn c) × (r ≤ 1) ⌝ }
 {
     match c {
         b'A'..=b'Z' => 1,

@@ -1,0 +1,82 @@
+-- The numbers of a line as the values that its call takes, and the values of a head as numbers.
+-- Assumes nothing.
+use Prim.Native.Nat.{ℕ, _%_}
+use mathlib.Core.List.{List}
+use lib.Dec.{eqb}
+use lib.ListN.{getD}
+use Rattle.types.specs.Pick.{pick}
+use Rattle.head.specs.declared.state.Deadline.{Deadline}
+use Rattle.head.specs.declared.state.Deadline.the-variants as deadline
+use Rattle.head.specs.declared.state.Dictionary.{Dictionary}
+use Rattle.head.specs.declared.state.ObjectValue.{ObjectValue}
+use Rattle.head.specs.declared.state.ObjectValue.the-variants.{Unsigned32, Missing}
+use Rattle.node.specs.declared.load.ByteUpdate.{ByteUpdate}
+use Rattle.node.specs.declared.load.ByteUpdate.the-variants as byte
+use Rattle.node.specs.declared.load.CounterUpdate.{CounterUpdate}
+use Rattle.node.specs.declared.load.CounterUpdate.the-variants as counter
+use Rattle.node.specs.declared.load.ObjectUpdate.{ObjectUpdate}
+use Rattle.node.specs.declared.load.ObjectUpdate.the-variants as object
+use Rattle.node.specs.declared.load.DictionaryUpdate.{DictionaryUpdate}
+use Rattle.answers.specs.Numbers.{nothing}
+
+-- the number at a place of a line
+abbrev pub at : List ℕ → ℕ → ℕ
+at ns i = getD ns i 0
+
+abbrev pub byteOf : ℕ → ℕ
+byteOf n = n % 256
+
+abbrev pub wordOf : ℕ → ℕ
+wordOf n = n % 4294967296
+
+-- `-` is a missing value
+abbrev pub objectOf : ℕ → ObjectValue
+objectOf n = pick (eqb n nothing) Missing (Unsigned32 (wordOf n))
+
+-- the values of a start, from the fifth number on
+abbrev pub dictionaryOf : List ℕ → Dictionary
+dictionaryOf ns =
+    record {
+      «error_register» = byteOf (at ns 4);
+      «cycle_time» = objectOf (at ns 5);
+      tolerance = objectOf (at ns 6);
+      «counter_1» = wordOf (at ns 7);
+      «counter_2» = wordOf (at ns 8);
+      «counter_3» = wordOf (at ns 9);
+      «counter_5» = wordOf (at ns 10);
+    }
+
+-- what stands for a value that a load does not name
+abbrev pub kept : ℕ
+kept = 8589934592
+
+abbrev pub byteUpdate : ℕ → ByteUpdate
+byteUpdate n = pick (eqb n kept) byte.Keep (byte.Set (byteOf n))
+
+abbrev pub counterUpdate : ℕ → CounterUpdate
+counterUpdate n = pick (eqb n kept) counter.Keep (counter.Set (wordOf n))
+
+abbrev pub objectUpdate : ℕ → ObjectUpdate
+objectUpdate n = pick (eqb n kept) object.Keep (object.Set (objectOf n))
+
+-- the values of a load, from the first number on
+abbrev pub updatesOf : List ℕ → DictionaryUpdate
+updatesOf ns =
+    record {
+      «error_register» = byteUpdate (at ns 0);
+      «cycle_time» = objectUpdate (at ns 1);
+      tolerance = objectUpdate (at ns 2);
+      «counter_1» = counterUpdate (at ns 3);
+      «counter_2» = counterUpdate (at ns 4);
+      «counter_3» = counterUpdate (at ns 5);
+      «counter_5» = counterUpdate (at ns 6);
+    }
+
+-- a deadline and a value as they are shown
+abbrev pub deadlineNumber : Deadline → ℕ
+deadlineNumber (deadline.At t) = t
+deadlineNumber deadline.Nothing = nothing
+
+abbrev pub objectNumber : ObjectValue → ℕ
+objectNumber (Unsigned32 n) = n
+objectNumber Missing = nothing
