@@ -22,6 +22,8 @@ test:
 	@sh tests/documents.sh
 	@echo "Checking that the laws which a script writes are what it writes."
 	@python3 scripts/lent_laws.py --check
+	@echo "Checking that the page of NMT transitions is the output that its program is held to."
+	@cmp docs/TRANSITIONS.md crates/chart/stdout
 	@echo "Checking the script that replay is run on."
 	@compare/joined.sh --check
 	@echo "Proving every crate, trying the must-fail edits, running the programs (about 22 minutes on two cores)."

@@ -9,7 +9,7 @@ use Rattle.types.specs.declared.nmt.events.NmtEvent.the-variants.{SwReset, Time
 use Rattle.types.specs.declared.nmt.states.NmtState.{NmtState}
 use Rattle.types.specs.declared.nmt.states.NmtState.the-variants.{NmtGsInitialising, NmtGsResetApplication, NmtGsResetCommunication, NmtGsResetConfiguration, NmtNotActive, NmtBasicEthernet, NmtPreOperational2, NmtReadyToOperate}
 use Rattle.nmt.specs.Resets.{isReset, statesEntered, resetSequence, range}
-use Rattle.nmt.specs.Nmt.{Outcome, rowOf, enter, plain, applied, resetBy, processed}
+use Rattle.nmt.specs.Nmt.{Outcome, rowOf, enter, withoutReset, applied, resetBy, processed}
 use Rattle.nmt.specs.declared.cn_state_machine.CnNmtStateMachine.{CnNmtStateMachine}
 
 pub record Example : Type 0 where
@@ -46,13 +46,13 @@ examples =
     -- fresh, SwReset: five states entered, NotActive
     record { before = at NmtGsInitialising false true; event = SwReset; after = wholeReset } ∷
     -- NotActive, Timeout: 0x1E
-    record { before = at NmtNotActive false true; event = Timeout; after = plain (at NmtBasicEthernet false true) [] } ∷
+    record { before = at NmtNotActive false true; event = Timeout; after = withoutReset (at NmtBasicEthernet false true) [] } ∷
     -- PreOperational2, withdrawn, EnableReadyToOperate: stays, enabled
-    record { before = at NmtPreOperational2 false false; event = EnableReadyToOperate; after = plain (at NmtPreOperational2 true false) [] } ∷
+    record { before = at NmtPreOperational2 false false; event = EnableReadyToOperate; after = withoutReset (at NmtPreOperational2 true false) [] } ∷
     -- then the ready word: 0x6D
-    record { before = at NmtPreOperational2 true false; event = CnConfigurationComplete; after = plain (at NmtReadyToOperate true true) [] } ∷
+    record { before = at NmtPreOperational2 true false; event = CnConfigurationComplete; after = withoutReset (at NmtReadyToOperate true true) [] } ∷
     -- ReadyToOperate, EnterPreOperational2: stays, error (0x6D, 2)
-    record { before = at NmtReadyToOperate true true; event = EnterPreOperational2; after = plain (at NmtReadyToOperate true true) (UnexpectedEventInState 0x6D 2 ∷ []) } ∷
+    record { before = at NmtReadyToOperate true true; event = EnterPreOperational2; after = withoutReset (at NmtReadyToOperate true true) (UnexpectedEventInState 0x6D 2 ∷ []) } ∷
     []
 
 pub examples-hold :

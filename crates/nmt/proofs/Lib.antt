@@ -1,3 +1,4 @@
 pub mod Laws
+pub mod Chosen
 pub mod Fixed
 pub mod Examples

@@ -1,2 +1,3 @@
 pub mod Resets
 pub mod Nmt
+pub mod Table

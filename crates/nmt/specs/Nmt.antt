@@ -1,5 +1,5 @@
--- What an NMT event does to a controlled node's machine: the pairs of state and event that have a row, as in DS 301's chart of the controlled
--- node's states (transitions NMT_CT1 to NMT_CT12), and what each row's move means.
+-- What an NMT event does to a controlled node's machine: the pairs of state and event that have a row, as document 01 and the Rust's match have them
+-- (NMT_CT2 to NMT_CT12 are DS 301's names, by the Rust's comments), and what each row's move means.
 -- Assumes nothing.
 use Prim.Native.Nat.{ℕ}
 use mathlib.Core.List.{List, [], _∷_, _++_}
@@ -18,9 +18,20 @@ use Rattle.types.specs.declared.nmt.states.NmtState.{NmtState}
 use Rattle.types.specs.declared.nmt.states.NmtState.the-variants.{NmtGsInitialising, NmtNotActive, NmtPreOperational1, NmtPreOperational2, NmtReadyToOperate, NmtOperational, NmtCsStopped, NmtBasicEthernet}
 use Rattle.nmt.specs.Resets.{Passed, isReset, statesEntered, resetSequence, passed}
 use Rattle.nmt.specs.declared.cn_state_machine.CnNmtStateMachine.{CnNmtStateMachine}
-use Rattle.nmt.specs.declared.cn_state_machine.Move.{Move}
-use Rattle.nmt.specs.declared.cn_state_machine.Move.the-variants.{Goes, Stays, Enables, Readies, Unexpected}
 use Rattle.nmt.specs.declared.cn_state_machine.NmtAnswer.{NmtAnswer}
+
+-- what a pair of state and event asks for
+pub data Move : Type 0 where
+  -- enter the state
+  Goes : NmtState → Move
+  -- keep the state, without an error
+  Stays : Move
+  -- set enabled; a ready machine enters the state
+  Enables : NmtState → Move
+  -- set ready; an enabled machine enters ReadyToOperate
+  Readies : Move
+  -- no row: keep the state and report the pair
+  Unexpected : Move
 
 pub record Row : Type 0 where
   pub state : NmtState
@@ -81,9 +92,9 @@ look (r ∷ rs) s e = pick (both (sameState s (r .state)) (sameEvent e (r .event
 unfoldable pub rowOf : NmtState → NmtEvent → Move
 rowOf s e = look (bootUpRows ++ cyclicRows) s e
 
--- a fresh machine is at GsInitialising, not enabled, ready
-abbrev pub fresh : NodeId → FeatureFlags → ℕ → CnNmtStateMachine
-fresh n f t =
+-- a new machine is at GsInitialising, not enabled, ready
+abbrev pub newMachine : NodeId → FeatureFlags → ℕ → CnNmtStateMachine
+newMachine n f t =
     record {
       «current_state» = NmtGsInitialising;
       «node_id» = n;
@@ -132,15 +143,15 @@ abbrev pub outcome : NmtAnswer → Outcome
 outcome a = record { machine = a .machine; errors = reported (a .errors); reset = passed (a .reset) }
 
 -- an event that is no reset enters no state on the way and restores nothing
-abbrev pub plain : CnNmtStateMachine → List DllError → Outcome
-plain m es = record { machine = m; errors = es; reset = record { states = []; ranges = [] } }
+abbrev pub withoutReset : CnNmtStateMachine → List DllError → Outcome
+withoutReset m es = record { machine = m; errors = es; reset = record { states = []; ranges = [] } }
 
 unfoldable pub applied : CnNmtStateMachine → NmtEvent → Move → Outcome
-applied m e (Goes s) = plain (enter m s) []
-applied m e Stays = plain m []
-applied m e (Enables s) = plain (pick (m .«app_ready») (enter (enabled m) s) (enabled m)) []
-applied m e Readies = plain (pick (m .«ready_to_operate_enabled») (enter (ready m) NmtReadyToOperate) (ready m)) []
-applied m e Unexpected = plain m (UnexpectedEventInState (stateNumber (m .«current_state»)) (eventNumber e) ∷ [])
+applied m e (Goes s) = withoutReset (enter m s) []
+applied m e Stays = withoutReset m []
+applied m e (Enables s) = withoutReset (pick (m .«app_ready») (enter (enabled m) s) (enabled m)) []
+applied m e Readies = withoutReset (pick (m .«ready_to_operate_enabled») (enter (ready m) NmtReadyToOperate) (ready m)) []
+applied m e Unexpected = withoutReset m (UnexpectedEventInState (stateNumber (m .«current_state»)) (eventNumber e) ∷ [])
 
 -- a reset enters its states one after the other, without errors; ready is not touched
 unfoldable pub resetBy : CnNmtStateMachine → NmtEvent → Outcome

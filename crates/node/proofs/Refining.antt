@@ -25,8 +25,7 @@ use Rattle.types.specs.declared.frame.error.types.DllErrorRead.the-variants as 
 use Rattle.nmt.specs.Resets.{passed, statesEntered, isReset}
 use Rattle.nmt.specs.Nmt as Nmt
 use Rattle.nmt.specs.declared.cn_state_machine.CnNmtStateMachine.{CnNmtStateMachine}
-use Rattle.nmt.specs.declared.cn_state_machine.Move.{Move}
-use Rattle.nmt.specs.declared.cn_state_machine.Move.the-variants.{Goes, Stays, Enables, Readies, Unexpected}
+use Rattle.nmt.specs.Nmt.{Move, Goes, Stays, Enables, Readies, Unexpected}
 use Rattle.nmt.specs.declared.cn_state_machine.NmtAnswer.{NmtAnswer}
 use Rattle.dll.specs.Dll as Dll
 use Rattle.dll.specs.declared.cs_state_machine.DllAnswer.{DllAnswer}

@@ -97,7 +97,7 @@ declines p l n = answers p (refused n) l
 -- empty history."
 unfoldable pub fresh : Start → Plain
 fresh s =
-    plainOf (Nmt.fresh (node (s .node)) (flags (s .flags)) (s .timeout)) NonCyclic newCounters
+    plainOf (Nmt.newMachine (node (s .node)) (flags (s .flags)) (s .timeout)) NonCyclic newCounters
     (socWatch 0 false Nothing false) (s .od) (s .capacity) [] []
 
 -- numbers 1, 2 and 3

@@ -48,7 +48,7 @@ module _ (ws : List ℕ) (vs : List WatchedNode) (n : ℕ) (f : FeatureFlags) (t
   s = startOf n f t c o vs
 
   abbrev freshWith : NodeId → Plain
-  freshWith x = plainOf (Nmt.fresh x f t) NonCyclic newCounters (socWatch 0 false Nothing false) o c [] []
+  freshWith x = plainOf (Nmt.newMachine x f t) NonCyclic newCounters (socWatch 0 false Nothing false) o c [] []
 
   abbrev no : Refusal → FirstStep
   no r = record { begun = declined (refusalNumber r); lent = vs }

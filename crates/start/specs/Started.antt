@@ -50,7 +50,7 @@ FreshPlaces (answer.Refused r) h c = Unit
 abbrev pub freshHead : NodeId → FeatureFlags → ℕ → ℕ → Dictionary → Head
 freshHead n f t c o =
     record {
-      nmt = Nmt.fresh n f t;
+      nmt = Nmt.newMachine n f t;
       dll = freshMachine;
       errors = newCounters;
       soc = socWatch 0 false Nothing false;
@@ -67,7 +67,7 @@ pub record Begins (s : Start) (a : CallAnswer) (h : Head) (l : List WatchedNode)
 -- all 52 words, from the arguments alone: those that no part names are 0
 unfoldable pub freshWords : NodeId → FeatureFlags → ℕ → ℕ → Dictionary → List ℕ
 freshWords n f t c o =
-    set (odWritten (thresholdsWritten (identityWritten (nmtWritten (replicate 52 0) (Nmt.fresh n f t)) (Nmt.fresh n f t)) newCounters) o)
+    set (odWritten (thresholdsWritten (identityWritten (nmtWritten (replicate 52 0) (Nmt.newMachine n f t)) (Nmt.newMachine n f t)) newCounters) o)
     at.capacity c
 
 -- the last-heard words of the first so many nodes are 0
