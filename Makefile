@@ -1,4 +1,6 @@
 # make run      drives a node by a short call script and prints what each call answers
+# make incident plays the order of calls that put the original at ReadyToOperate with an old ready word through our node and, where cargo
+#               and the Rust source are at hand, through the original, and shows where they part
 # make test     every check; the last line is 'N passed, 0 failed'
 # make compare  builds the original Rust and compares it with the stored outputs, and our node with it at ten million generated
 #               calls, some minutes (needs cargo and the Rust source; 'make compare SEEDS="1 2" CALLS=200000' makes fewer);
@@ -7,13 +9,18 @@
 
 SHELL := bash
 .SHELLFLAGS := -euo pipefail -c
-.PHONY: run test compare compare-oracle
+.PHONY: run incident replay test compare compare-oracle
 
-run:
+replay:
 	@mkdir -p target
 	@echo "Proving the node and the program that drives it (some minutes the first time)."
 	@rt check replay 2>&1 | tee target/run.log | grep '^rt: .* proved' || { cat target/run.log; exit 1; }
+
+run: replay
 	@scripts/run.sh scripts/run.txt
+
+incident: replay
+	@scripts/incident.sh
 
 test:
 	@echo "Checking the layout of every .rt and .antt file."

@@ -1,4 +1,5 @@
-//! What a reset does: the states that it enters and the index ranges that it restores.
+//! What a reset does: the states that it enters and the index ranges that it restores; and what
+//! document 02, No. 7 lets it forget, which the original does not.
 //!
 //! States: the original default method `reset` runs on a machine of ours that keeps each state that
 //! `set_state` gets.
@@ -13,6 +14,7 @@
 use powerlink_rs::frame::DllError;
 use powerlink_rs::hal::ObjectDictionaryStorage;
 use powerlink_rs::nmt::NmtStateMachine;
+use powerlink_rs::nmt::cn_state_machine::CnNmtStateMachine;
 use powerlink_rs::nmt::events::NmtEvent;
 use powerlink_rs::nmt::states::NmtState;
 use powerlink_rs::od::constants::IDX_NMT_CURR_NMT_STATE_U8;
@@ -152,4 +154,24 @@ pub fn recorded(state: NmtState, event: NmtEvent) -> (Vec<NmtState>, Vec<Range>)
     };
     let ((), ranges) = with_ranges(|od| recorder.reset(event, od));
     (recorder.entered, ranges)
+}
+
+/// The five events that reset a node.
+pub fn is_reset(event: NmtEvent) -> bool {
+    matches!(
+        event,
+        NmtEvent::Reset
+            | NmtEvent::SwReset
+            | NmtEvent::ResetNode
+            | NmtEvent::ResetCommunication
+            | NmtEvent::ResetConfiguration
+    )
+}
+
+/// Document 02, No. 7, of the NMT machine: a reset event clears the readiness, which the original
+/// leaves. Set by hand behind the event.
+pub fn forget_readiness(machine: &mut CnNmtStateMachine, event: NmtEvent) {
+    if is_reset(event) {
+        machine.app_ready = false;
+    }
 }

@@ -1,5 +1,6 @@
 //! Prints what the original Rust does at every pair of its two state machines, one form a line. Every
-//! answer is computed by calling the original code.
+//! answer is computed by calling the original code, but for the readiness behind a reset, which is
+//! cleared by hand (document 02, No. 7).
 
 mod forms;
 mod reset;
@@ -40,6 +41,7 @@ fn print_nmt_event(state: NmtState, event: NmtEvent, enabled: bool, ready: bool)
     machine.app_ready = ready;
     let before = machine_form("at", &machine);
     let (errors, ranges) = reset::with_ranges(|od| machine.process_event(event, od));
+    reset::forget_readiness(&mut machine, event);
     let after = machine_form("to", &machine);
     // These three have no place in the form: no event changes them.
     assert_eq!(machine.node_id, NODE);

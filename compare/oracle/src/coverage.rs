@@ -97,7 +97,7 @@ const TICK_LOSS: usize = 6;
 const TICK_HEARTBEAT: usize = 7;
 
 /// Cases at a bound, each of which a wrong comparison or a forgotten rule would show.
-const BOUNDS: [&str; 12] = [
+const BOUNDS: [&str; 13] = [
     "tick at the deadline - 1",
     "tick at the very deadline",
     "elapsed at the limit",
@@ -110,7 +110,22 @@ const BOUNDS: [&str; 12] = [
     "node heard its timeout + 1 ago",
     "tick before a last-heard time, not checked",
     "tick at 2^62 - 1 taken",
+    "armed deadline at NotActive passed",
 ];
+
+/// The NMT events at which there may be something to forget: the five resets, and Error, which forgets nothing.
+const FORGETTING: [(usize, &str); 6] = [
+    (4, "Reset"),
+    (5, "SwReset"),
+    (6, "ResetNode"),
+    (7, "ResetCommunication"),
+    (8, "ResetConfiguration"),
+    (11, "Error, which keeps it"),
+];
+const FORGOTTEN: [&str; 4] = ["readiness", "deadline", "SoC check", "DLL state"];
+
+const START_NODE: usize = 0;
+const ENABLE_READY_TO_OPERATE: usize = 3;
 
 /// What a run of 200,000 calls has to reach.
 struct Minima {
@@ -126,6 +141,7 @@ struct Minima {
     wrap: u64,
     history_past: u64,
     bound: u64,
+    forgotten: u64,
     level: u64,
     late: u64,
     cleared: u64,
@@ -147,6 +163,7 @@ const MINIMA: Minima = Minima {
     wrap: 1,
     history_past: 10,
     bound: 20,
+    forgotten: 20,
     level: 20,
     late: 20,
     cleared: 50,
@@ -182,7 +199,12 @@ pub struct Coverage {
     handed_none: u64,
     wraps: [u64; 4],
     history_past: u64,
-    bounds: [u64; 12],
+    bounds: [u64; 13],
+    /// By event of `FORGETTING` and what of `FORGOTTEN` stood before it.
+    to_forget: [[u64; 4]; 6],
+    /// Whether a reset forgot a ready word and neither a word nor a withdrawal came behind it.
+    word_forgotten: bool,
+    asked_without_word: u64,
     one_late: u64,
     several_late: u64,
     first_heard: u64,
@@ -192,6 +214,9 @@ pub struct Coverage {
     shows: u64,
     run_lines: u64,
 }
+
+/// Ready and enabled.
+const FLAGS: [(usize, usize); 4] = [(0, 0), (0, 1), (1, 0), (1, 1)];
 
 fn number(word: Option<&str>) -> Option<u64> {
     let word = word?;
@@ -212,12 +237,14 @@ fn state_place(state: u8) -> usize {
 }
 
 /// Whether a head can stand in the state with these flags: enabled only lasts in PreOperational2 without ready, and
-/// at ReadyToOperate, where ready cannot be withdrawn.
+/// at ReadyToOperate, where ready cannot be withdrawn. NotActive is entered by a reset alone, which forgets the ready
+/// word, and BasicEthernet from there alone.
 fn stands(state: u8, ready: usize, enabled: usize) -> bool {
     match state {
         0x00 | 0x29 | 0x39 | 0x79 => false,
         PRE_OPERATIONAL_2 => ready == 0 || enabled == 0,
         READY_TO_OPERATE => ready == 1 && enabled == 1,
+        NOT_ACTIVE | BASIC_ETHERNET => ready == 0 && enabled == 0,
         _ => enabled == 0,
     }
 }
@@ -284,7 +311,7 @@ impl Coverage {
         answer: &str,
     ) {
         match call {
-            "nmt" => self.count_nmt(words.next(), before),
+            "nmt" => self.count_nmt(words.next(), before, after),
             "dll" => self.count_dll(words.next(), words.next(), before),
             "error" => {
                 if let Some(kind) = place(words.next(), ERROR_KINDS) {
@@ -304,6 +331,7 @@ impl Coverage {
                     self.count_late(now, step.lent, before);
                 }
             }
+            "start" | "withdraw" if !answer.starts_with("(refused") => self.word_forgotten = false,
             "handout" if answer == "(taken none)" => self.handed_none += 1,
             "handout" => self.handed_out += 1,
             "cycle" if answer == "(taken (cleared 1))" => self.cleared += 1,
@@ -311,10 +339,29 @@ impl Coverage {
         }
     }
 
-    fn count_nmt(&mut self, event: Option<&str>, before: &View) {
+    fn count_nmt(&mut self, event: Option<&str>, before: &View, after: &View) {
         if let Some(event) = place(event, NMT_EVENTS) {
             let flags = &mut self.nmt[state_place(before.nmt)][usize::from(before.ready)];
             flags[usize::from(before.enabled)][event] += 1;
+            self.count_forgotten(event, before, after);
+        }
+    }
+
+    fn count_forgotten(&mut self, event: usize, before: &View, after: &View) {
+        let asks = event == START_NODE || event == ENABLE_READY_TO_OPERATE;
+        let asked = asks && before.nmt == PRE_OPERATIONAL_2;
+        self.asked_without_word += u64::from(asked && self.word_forgotten);
+        self.word_forgotten = !after.ready && (before.ready || self.word_forgotten);
+        if let Some(place) = FORGETTING.iter().position(|(number, _)| *number == event) {
+            let stood = [
+                before.ready,
+                before.deadline.is_some(),
+                before.check,
+                before.dll != 0,
+            ];
+            for (count, stood) in self.to_forget[place].iter_mut().zip(stood) {
+                *count += u64::from(stood);
+            }
         }
     }
 
@@ -391,6 +438,7 @@ impl Coverage {
                     .iter()
                     .any(|(_, timeout, heard)| *timeout > 0 && now < *heard),
             now == (1 << 62) - 1,
+            before.check && before.nmt == NOT_ACTIVE && after.nmt == BASIC_ETHERNET,
         ];
         for (bound, met) in self.bounds.iter_mut().zip(met) {
             *bound += u64::from(met);
@@ -475,6 +523,7 @@ impl Coverage {
             ("Calls", self.call_counts()),
             ("Lines that are no call", self.line_counts()),
             ("NMT state after a line", self.state_counts()),
+            ("What a reset found to forget", self.forgotten_counts()),
             ("Refusals", self.refusal_counts()),
             ("Errors given to the counters, by kind", self.error_counts()),
             ("Crossings", self.crossing_counts()),
@@ -516,7 +565,9 @@ impl Coverage {
 
     fn state_counts(&self) -> Vec<Count> {
         let count = |(place, (number, name)): (usize, &(u8, &str))| {
-            let stood = stands(*number, 1, 0) || stands(*number, 1, 1);
+            let stood = FLAGS
+                .iter()
+                .any(|(ready, enabled)| stands(*number, *ready, *enabled));
             let minimum = if stood { MINIMA.state } else { 0 };
             counted(
                 format!("{name} (0x{number:02X})"),
@@ -525,6 +576,25 @@ impl Coverage {
             )
         };
         STATES.iter().enumerate().map(count).collect()
+    }
+
+    fn forgotten_counts(&self) -> Vec<Count> {
+        let mut counts = Vec::new();
+        for ((_, event), found) in FORGETTING.iter().zip(&self.to_forget) {
+            for (what, count) in FORGOTTEN.iter().zip(found) {
+                counts.push(counted(
+                    format!("{what} at {event}"),
+                    *count,
+                    MINIMA.forgotten,
+                ));
+            }
+        }
+        counts.push(counted(
+            "enable or StartNode in PreOperational2, the ready word forgotten",
+            self.asked_without_word,
+            MINIMA.forgotten,
+        ));
+        counts
     }
 
     fn refusal_counts(&self) -> Vec<Count> {
@@ -610,7 +680,7 @@ impl Coverage {
     fn nmt_counts(&self) -> Vec<Count> {
         let mut counts = Vec::new();
         for (place, (number, name)) in STATES.iter().enumerate() {
-            for (ready, enabled) in [(0, 0), (0, 1), (1, 0), (1, 1)] {
+            for (ready, enabled) in FLAGS {
                 if !stands(*number, ready, enabled) {
                     continue;
                 }

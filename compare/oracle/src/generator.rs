@@ -459,7 +459,8 @@ impl Script<'_> {
         Ok(())
     }
 
-    /// To an NMT and a DLL state. The DLL machine comes back to NonCyclic only outside the cyclic states.
+    /// To an NMT and a DLL state. The DLL machine comes back to NonCyclic by a reset, or by an event outside the cyclic
+    /// states.
     fn go_to_dll(&mut self, target: u8, state: u8) -> io::Result<()> {
         let cyclic = self.head.view().is_some_and(|view| view.dll != 0);
         if state == 0 && cyclic {
@@ -506,6 +507,7 @@ impl Script<'_> {
             93 => self.bad_run(),
             94 => self.refused_start(),
             95 => self.withdrawals(),
+            96 | 97 => self.reset_between(),
             _ => self.plain_calls(),
         }
     }
@@ -672,7 +674,8 @@ impl Script<'_> {
         Ok(())
     }
 
-    /// The basic timeout: the deadline is set by one tick and passes at its very time. An older deadline acts likewise.
+    /// The basic timeout: the deadline is set by one tick and passes at its very time. One that is armed at NotActive acts
+    /// likewise; one that was armed before is forgotten.
     fn basic_timeout(&mut self) -> io::Result<()> {
         if self.random.one_in(3) {
             self.start()?;
@@ -682,6 +685,10 @@ impl Script<'_> {
             self.call1("arm", now)?;
         }
         self.go_to(NOT_ACTIVE)?;
+        if self.random.one_in(4) {
+            let now = self.later();
+            self.call1("arm", now)?;
+        }
         for _ in 0..3 {
             let now = self.later();
             let deadline = self
@@ -914,6 +921,43 @@ impl Script<'_> {
         self.nmt(ENABLE_READY_TO_OPERATE)?;
         self.call("withdraw")?;
         self.nmt(CONFIGURATION_COMPLETE)
+    }
+
+    /// A reset of a head that is ready and in the cycle, as between two recipes. Behind it the managing node asks and the
+    /// application gives its word in any order, at times before it counts, at times not at all.
+    fn reset_between(&mut self) -> io::Result<()> {
+        self.go_to(READY_TO_OPERATE)?;
+        let target = self.random.pick(&[
+            PRE_OPERATIONAL_1,
+            PRE_OPERATIONAL_2,
+            READY_TO_OPERATE,
+            OPERATIONAL,
+            CS_STOPPED,
+        ]);
+        self.go_to(target)?;
+        if self.random.one_in(2) {
+            let now = self.later();
+            self.call1("arm", now)?;
+            self.call("dll 0 1")?;
+        }
+        let reset = RESET + self.random.below(5);
+        self.nmt(reset)?;
+        for _ in 0..2 {
+            if self.random.one_in(3) {
+                let time = self.time_near_the_deadline();
+                self.tick(time)?;
+                self.nmt(CONFIGURATION_COMPLETE)?;
+            }
+            self.nmt(SOC_RECEIVED)?;
+        }
+        self.go_to(PRE_OPERATIONAL_2)?;
+        for _ in 0..1 + self.random.below(4) {
+            let event =
+                self.random
+                    .pick(&[START_NODE, ENABLE_READY_TO_OPERATE, CONFIGURATION_COMPLETE]);
+            self.nmt(event)?;
+        }
+        self.give("show")
     }
 
     fn plain_calls(&mut self) -> io::Result<()> {

@@ -9,12 +9,13 @@ use crate::{forms, kinds};
 use powerlink_rs::NodeId;
 use powerlink_rs::common::{NetTime, RelativeTime};
 use powerlink_rs::frame::basic::MacAddress;
+use powerlink_rs::frame::cs_state_machine::DllCsState;
 use powerlink_rs::frame::error::{CnErrorCounters, DllErrorManager, LoggingErrorHandler};
 use powerlink_rs::frame::{DllCsStateMachine, DllError};
 use powerlink_rs::hal::TimeProvider;
 use powerlink_rs::nmt::NmtStateMachine;
 use powerlink_rs::nmt::cn_state_machine::CnNmtStateMachine;
-use powerlink_rs::nmt::events::NmtStateCommand;
+use powerlink_rs::nmt::events::{NmtEvent, NmtStateCommand};
 use powerlink_rs::nmt::flags::FeatureFlags;
 use powerlink_rs::nmt::states::NmtState;
 use powerlink_rs::node::cn::{run_tick, state::CnContext};
@@ -30,6 +31,15 @@ const LONGEST_QUEUE: u64 = 32;
 const LONGEST_RUN: usize = 32;
 const LAST_TIME: u64 = (1 << 62) - 1;
 const TOLERANCE_IF_MISSING: u32 = 100_000;
+
+/// What a reset does beside what the original's does.
+#[derive(Debug, Clone, Copy, PartialEq, Eq)]
+pub enum Resets {
+    /// It forgets, as document 02, No. 7 asks for.
+    Forget,
+    /// Nothing.
+    AsTheOriginal,
+}
 
 /// The context asks for a clock; nothing that is driven here reads it.
 struct NoClock;
@@ -49,10 +59,16 @@ pub struct Head {
     /// The capacity that start gave the queue.
     capacity: usize,
     dictionary: Dictionary,
+    resets: Resets,
 }
 
 impl Head {
-    pub fn start(start: &Start, run: &mut [Watched], defaults: Defaults) -> Result<Self, u8> {
+    pub fn start(
+        start: &Start,
+        run: &mut [Watched],
+        defaults: Defaults,
+        resets: Resets,
+    ) -> Result<Self, u8> {
         let node = try_node(start.node)?;
         if start.queue > LONGEST_QUEUE {
             return Err(2);
@@ -67,6 +83,7 @@ impl Head {
             context: context(node, start, &dictionary, capacity),
             capacity,
             dictionary,
+            resets,
         })
     }
 
@@ -77,11 +94,18 @@ impl Head {
             .context
             .nmt_state_machine
             .process_event(event, &mut self.context.core.od);
+        if self.resets == Resets::Forget {
+            forget(&mut self.context, event);
+        }
         let to = self.context.nmt_state_machine.current_state;
         let (entered, ranges) = reset::recorded(from, event);
         match entered.last() {
-            None => Ok(forms::taken(&[forms::errors(errors)])),
+            None => {
+                assert!(!reset::is_reset(event), "a reset enters states");
+                Ok(forms::taken(&[forms::errors(errors)]))
+            }
             Some(last) => {
+                assert!(reset::is_reset(event), "only a reset enters states");
                 assert_eq!(to, *last, "the machine ends where the recorder does");
                 assert_eq!(errors, None, "a reset reports no errors");
                 Ok(forms::taken(&[
@@ -209,6 +233,24 @@ impl Head {
         let capacity = self.context.emergency_queue.capacity();
         assert_eq!(capacity, self.capacity, "the queue keeps its capacity");
         assert!(kinds::take_logged().is_empty(), "only error and tick log");
+    }
+}
+
+/// Document 02, No. 7: "Every reset event now also clears the readiness, the deadline and the SoC
+/// check, and puts the DLL machine at NonCyclic." The original leaves these four, so they are set by
+/// hand behind an event that its NMT machine was given. Nothing else is touched. The events that a
+/// tick gives by itself, Error and Timeout, are no resets.
+fn forget(context: &mut CnContext, event: NmtEvent) {
+    reset::forget_readiness(&mut context.nmt_state_machine, event);
+    if reset::is_reset(event) {
+        context.next_tick_us = None;
+        context.soc_timeout_check_active = false;
+        // Its state is private; a new machine stands at NonCyclic.
+        context.dll_state_machine = DllCsStateMachine::new();
+        assert_eq!(
+            context.dll_state_machine.current_state(),
+            DllCsState::NonCyclic
+        );
     }
 }
 

@@ -1,11 +1,14 @@
 //! The oracle of the comparison: reads a call script (docs/CALLS.md), drives the original Rust and
-//! prints what the script's calls answer.
+//! prints what the script's calls answer. Behind each reset it sets by hand what document 02, No. 7
+//! lets a reset forget.
 //!
 //!     oracle [replay] < SCRIPT     the answers
+//!     oracle original < SCRIPT     the answers of the original as it is, whose resets forget nothing
 //!     oracle restore < SCRIPT      the script again, with loads of what its resets restored
 //!     oracle panics < SCRIPT       how many ticks number 6 refused; the original panics at each
 //!     oracle generate SEED CALLS   a generated script; its coverage on standard error
 //!     oracle generate SEED CALLS without-ticks   the same of the other calls
+//!     oracle shortest              the shortest ways of the original to ReadyToOperate with an old ready word
 
 mod coverage;
 mod dictionary;
@@ -17,6 +20,7 @@ mod reset;
 mod forms;
 mod generator;
 mod head;
+mod incident;
 mod kinds;
 mod modes;
 mod oracle;
@@ -25,6 +29,7 @@ mod view;
 
 use coverage::Ticks;
 use dictionary::Defaults;
+use head::Resets;
 use oracle::Oracle;
 use std::io::{self, BufWriter, Read, Write};
 use std::process::ExitCode;
@@ -32,20 +37,22 @@ use std::process::ExitCode;
 /// The number of calls that the minima of coverage.rs are made for.
 const LONG: u64 = 200_000;
 
-const USAGE: &str = "usage: oracle [replay | restore | panics] < SCRIPT, or oracle generate SEED CALLS [without-ticks]";
+const USAGE: &str = "usage: oracle [replay | original | restore | panics] < SCRIPT, or oracle generate SEED CALLS [without-ticks], or oracle shortest";
 
 fn main() -> ExitCode {
     let arguments: Vec<String> = std::env::args().skip(1).collect();
     let arguments: Vec<&str> = arguments.iter().map(String::as_str).collect();
     let mut out = BufWriter::new(io::stdout().lock());
     let done = match arguments[..] {
-        [] | ["replay"] => script().and_then(|script| modes::replay(&script, &mut out)),
+        [] | ["replay"] => replay(Resets::Forget, &mut out),
+        ["original"] => replay(Resets::AsTheOriginal, &mut out),
         ["restore"] => script().and_then(|script| modes::restore(&script, &mut out)),
         ["panics"] => script().and_then(|script| modes::panics(&script, &mut out)),
         ["generate", seed, calls] => generate(seed, calls, Ticks::With, &mut out),
         ["generate", seed, calls, "without-ticks"] => {
             generate(seed, calls, Ticks::Without, &mut out)
         }
+        ["shortest"] => incident::shortest(&mut out),
         _ => Err(io::Error::other(USAGE)),
     };
     match done.and_then(|()| out.flush()) {
@@ -63,11 +70,15 @@ fn script() -> io::Result<Vec<u8>> {
     Ok(script)
 }
 
+fn replay(resets: Resets, out: &mut dyn Write) -> io::Result<()> {
+    modes::replay(&script()?, resets, out)
+}
+
 fn generate(seed: &str, calls: &str, ticks: Ticks, out: &mut dyn Write) -> io::Result<()> {
     let (Ok(seed), Ok(calls)) = (seed.parse(), calls.parse()) else {
         return Err(io::Error::other(USAGE));
     };
-    let mut head = Oracle::new(Defaults::Without);
+    let mut head = Oracle::new(Defaults::Without, Resets::Forget);
     let coverage = generator::generate(&mut head, seed, calls, ticks, out)?;
     let mut errors = io::stderr().lock();
     coverage.report(&mut errors)?;

@@ -2,6 +2,7 @@
 
 use crate::dictionary::Defaults;
 use crate::forms;
+use crate::head::Resets;
 use crate::oracle::Oracle;
 use std::io::{self, Write};
 use std::panic;
@@ -13,8 +14,8 @@ fn lines(script: &[u8]) -> impl Iterator<Item = &[u8]> {
 }
 
 /// Prints what each line answers.
-pub fn replay(script: &[u8], out: &mut dyn Write) -> io::Result<()> {
-    let mut oracle = Oracle::new(Defaults::Without);
+pub fn replay(script: &[u8], resets: Resets, out: &mut dyn Write) -> io::Result<()> {
+    let mut oracle = Oracle::new(Defaults::Without, resets);
     for line in lines(script) {
         for printed in oracle.take(line) {
             writeln!(out, "{printed}")?;
@@ -27,8 +28,8 @@ pub fn replay(script: &[u8], out: &mut dyn Write) -> io::Result<()> {
 /// restores kept ones, the printed script loads what the restore made of them. The second oracle has
 /// no default values and is given the printed script: the two are held to each other.
 pub fn restore(script: &[u8], out: &mut dyn Write) -> io::Result<()> {
-    let mut restoring = Oracle::new(Defaults::With);
-    let mut loading = Oracle::new(Defaults::Without);
+    let mut restoring = Oracle::new(Defaults::With, Resets::Forget);
+    let mut loading = Oracle::new(Defaults::Without, Resets::Forget);
     for line in lines(script) {
         let restored = restoring.take(line);
         let loaded = loading.take(line);
@@ -63,7 +64,7 @@ const TOO_EARLY: &str = "attempt to subtract with overflow";
 /// Runs the original tick where number 6 refuses, and asserts that it panics and that nothing of
 /// the head has changed by then; prints how often.
 pub fn panics(script: &[u8], out: &mut dyn Write) -> io::Result<()> {
-    let mut oracle = Oracle::new(Defaults::Without);
+    let mut oracle = Oracle::new(Defaults::Without, Resets::Forget);
     let mut tried = 0;
     for line in lines(script) {
         if oracle.take(line) != [forms::refused(6)] {

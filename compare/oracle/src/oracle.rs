@@ -1,7 +1,7 @@
 //! The oracle: it takes the lines of a script one by one and answers with the lines to print.
 
 use crate::dictionary::{self, Defaults};
-use crate::head::{self, Answer, Head};
+use crate::head::{self, Answer, Head, Resets};
 use crate::script::{self, Call, Line, Watched};
 use crate::view::{Driven, View};
 use crate::{forms, places};
@@ -10,6 +10,7 @@ const MOST_RECORDS: usize = 40;
 
 pub struct Oracle {
     defaults: Defaults,
+    resets: Resets,
     /// The number of the last line.
     line: u64,
     /// The run of watched nodes that is lent.
@@ -19,10 +20,11 @@ pub struct Oracle {
 }
 
 impl Oracle {
-    pub fn new(defaults: Defaults) -> Self {
+    pub fn new(defaults: Defaults, resets: Resets) -> Self {
         places::check_order();
         Self {
             defaults,
+            resets,
             line: 0,
             run: Vec::new(),
             head: None,
@@ -57,7 +59,7 @@ impl Oracle {
 
     fn call(&mut self, call: Call) -> Option<Answer> {
         if let Call::Start(start) = call {
-            let started = Head::start(&start, &mut self.run, self.defaults);
+            let started = Head::start(&start, &mut self.run, self.defaults, self.resets);
             return Some(started.map(|head| {
                 self.head = Some(head);
                 forms::taken(&[])

@@ -20,11 +20,11 @@ use types::nmt::flags::FeatureFlags;
 use types::nmt::states::NmtState;
 use watched::nodes::NodeWords;
 
-// Fresh, SwReset: five states entered, NotActive.
+// Fresh, SwReset: five states entered, NotActive; not ready any more (document 02, No. 7).
 pub fn sw_reset(head: &mut Head, after: &mut Head, nodes: &mut NodeWords) -> bool
     ensures { λ r. ⌜ ((q m : List ℕ) → Shown table.swReset (now (head .exit)) q m [] r) ⌝ }
 {
-    resting(after, NmtState::NmtNotActive, false, true);
+    resting(after, NmtState::NmtNotActive, false, false);
     let od = values(0, 0, 0, 0, 0);
     let started = is_taken(start(head, nodes, 0, 1, FeatureFlags(0), 5, 1, od));
     started & nmt_comes(head, 5, Stated::Nothing, true, after)

@@ -31,10 +31,10 @@ use Rattle.head.specs.declared.state.Object.the-variants.{CycleTime, Tol
 use Rattle.head.specs.declared.state.Statistic.{Statistic}
 use Rattle.head.specs.declared.state.Statistic.the-variants.{Counter1, Counter2, Counter3, Counter5}
 use Rattle.head.specs.declared.state.Deadline.the-variants.{At, Nothing}
-use Rattle.head.specs.Head.{Head, socWatch, withRegister, withObject, withStatistic, with-nmt, with-dll, with-errors, with-soc, with-values, with-od, with-queue}
+use Rattle.head.specs.Head.{forgetting, Head, socWatch, withRegister, withObject, withStatistic, with-nmt, with-dll, with-errors, with-soc, with-values, with-od, with-queue}
 use Rattle.head.specs.Places as at
 use Rattle.head.specs.Words.{word, yes, one, timeOf, stateOf, nmtOf, dllState, counterAt, errorsOf, deadlineOf, headOf}
-use Rattle.head.specs.Written.{nmtWritten, counterWritten, levelsWritten, socWritten, queueWritten, objectWritten, historyWritten}
+use Rattle.head.specs.Written.{forgottenWritten, nmtWritten, counterWritten, levelsWritten, socWritten, queueWritten, objectWritten, historyWritten}
 use Rattle.head.proofs.Whole.{whole}
 
 -- what is read of a word that was written
@@ -194,6 +194,10 @@ module _ (ws : List ℕ) (long : length ws ≡ 52) where
       ∙ (λ i. with-soc (headOf ws) (socWatch (time-back l i) (yes-one on i) (At (time-back t i)) (yes-one changed i)))
   soc-written l on Nothing changed =
       no-deadline-read _ _ _ _ ∙ (λ i. with-soc (headOf ws) (socWatch (time-back l i) (yes-one on i) Nothing (yes-one changed i)))
+
+  pub forgotten-written : headOf (forgottenWritten ws) ≡ forgetting (headOf ws)
+  unfolding headOf
+  forgotten-written = whole (λ (ws : List ℕ). headOf (forgottenWritten ws) ≡ forgetting (headOf ws)) ws long refl
 
   queue-read : (o n : ℕ) → QueueRead o n ws
   unfolding headOf

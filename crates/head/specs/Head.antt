@@ -1,13 +1,15 @@
 -- A head by its parts: what its words stand for.
 -- Assumes nothing.
 use Prim.Native.Nat.{ℕ}
-use mathlib.Core.Bool.{Bool}
+use mathlib.Core.Bool.{Bool, false}
 use Rattle.nmt.specs.declared.cn_state_machine.CnNmtStateMachine.{CnNmtStateMachine}
 use Rattle.dll.specs.declared.cs_state_machine.DllCsStateMachine.{DllCsStateMachine}
+use Rattle.dll.specs.declared.cs_state_machine.DllCsState.the-variants.{NonCyclic}
 use Rattle.counters.specs.declared.counters.CnErrorCounters.{CnErrorCounters}
 use Rattle.entries.specs.declared.emergency_queue.EmergencyQueue.{EmergencyQueue}
 use Rattle.entries.specs.declared.error_history.ErrorHistory.{ErrorHistory}
 use Rattle.head.specs.declared.state.Deadline.{Deadline}
+use Rattle.head.specs.declared.state.Deadline.the-variants.{Nothing}
 use Rattle.head.specs.declared.state.ObjectValue.{ObjectValue}
 use Rattle.head.specs.declared.state.Object.{Object}
 use Rattle.head.specs.declared.state.Object.the-variants.{CycleTime, Tolerance}
@@ -81,6 +83,10 @@ withStatistic Counter5 n o =
 abbrev pub ofParts : CnNmtStateMachine → DllCsStateMachine → CnErrorCounters → SocWatch → Dictionary → EmergencyQueue → ErrorHistory → Head
 ofParts n d e s o q h = record { nmt = n; dll = d; errors = e; soc = s; od = o; queue = q; history = h }
 
+-- what a reset forgets of the watch: the deadline and the check
+abbrev pub forgotten : SocWatch → SocWatch
+forgotten s = socWatch (s .«last_soc_reception_time_us») false Nothing (s .«error_status_changed»)
+
 -- the head with one of its parts replaced
 module _ (h : Head) where
   abbrev pub with-nmt : CnNmtStateMachine → Head
@@ -88,6 +94,10 @@ module _ (h : Head) where
 
   abbrev pub with-dll : DllCsStateMachine → Head
   with-dll d = ofParts (h .nmt) d (h .errors) (h .soc) (h .od) (h .queue) (h .history)
+
+  -- what a reset forgets: the DLL state too
+  abbrev pub forgetting : Head
+  forgetting = ofParts (h .nmt) (record { state = NonCyclic }) (h .errors) (forgotten (h .soc)) (h .od) (h .queue) (h .history)
 
   abbrev pub with-errors : CnErrorCounters → Head
   with-errors e = ofParts (h .nmt) (h .dll) e (h .soc) (h .od) (h .queue) (h .history)

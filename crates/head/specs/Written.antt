@@ -5,6 +5,8 @@ use mathlib.Core.List.{List}
 use lib.ListN.{set}
 use Rattle.types.specs.States.{stateNumber}
 use Rattle.nmt.specs.declared.cn_state_machine.CnNmtStateMachine.{CnNmtStateMachine}
+use Rattle.dll.specs.Dll.{csStateNumber}
+use Rattle.dll.specs.declared.cs_state_machine.DllCsState.the-variants.{NonCyclic}
 use Rattle.counters.specs.Counters.{counter}
 use Rattle.counters.specs.declared.counters.CounterKind.{CounterKind}
 use Rattle.counters.specs.declared.counters.CounterKind.the-variants.{Collision, LossOfSoc, LossOfSoa, LossOfPreq, SoCJitter, Crc, HeartbeatTimeout}
@@ -54,6 +56,10 @@ socWritten ws s =
     (set (set (timeWritten ws at.lastSoc (s .«last_soc_reception_time_us»)) at.check (one (s .«soc_timeout_check_active»))) at.changed
     (one (s .«error_status_changed»)))
     (s .«next_tick_us»)
+
+-- what a reset forgets: no deadline, the check off, the DLL machine at NonCyclic
+abbrev pub forgottenWritten : List ℕ → List ℕ
+forgottenWritten ws = set (set (deadlineWritten ws Nothing) at.check 0) at.dll (csStateNumber NonCyclic)
 
 -- the capacity stays
 abbrev pub queueWritten : List ℕ → EmergencyQueue → List ℕ

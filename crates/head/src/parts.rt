@@ -5,7 +5,7 @@ ghost use lib.ListN.{length, set, replicate};
 ghost use Rattle.dll.specs.Dll.{csStateNumber};
 ghost use Rattle.head.specs.Places as at;
 ghost use Rattle.head.specs.Words.{word, yes, one, timeOf, stateOf, nmtOf, dllState, counterAt, errorsOf, deadlineOf, socOf, objectOf, odOf, queueOf, historyOf};
-ghost use Rattle.head.specs.Written.{nmtWritten, counterWritten, levelsWritten, deadlineWritten, socWritten, queueWritten, historyWritten, identityWritten, thresholdsWritten, objectWritten, odWritten};
+ghost use Rattle.head.specs.Written.{forgottenWritten, nmtWritten, counterWritten, levelsWritten, deadlineWritten, socWritten, queueWritten, historyWritten, identityWritten, thresholdsWritten, objectWritten, odWritten};
 use crate::state::Deadline;
 use crate::state::Dictionary;
 use crate::state::Head;
@@ -430,6 +430,15 @@ pub fn check_off(head: &mut Head)
     ensures { λ _. ⌜ now (head .exit) ≡ set (now (head .entry)) at.check 0 ⌝ }
 {
     head[CHECK] = 0;
+}
+
+// What a reset forgets besides state, enabled and ready: the deadline, the check and the DLL state.
+pub fn forget(head: &mut Head)
+    ensures { λ _. ⌜ now (head .exit) ≡ forgottenWritten (now (head .entry)) ⌝ }
+{
+    head[DUE] = 0;
+    head[CHECK] = 0;
+    head[DLL] = 0;
 }
 
 pub fn timeout_of(head: &Head) -> u32

@@ -32,7 +32,7 @@ at s enabled ready =
 abbrev wholeReset : Outcome
 wholeReset =
     record {
-      machine = at NmtNotActive false true;
+      machine = at NmtNotActive false false;
       errors = [];
       reset =
           record {

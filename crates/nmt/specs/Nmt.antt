@@ -153,9 +153,12 @@ applied m e (Enables s) = withoutReset (pick (m .«app_ready») (enter (enabled 
 applied m e Readies = withoutReset (pick (m .«ready_to_operate_enabled») (enter (ready m) NmtReadyToOperate) (ready m)) []
 applied m e Unexpected = withoutReset m (UnexpectedEventInState (stateNumber (m .«current_state»)) (eventNumber e) ∷ [])
 
--- a reset enters its states one after the other, without errors; ready is not touched
+abbrev pub unready : CnNmtStateMachine → CnNmtStateMachine
+unready m = with m (m .«current_state») (m .«ready_to_operate_enabled») false
+
+-- a reset enters its states one after the other, without errors; document 02, No. 7: "what was ready before must not count as ready after"
 unfoldable pub resetBy : CnNmtStateMachine → NmtEvent → Outcome
-resetBy m e = record { machine = enterAll m (statesEntered e); errors = []; reset = resetSequence e }
+resetBy m e = record { machine = unready (enterAll m (statesEntered e)); errors = []; reset = resetSequence e }
 
 unfoldable pub processed : CnNmtStateMachine → NmtEvent → Outcome
 processed m e = pick (isReset e) (resetBy m e) (applied m e (rowOf (m .«current_state») e))

@@ -20,7 +20,7 @@ use Rattle.types.specs.declared.frame.cs_state_machine.DllCsEvent.{DllCsEvent}
 use Rattle.types.specs.declared.frame.cs_state_machine.DllCsEventRead.the-variants as cs-event
 use Rattle.types.specs.declared.frame.error.types.DllError.{DllError}
 use Rattle.types.specs.declared.frame.error.types.DllErrorRead.the-variants as error-read
-use Rattle.nmt.specs.Resets.{passed}
+use Rattle.nmt.specs.Resets.{Passed, isReset}
 use Rattle.nmt.specs.Nmt as Nmt
 use Rattle.nmt.specs.declared.cn_state_machine.NmtAnswer.{NmtAnswer}
 use Rattle.dll.specs.Dll as Dll
@@ -35,7 +35,7 @@ use Rattle.entries.specs.History as History
 use Rattle.entries.specs.declared.emergency_queue.HandedOut.{HandedOut}
 use Rattle.entries.specs.declared.error_history.ErrorHistory.{ErrorHistory}
 use Rattle.entries.proofs.Lists.{handed-first, rest-waits, handed-capacity, history-loaded}
-use Rattle.head.specs.Head.{Head, with-nmt, with-dll, with-errors, with-soc, with-values, with-queue, socWatch}
+use Rattle.head.specs.Head.{Head, forgetting, with-nmt, with-dll, with-errors, with-soc, with-values, with-queue, socWatch}
 use Rattle.head.specs.declared.state.Deadline.the-variants.{At, Nothing}
 use Rattle.head.specs.declared.state.SocWatch.{SocWatch}
 use Rattle.head.specs.declared.state.Dictionary.{Dictionary}
@@ -43,7 +43,7 @@ use Rattle.node.specs.declared.load.DictionaryUpdate.{DictionaryUpdate}
 use Rattle.watched.specs.declared.nodes.WatchedNode.{WatchedNode}
 use Rattle.node.specs.Plain.{Plain, Step, Call, nmtEvent, dllEvent, error, cycleComplete, withdraw, handOut, load, arm, refused, taken, nmtAnswer, dllAnswer, errorAnswer, cycleAnswer, handOutAnswer}
 use Rattle.watched.specs.Watched.{inTime}
-use Rattle.node.specs.Steps.{must, tried, plainOf, withNmt, withSoc, answers, declines, nmtTaken, nmtStep, dllTaken, dllStep, errorTaken, errorStep, cycleTaken, withdrawn, handOutStep, updated, updatedHistory, cycleOf, limitOf, armed}
+use Rattle.node.specs.Steps.{forgets, must, tried, plainOf, withNmt, withSoc, answers, declines, nmtTaken, nmtStep, dllTaken, dllStep, errorTaken, errorStep, cycleTaken, withdrawn, handOutStep, updated, updatedHistory, cycleOf, limitOf, armed}
 use Rattle.node.specs.Run.{step}
 use Rattle.node.specs.Refines.{plain, Left, left, historyUpdate, loadedPlaces, loadedMemory, Refines, SamePlaces}
 
@@ -69,16 +69,31 @@ Alone h c o = ((q m : List ℕ) → Refines h q m c o q m []) × SamePlaces h (o
 pub same-places : (h : Head) → SamePlaces h h
 same-places h = record { queue = refl; history = refl }
 
+-- a reset forgets
+abbrev pub forgetting-if : Bool → Head → Head
+forgetting-if b h = pick b (forgetting h) h
+
+plain-forgets : (b : Bool) (h : Head) (q m : List ℕ) → plain (forgetting-if b h) q m ≡ pick b (forgets (plain h q m)) (plain h q m)
+plain-forgets true h q m = refl
+plain-forgets false h q m = refl
+
+forgets-places : (b : Bool) (h : Head) → SamePlaces h (forgetting-if b h)
+forgets-places true h = record { queue = refl; history = refl }
+forgets-places false h = record { queue = refl; history = refl }
+
 pub nmt-taken :
-    (h : Head) (n : ℕ) (e : NmtEvent) (a : NmtAnswer) →
+    (h : Head) (n : ℕ) (e : NmtEvent) (es : List DllError) (t : Passed) →
     readEvent n ≡ event.Taken e →
-    Nmt.outcome a ≡ Nmt.processed (h .nmt) e →
-    Alone h (nmtEvent n) (left (with-nmt h (a .machine)) (nmtAnswer (reported (a .errors)) (passed (a .reset))))
-nmt-taken h n e a r o = (
+    es ≡ Nmt.processed (h .nmt) e .errors →
+    t ≡ Nmt.processed (h .nmt) e .reset →
+    Alone h (nmtEvent n) (left (forgetting-if (isReset e) (with-nmt h (Nmt.processed (h .nmt) e .machine))) (nmtAnswer es t))
+nmt-taken h n e es t r x y = (
   λ q m.
       let p : Plain = plain h q m in
-      refined h q m (nmtEvent n) _ q m [] (nmtTaken p e (Nmt.outcome a)) (ap (nmtStep p) r ∙ ap (nmtTaken p e) (sym o)) refl refl refl,
-  record { queue = refl; history = refl },
+      let g : Head = with-nmt h (Nmt.processed (h .nmt) e .machine) in
+      refined h q m (nmtEvent n) _ q m [] (nmtTaken p e (Nmt.processed (h .nmt) e)) (ap (nmtStep p) r)
+      (plain-forgets (isReset e) g q m) (λ i. nmtAnswer (x i) (y i)) refl,
+  let s = forgets-places (isReset e) (with-nmt h (Nmt.processed (h .nmt) e .machine)) in record { queue = s .queue; history = s .history },
 )
 
 pub nmt-refused : (h : Head) (n : ℕ) (x : Refusal) → readEvent n ≡ event.Refused x → Alone h (nmtEvent n) (left h (refused (refusalNumber x)))

@@ -6,7 +6,7 @@ use mathlib.Core.Bool.{Bool, true, false, not}
 use mathlib.Core.List.{List, [], _∷_}
 use native.Mathlib.Omega.{arith}
 use lib.Dec.{ltb}
-use lib.ListN.{length, set}
+use lib.ListN.{length, set, length-set}
 use Rattle.types.specs.Pick.{pick}
 use Rattle.types.specs.States.{sameState}
 use Rattle.types.specs.Events.{readEvent}
@@ -41,19 +41,20 @@ use Rattle.entries.specs.Queue.{handedOut, lengthOf}
 use Rattle.entries.specs.declared.emergency_queue.EmergencyQueue.{EmergencyQueue}
 use Rattle.entries.specs.declared.emergency_queue.HandedOut.{HandedOut}
 use Rattle.entries.proofs.Lists.{handed-capacity}
-use Rattle.head.specs.Head.{Head, with-errors, with-queue}
+use Rattle.head.specs.Head.{Head, forgetting, with-errors, with-queue}
 use Rattle.head.specs.declared.state.SocWatch.{SocWatch}
 use Rattle.node.specs.Plain.{Call, nmtEvent, dllEvent, error, cycleComplete, withdraw, handOut, arm, Answer, refused, taken, nmtAnswer, dllAnswer, errorAnswer, cycleAnswer, handOutAnswer}
 use Rattle.watched.specs.Watched.{inTime}
 use Rattle.node.specs.Steps.{armed}
 use Rattle.node.specs.Refines.{left, Refines}
-use Rattle.node.proofs.Laws.{Alone, nmt-taken, nmt-refused, dll-taken, dll-refused, error-taken, error-refused, cycle-taken, withdraw-taken, withdraw-refused, arm-taken, arm-refused, hand-out-taken}
+use Rattle.node.proofs.Laws.{Alone, forgetting-if, nmt-taken, nmt-refused, dll-taken, dll-refused, error-taken, error-refused, cycle-taken, withdraw-taken, withdraw-refused, arm-taken, arm-refused, hand-out-taken}
+use Rattle.node.specs.declared.calls.NmtTaken.{NmtTaken}
 use Rattle.node.specs.declared.calls.ErrorTaken.{ErrorTaken}
 use Rattle.head.specs.Places as at
 use Rattle.head.specs.Words.{word, one, stateOf, nmtOf, dllState, counterAt, errorsOf, socOf, odOf, queueOf, headOf}
 use Rattle.head.specs.Written.{nmtWritten, levelsWritten, socWritten, queueWritten}
-use Rattle.node.specs.InPlace.{InPlace, replied, withdrawWords, nmtWords, dllWords, effectWords, errorWords, cycleWords, armWords, handOutWords}
-use Rattle.head.proofs.Laws.{nmt-written, ready-written, dll-written, counter-written, links-written, levels-written, soc-written, queue-written}
+use Rattle.node.specs.InPlace.{InPlace, replied, withdrawWords, resetWords, processedWords, Processed, nmtWords, dllWords, effectWords, errorWords, cycleWords, armWords, handOutWords}
+use Rattle.head.proofs.Laws.{nmt-written, forgotten-written, ready-written, dll-written, counter-written, links-written, levels-written, soc-written, queue-written}
 
 -- a call that wrote the words `to`, which stand for the head k that the call is to leave
 pub in-place :
@@ -67,6 +68,32 @@ in-place ws c a k to known ws′ x e f w =
     let y : Alone (headOf ws) c (left (headOf ws′) a) =
     subst (λ (g : Head). Alone (headOf ws) c (left g a)) (sym (ap headOf w ∙ e)) x in
     record { refines = y .0; places = y .1; words = w ∙ sym f }
+
+-- the machine's part is written, and there are as many words as before
+nmt-long : (ws : List ℕ) → length ws ≡ 52 → (m : CnNmtStateMachine) → length (nmtWritten ws m) ≡ 52
+nmt-long ws long m = length-set (set (set ws at.state _) at.enabled _) at.ready _ ∙ length-set (set ws at.state _) at.enabled _ ∙ length-set ws at.state _ ∙ long
+
+-- a reset forgets, in words
+reset-written : (b : Bool) (ws : List ℕ) → length ws ≡ 52 → headOf (resetWords b ws) ≡ forgetting-if b (headOf ws)
+reset-written true ws long = forgotten-written ws long
+reset-written false ws long = refl
+
+-- an NMT event, decided by the function by value
+pub nmt-processed :
+    (ws ws′ : List ℕ) (e : NmtEvent) (a : NmtAnswer) →
+    Nmt.outcome a ≡ Nmt.processed (nmtOf ws) e →
+    (b : Bool) →
+    isReset e ≡ b →
+    ws′ ≡ resetWords b (nmtWritten ws (a .machine)) →
+    Processed ws e (record { errors = a .errors; reset = a .reset }) ws′
+nmt-processed ws ws′ e a o b x w =
+    record {
+      errors = ap (λ (o : Nmt.Outcome). o .errors) o;
+      reset = ap (λ (o : Nmt.Outcome). o .reset) o;
+      words =
+          w ∙ ap (λ (b : Bool). resetWords b (nmtWritten ws (a .machine))) (sym x)
+          ∙ ap (λ (o : Nmt.Outcome). resetWords (isReset e) (nmtWritten ws (o .machine))) o;
+    }
 
 -- and one that wrote none
 pub unwritten :
@@ -102,7 +129,7 @@ pub processed-keeps : (m : CnNmtStateMachine) (e : NmtEvent) → Keeps m (Nmt.pr
 unfolding Nmt.processed Nmt.resetBy
 processed-keeps m e =
     picked (λ (o : Nmt.Outcome). Keeps m (o .machine)) (isReset e) (Nmt.resetBy m e) (Nmt.applied m e (Nmt.rowOf (m .«current_state») e))
-    (entered-keeps m (statesEntered e)) (applied-keeps m e (Nmt.rowOf (m .«current_state») e))
+    (ap Nmt.unready (entered-keeps m (statesEntered e))) (applied-keeps m e (Nmt.rowOf (m .«current_state») e))
 
 -- an error keeps the threshold of its counter
 pub check-keeps : (c : ThresholdCounter) → Counters.afterError c .counter .threshold ≡ c .threshold
@@ -201,17 +228,17 @@ module _ (ws : List ℕ) where
         (ap (λ (b : Bool). pick b ws (set ws at.ready 0)) e) w
 
     pub nmt-yes :
-        (n : ℕ) (e : NmtEvent) (a : NmtAnswer) →
+        (n : ℕ) (e : NmtEvent) (t : NmtTaken) →
         readEvent n ≡ event.Taken e →
-        Nmt.outcome a ≡ Nmt.processed (nmtOf ws) e →
-        ws′ ≡ nmtWritten ws (a .machine) →
-        InPlace ws (nmtEvent n) (nmtAnswer (reported (a .errors)) (passed (a .reset))) ws′ (nmtWords ws (readEvent n))
+        Processed ws e t ws′ →
+        InPlace ws (nmtEvent n) (nmtAnswer (reported (t .errors)) (passed (t .reset))) ws′ (nmtWords ws (readEvent n))
     unfolding headOf
-    nmt-yes n e a r o w =
-        let m : a .machine ≡ Nmt.processed (nmtOf ws) e .machine = ap (λ (o : Nmt.Outcome). o .machine) o in
-        in-place ws (nmtEvent n) _ _ (nmtWritten ws (a .machine)) _ ws′ (nmt-taken (headOf ws) n e a r o)
-        (nmt-written ws long (a .machine) (subst (Keeps (nmtOf ws)) (sym m) (processed-keeps (nmtOf ws) e)))
-        (ap (nmtWords ws) r ∙ ap (nmtWritten ws) (sym m)) w
+    nmt-yes n e t r p =
+        let m = Nmt.processed (nmtOf ws) e .machine in
+        in-place ws (nmtEvent n) _ _ (processedWords ws e) _ ws′ (nmt-taken (headOf ws) n e _ _ r (p .errors) (p .reset))
+        (reset-written (isReset e) (nmtWritten ws m) (nmt-long ws long m)
+        ∙ ap (forgetting-if (isReset e)) (nmt-written ws long m (processed-keeps (nmtOf ws) e)))
+        (ap (nmtWords ws) r) (p .words)
 
     pub dll-yes :
         (n : ℕ) (expected : Bool) (e : DllCsEvent) (a : DllAnswer) →

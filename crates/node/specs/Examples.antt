@@ -141,7 +141,7 @@ leaves n p a ws ms =
 abbrev pub nothingPassed : Passed
 nothingPassed = record { states = []; ranges = [] }
 
--- "Fresh, SwReset: five states entered, NotActive."
+-- "Fresh, SwReset: five states entered, NotActive." And not ready any more (document 02, No. 7).
 abbrev pub startsWith : Start
 startsWith = record { node = 1; flags = 0; timeout = 5; capacity = 1; od = values 0 0 0 0 0; watched = [] }
 
@@ -157,7 +157,7 @@ swReset =
     record {
       before = fresh startsWith;
       calls = nmtEvent 5 ∷ [];
-      after = comesBy SwReset 0x1C (resting NmtNotActive false true) (nmtAnswer [] wholeReset) ∷ [];
+      after = comesBy SwReset 0x1C (resting NmtNotActive false false) (nmtAnswer [] wholeReset) ∷ [];
     }
 
 -- "NotActive, Timeout: 0x1E."

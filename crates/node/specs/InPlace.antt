@@ -10,13 +10,14 @@ use Rattle.types.specs.States.{sameState}
 use Rattle.types.specs.Errors.{reported}
 use Rattle.types.specs.Refusals.{refusalNumber}
 use Rattle.types.specs.declared.nmt.states.NmtState.the-variants.{NmtReadyToOperate}
+use Rattle.types.specs.declared.nmt.events.NmtEvent.{NmtEvent}
 use Rattle.types.specs.declared.nmt.events.NmtEventRead.{NmtEventRead}
 use Rattle.types.specs.declared.nmt.events.NmtEventRead.the-variants as event
 use Rattle.types.specs.declared.frame.cs_state_machine.DllCsEventRead.{DllCsEventRead}
 use Rattle.types.specs.declared.frame.cs_state_machine.DllCsEventRead.the-variants as cs-event
 use Rattle.types.specs.declared.frame.error.types.DllErrorRead.{DllErrorRead}
 use Rattle.types.specs.declared.frame.error.types.DllErrorRead.the-variants as error-read
-use Rattle.nmt.specs.Resets.{passed}
+use Rattle.nmt.specs.Resets.{isReset, passed}
 use Rattle.nmt.specs.Nmt as Nmt
 use Rattle.dll.specs.Dll as Dll
 use Rattle.counters.specs.Counters as Counters
@@ -28,6 +29,7 @@ use Rattle.node.specs.Steps.{armed}
 use Rattle.node.specs.Refines.{Refines, SamePlaces, left}
 use Rattle.node.specs.declared.calls.CallAnswer.{CallAnswer}
 use Rattle.node.specs.declared.calls.CallAnswer.the-variants as answer
+use Rattle.node.specs.declared.calls.NmtTaken.{NmtTaken}
 use Rattle.node.specs.declared.calls.NmtEventAnswer.{NmtEventAnswer}
 use Rattle.node.specs.declared.calls.NmtEventAnswer.the-variants as nmt-answer
 use Rattle.node.specs.declared.calls.DllEventAnswer.{DllEventAnswer}
@@ -37,7 +39,7 @@ use Rattle.node.specs.declared.calls.ErrorAnswer.{ErrorAnswer}
 use Rattle.node.specs.declared.calls.ErrorAnswer.the-variants as error-answer
 use Rattle.head.specs.Places as at
 use Rattle.head.specs.Words.{word, stateOf, nmtOf, dllState, counterAt, errorsOf, socOf, odOf, queueOf, headOf}
-use Rattle.head.specs.Written.{nmtWritten, counterWritten, levelsWritten, socWritten, queueWritten}
+use Rattle.head.specs.Written.{nmtWritten, forgottenWritten, counterWritten, levelsWritten, socWritten, queueWritten}
 
 -- Of a call c on the words ws, which answered a and left the words ws′: the head that they stand for is that of the plain head's step, queue and
 -- history stand where they stood, and the words are all known.
@@ -76,8 +78,21 @@ unlessRefused (answer.Refused r) ws ws′ = ws
 abbrev pub withdrawWords : List ℕ → List ℕ
 withdrawWords ws = pick (sameState (stateOf (word ws at.state)) NmtReadyToOperate) ws (set ws at.ready 0)
 
+-- an NMT event writes the machine's part, and a reset forgets
+abbrev pub resetWords : Bool → List ℕ → List ℕ
+resetWords b ws = pick b (forgottenWritten ws) ws
+
+abbrev pub processedWords : List ℕ → NmtEvent → List ℕ
+processedWords ws e = resetWords (isReset e) (nmtWritten ws (Nmt.processed (nmtOf ws) e .machine))
+
+-- Of an NMT event e on the words ws, which answered t and left ws′: the machine's errors and reset, and every word.
+pub record Processed (ws : List ℕ) (e : NmtEvent) (t : NmtTaken) (ws′ : List ℕ) : Type 0 where
+  pub errors : reported (t .errors) ≡ Nmt.processed (nmtOf ws) e .errors
+  pub reset : passed (t .reset) ≡ Nmt.processed (nmtOf ws) e .reset
+  pub words : ws′ ≡ processedWords ws e
+
 abbrev pub nmtWords : List ℕ → NmtEventRead → List ℕ
-nmtWords ws (event.Taken e) = nmtWritten ws (Nmt.processed (nmtOf ws) e .machine)
+nmtWords ws (event.Taken e) = processedWords ws e
 nmtWords ws (event.Refused r) = ws
 
 abbrev pub dllWords : List ℕ → Bool → DllCsEventRead → List ℕ

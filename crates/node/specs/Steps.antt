@@ -19,6 +19,7 @@ use Rattle.types.specs.declared.frame.cs_state_machine.DllCsEventRead.{DllCsEve
 use Rattle.types.specs.declared.frame.cs_state_machine.DllCsEventRead.the-variants as cs-event
 use Rattle.types.specs.declared.frame.error.types.DllErrorRead.{DllErrorRead}
 use Rattle.types.specs.declared.frame.error.types.DllErrorRead.the-variants as error-read
+use Rattle.nmt.specs.Resets.{isReset}
 use Rattle.nmt.specs.Nmt as Nmt
 use Rattle.nmt.specs.declared.cn_state_machine.CnNmtStateMachine.{CnNmtStateMachine}
 use Rattle.dll.specs.Dll as Dll
@@ -36,7 +37,7 @@ use Rattle.head.specs.declared.state.ObjectValue.{ObjectValue}
 use Rattle.head.specs.declared.state.ObjectValue.the-variants.{Unsigned32, Missing}
 use Rattle.head.specs.declared.state.SocWatch.{SocWatch}
 use Rattle.head.specs.declared.state.Dictionary.{Dictionary}
-use Rattle.head.specs.Head.{socWatch}
+use Rattle.head.specs.Head.{socWatch, forgotten}
 use Rattle.node.specs.declared.load.ByteUpdate.{ByteUpdate}
 use Rattle.node.specs.declared.load.ByteUpdate.the-variants as byte
 use Rattle.node.specs.declared.load.CounterUpdate.{CounterUpdate}
@@ -114,12 +115,16 @@ started s =
     (λ n. record { begun = declined n; lent = s .watched })
     (record { begun = begins (fresh s); lent = unheard (s .watched) })
 
+-- "Every reset event now also clears the readiness, the deadline and the SoC check, and puts the DLL machine at NonCyclic."
+-- (document 02, No. 7) The readiness is the machine's.
+abbrev pub forgets : Plain → Plain
+forgets p = plainOf (p .nmt) NonCyclic (p .errors) (forgotten (p .soc)) (p .od) (p .capacity) (p .queue) (p .history)
+
 -- An NMT event: number 4, or what the machine makes of it. "Errors of NMT and DLL events are reported and not counted."
--- A reset touches the NMT machine alone.
 abbrev pub nmtTaken : Plain → NmtEvent → Nmt.Outcome → Step
 nmtTaken p e o =
     record {
-      head = withNmt p (o .machine);
+      head = pick (isReset e) (forgets (withNmt p (o .machine))) (withNmt p (o .machine));
       answer = nmtAnswer (o .errors) (o .reset);
       lent = [];
       event = made e;

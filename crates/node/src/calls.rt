@@ -11,7 +11,7 @@ ghost use Rattle.node.specs.Plain.{Call, cycleAnswer, handOutAnswer};
 ghost use Rattle.node.specs.Refines.{Refines, left};
 ghost use Rattle.head.specs.Places as at;
 ghost use Rattle.head.specs.Words.{counterAt, errorsOf, headOf};
-ghost use Rattle.node.specs.InPlace.{InPlace, said, nmtSaid, dllSaid, errorSaid, replied, effectWords, withdrawWords, nmtWords, dllWords, errorWords, cycleWords, armWords, handOutWords};
+ghost use Rattle.node.specs.InPlace.{InPlace, Processed, said, nmtSaid, dllSaid, errorSaid, replied, effectWords, withdrawWords, nmtWords, dllWords, errorWords, cycleWords, armWords, handOutWords};
 use crate::timing::armed;
 use counters::counters::CounterKind;
 use counters::counters::ErrorEffect;
@@ -21,6 +21,7 @@ use entries::status_response::FoundEntry;
 use head::parts::counter_of;
 use head::parts::dll_of;
 use head::parts::errors_of;
+use head::parts::forget;
 use head::parts::links_of;
 use head::parts::nmt_of;
 use head::parts::od_of;
@@ -38,6 +39,7 @@ use head::parts::state_at;
 use head::parts::whole;
 use head::state::Head;
 use nmt::state_machine::ResetSequence;
+use nmt::state_machine::is_reset;
 use types::frame::cs_state_machine::DllCsEvent;
 use types::frame::cs_state_machine::DllCsEventRead;
 use types::frame::error::types::DllError;
@@ -99,6 +101,22 @@ pub fn withdraw(head: &mut Head) -> CallAnswer
     }
 }
 
+// An NMT event on a head, a reset too: whatever leads to one comes here.
+fn process_event(head: &mut Head, event: NmtEvent) -> NmtTaken
+    ensures { λ r. ⌜ Processed (now (head .entry)) event r (now (head .exit)) ⌝ }
+{
+    let answer = nmt_of(head).process_event(event);
+    let machine = answer.machine;
+    let errors = answer.errors;
+    let reset = answer.reset;
+    set_nmt(head, machine);
+    if is_reset(event) {
+        forget(head);
+        return NmtTaken { errors, reset };
+    }
+    NmtTaken { errors, reset }
+}
+
 // An NMT event, by its number.
 pub fn nmt_event(head: &mut Head, event: u64) -> NmtEventAnswer
     ensures { λ r. ⌜ InPlace (now (head .entry)) (Call.nmtEvent event) (nmtSaid r) (now (head .exit)) (nmtWords (now (head .entry)) (readEvent event)) ⌝ }
@@ -106,12 +124,8 @@ pub fn nmt_event(head: &mut Head, event: u64) -> NmtEventAnswer
     whole(head);
     match NmtEvent::try_from(event) {
         NmtEventRead::Taken(event) => {
-            let answer = nmt_of(head).process_event(event);
-            let machine = answer.machine;
-            let errors = answer.errors;
-            let reset = answer.reset;
-            set_nmt(head, machine);
-            return NmtEventAnswer::Taken(NmtTaken { errors, reset });
+            let taken = process_event(head, event);
+            return NmtEventAnswer::Taken(taken);
         }
         NmtEventRead::Refused(refusal) => {
             return NmtEventAnswer::Refused(refusal);

@@ -19,13 +19,15 @@ use Rattle.types.specs.declared.frame.cs_state_machine.DllCsEventRead.{DllCsEve
 use Rattle.types.specs.declared.frame.cs_state_machine.DllCsEventRead.the-variants as cs-event
 use Rattle.types.specs.declared.frame.error.types.DllErrorRead.{DllErrorRead}
 use Rattle.types.specs.declared.frame.error.types.DllErrorRead.the-variants as error-read
+use Rattle.nmt.specs.Resets.{isReset}
+use Rattle.nmt.specs.Nmt.{processed}
 use Rattle.head.specs.declared.state.SocWatch.{SocWatch}
 use Rattle.head.specs.Words.{headOf}
 use Rattle.watched.specs.declared.nodes.WatchedNode.{WatchedNode}
 use Rattle.watched.specs.Watched.{latest, inTime, heardAt}
 use Rattle.node.specs.declared.calls.CallAnswer.the-variants as answer
 use Rattle.node.specs.Plain.{Plain, Call, nmtEvent, dllEvent, error, cycleComplete, withdraw, heard, handOut, load, arm, tick, Start, taken, Step}
-use Rattle.node.specs.Steps.{answers, declines, withNmt, withSoc, nmtStep, dllStep, errorStep, withdrawn, heardTests, armed, cycleOf, fresh}
+use Rattle.node.specs.Steps.{forgets, answers, declines, withNmt, withSoc, nmtStep, dllStep, errorStep, withdrawn, heardTests, armed, cycleOf, fresh}
 use Rattle.node.specs.Tick.{tickTests, tickTaken, tickAnswered, lookedAt, lastSoc}
 use Rattle.node.specs.Run.{step, stepAll, Said}
 use Rattle.trace.specs.Claim.{Claim}
@@ -73,7 +75,11 @@ Timed t = last (t .head) ≤ latest
 
 module _ (p : Plain) (h : last p ≤ latest) where
   nmt-timed : (r : NmtEventRead) → Timed (nmtStep p r)
-  nmt-timed (event.Taken e) = h
+  nmt-timed (event.Taken e) = by (isReset e)
+    where
+      by : (b : Bool) → last (pick b (forgets (withNmt p (processed (p .nmt) e .machine))) (withNmt p (processed (p .nmt) e .machine))) ≤ latest
+      by true = h
+      by false = h
   nmt-timed (event.Refused r) = h
 
   dll-timed : (x : Bool) (r : DllCsEventRead) → Timed (dllStep p x r)

@@ -115,7 +115,7 @@ claimed s cs says h q m alike answered =
       enabled = λ r. mode-enabled (h .nmt) (tallied s cs .told) (k .told) r;
       word =
           λ r.
-          word-before s cs
+          word-before s cs (sym (ap (λ (p : Plain). p .nmt .«current_state») alike) ∙ r)
           (sym (ap (λ (p : Plain). p .nmt .«app_ready») alike) ∙ mode-word (h .nmt) (tallied s cs .told) (k .told)
           ∙ mode-ready (h .nmt) (tallied s cs .told) (k .told) r .1);
       heeded = mode-word (h .nmt) (tallied s cs .told) (k .told);

@@ -1,7 +1,7 @@
 -- What each call does to the NMT machine.
 -- Assumes nothing.
 use Prim.Native.Nat.{ℕ}
-use mathlib.Core.Path.{_≡_, refl}
+use mathlib.Core.Path.{_≡_, refl, sym, subst}
 use mathlib.Core.Bool.{Bool, true, false, not}
 use mathlib.Core.List.{List, [], _∷_}
 use Rattle.types.specs.Pick.{pick}
@@ -17,28 +17,34 @@ use Rattle.types.specs.declared.frame.cs_state_machine.DllCsEventRead.{DllCsEve
 use Rattle.types.specs.declared.frame.cs_state_machine.DllCsEventRead.the-variants as cs-event
 use Rattle.types.specs.declared.frame.error.types.DllErrorRead.{DllErrorRead}
 use Rattle.types.specs.declared.frame.error.types.DllErrorRead.the-variants as error-read
+use Rattle.nmt.specs.Resets.{isReset}
 use Rattle.nmt.specs.Nmt.{processed}
 use Rattle.nmt.specs.declared.cn_state_machine.CnNmtStateMachine.{CnNmtStateMachine}
 use Rattle.watched.specs.Watched.{inTime, heardAt}
-use Rattle.node.specs.Plain.{Plain, Call, nmtEvent, dllEvent, error, cycleComplete, withdraw, heard, handOut, load, arm, tick, taken, EventMade, Step}
-use Rattle.node.specs.Steps.{answers, declines, withNmt, withSoc, nmtStep, dllStep, errorStep, withdrawn, heardTests, armTests, armed}
+use Rattle.node.specs.Plain.{Plain, Call, nmtEvent, dllEvent, error, cycleComplete, withdraw, heard, handOut, load, arm, tick, taken, EventMade, made, noEvent, Step}
+use Rattle.node.specs.Steps.{answers, declines, withNmt, withSoc, forgets, nmtStep, dllStep, errorStep, withdrawn, heardTests, armTests, armed}
 use Rattle.node.specs.Tick.{tickTests, tickTaken, tickAnswered, lookedAt}
 use Rattle.node.specs.Run.{step}
 use Rattle.trace.proofs.Ticking.{InTick, tick-part}
 use Rattle.trace.proofs.Shares.{tried-by}
 
--- of a call c on the head p, the machine after it
-pub data Moves (p : Plain) (c : Call) : CnNmtStateMachine → Type 0 where
-  same : Moves p c (p .nmt)
-  takes-back : Moves p c (withdrawn (p .nmt))
-  told : (n : ℕ) (e : NmtEvent) → c ≡ nmtEvent n → readEvent n ≡ event.Taken e → Moves p c (processed (p .nmt) e .machine)
-  ticks : {e : EventMade} {m : CnNmtStateMachine} → InTick (p .nmt) e m → Moves p c m
+-- of a call c on the head p, the event that it made and the machine after it
+pub data Moves (p : Plain) (c : Call) : EventMade → CnNmtStateMachine → Type 0 where
+  same : Moves p c noEvent (p .nmt)
+  takes-back : Moves p c noEvent (withdrawn (p .nmt))
+  told : (n : ℕ) (e : NmtEvent) → c ≡ nmtEvent n → readEvent n ≡ event.Taken e → Moves p c (made e) (processed (p .nmt) e .machine)
+  ticks : {e : EventMade} {m : CnNmtStateMachine} → InTick (p .nmt) e m → Moves p c e m
 
 abbrev MovesTo : Plain → Call → Step → Type 0
-MovesTo p c t = Moves p c (t .head .nmt)
+MovesTo p c t = Moves p c (t .event) (t .head .nmt)
+
+-- what a reset forgets is not the machine's
+pub forgets-nmt : (b : Bool) (p : Plain) → pick b (forgets p) p .nmt ≡ p .nmt
+forgets-nmt true p = refl
+forgets-nmt false p = refl
 
 nmt-moves : (p : Plain) (n : ℕ) (r : NmtEventRead) → readEvent n ≡ r → MovesTo p (nmtEvent n) (nmtStep p r)
-nmt-moves p n (event.Taken e) h = told n e refl h
+nmt-moves p n (event.Taken e) h = subst (Moves p (nmtEvent n) (made e)) (sym (forgets-nmt (isReset e) (withNmt p (processed (p .nmt) e .machine)))) (told n e refl h)
 nmt-moves p n (event.Refused r) h = same
 
 dll-moves : (p : Plain) (n : ℕ) (x : Bool) (r : DllCsEventRead) → MovesTo p (dllEvent n x) (dllStep p x r)

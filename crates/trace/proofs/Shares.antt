@@ -20,6 +20,8 @@ use Rattle.types.specs.declared.frame.cs_state_machine.DllCsEventRead.{DllCsEve
 use Rattle.types.specs.declared.frame.cs_state_machine.DllCsEventRead.the-variants as cs-event
 use Rattle.types.specs.declared.frame.error.types.DllErrorRead.{DllErrorRead}
 use Rattle.types.specs.declared.frame.error.types.DllErrorRead.the-variants as error-read
+use Rattle.nmt.specs.Resets.{isReset}
+use Rattle.nmt.specs.Nmt as Nmt
 use Rattle.counters.specs.Counters.{top}
 use Rattle.counters.specs.Marks.{isCrossing, countOf}
 use Rattle.entries.specs.Ring.{nth, rest}
@@ -30,8 +32,8 @@ use Rattle.node.specs.declared.load.CounterUpdate.the-variants.{Set, Keep}
 use Rattle.node.specs.declared.load.DictionaryUpdate.{DictionaryUpdate}
 use Rattle.watched.specs.declared.nodes.WatchedNode.{WatchedNode}
 use Rattle.watched.specs.Watched.{heardAt}
-use Rattle.node.specs.Plain.{Plain, HistoryUpdate, Call, nmtEvent, dllEvent, error, cycleComplete, withdraw, heard, handOut, load, arm, tick, taken, handOutAnswer, Step}
-use Rattle.node.specs.Steps.{Test, tried, answers, declines, withNmt, withSoc, nmtStep, dllStep, errorStep, withdrawn, heardTests, updatedCounter, updated, armTests, armed}
+use Rattle.node.specs.Plain.{Plain, HistoryUpdate, Call, nmtEvent, dllEvent, error, cycleComplete, withdraw, heard, handOut, load, arm, tick, taken, nmtAnswer, handOutAnswer, made, Step}
+use Rattle.node.specs.Steps.{Test, tried, answers, declines, forgets, withNmt, withSoc, nmtStep, dllStep, errorStep, withdrawn, heardTests, updatedCounter, updated, armTests, armed}
 use Rattle.node.specs.Tick.{Ticked, tickTests, tickTaken, tickAnswered, lookedAt}
 use Rattle.node.specs.Run.{step}
 use Rattle.trace.specs.Tally.{Told, toldAt, handedBy, droppedBy, isFull, isSet, loadsCounter3}
@@ -146,10 +148,21 @@ tried-by P [] refuse accept d a = a
 tried-by P (t ∷ ts) refuse accept d a = picked P (t .holds) (tried-by P ts refuse accept d a) (d (t .otherwise))
 
 nmt-shares : (p : Plain) (n : ℕ) (r : NmtEventRead) → readEvent n ≡ r → Shares p (nmtEvent n) (nmtStep p r)
-nmt-shares p n (event.Taken e) h =
-    quiet p (nmtEvent n) (nmtStep p (event.Taken e))
-    (record { queue = refl; crossings = refl; crossed = refl; handed = refl; lost = λ l. refl })
-    (λ w g. mode-event (p .nmt) e w g) (counting-none (p .errors))
+nmt-shares p n (event.Taken e) h = by (isReset e)
+  where
+    o : Nmt.Outcome
+    o = Nmt.processed (p .nmt) e
+
+    by :
+        (b : Bool) →
+        Shares p (nmtEvent n)
+        (record { head = pick b (forgets (withNmt p (o .machine))) (withNmt p (o .machine)); answer = nmtAnswer (o .errors) (o .reset); lent = []; event = made e; marks = []; checked = []; crossings = [] })
+    by true =
+        quiet p (nmtEvent n) _ (record { queue = refl; crossings = refl; crossed = refl; handed = refl; lost = λ l. refl })
+        (λ w g. mode-event (p .nmt) e w g) (counting-none (p .errors))
+    by false =
+        quiet p (nmtEvent n) _ (record { queue = refl; crossings = refl; crossed = refl; handed = refl; lost = λ l. refl })
+        (λ w g. mode-event (p .nmt) e w g) (counting-none (p .errors))
 nmt-shares p n (event.Refused r) h = declined p (nmtEvent n) [] (refusalNumber r) (λ w. refl)
 
 dll-shares : (p : Plain) (n : ℕ) (x : Bool) (r : DllCsEventRead) → Shares p (dllEvent n x) (dllStep p x r)

@@ -10,7 +10,7 @@ use Rattle.types.specs.Pick.{pick, both, either}
 use Rattle.types.specs.States.{stateNumber, sameState}
 use Rattle.types.specs.Events.{eventNumber, sameEvent, readEvent}
 use Rattle.types.specs.declared.nmt.states.NmtState.{NmtState}
-use Rattle.types.specs.declared.nmt.states.NmtState.the-variants.{NmtPreOperational2, NmtReadyToOperate}
+use Rattle.types.specs.declared.nmt.states.NmtState.the-variants.{NmtGsInitialising, NmtPreOperational2, NmtReadyToOperate}
 use Rattle.types.specs.declared.nmt.events.NmtEvent.{NmtEvent}
 use Rattle.types.specs.declared.nmt.events.NmtEvent.the-variants.{Error, Timeout, CnConfigurationComplete}
 use Rattle.types.specs.declared.nmt.events.NmtEventRead.the-variants as event
@@ -25,7 +25,7 @@ use Rattle.node.specs.Plain.{Plain, Call, nmtEvent, dllEvent, error, cycleCompl
 use Rattle.node.specs.Steps.{answers, declines, withNmt, withdrawn, fresh}
 use Rattle.node.specs.Run.{step, stepAll}
 use Rattle.trace.specs.Tally.{Told, told, asks}
-use Rattle.trace.specs.Visits.{nmtState, Stays, InVisit, Asking, Asked, visiting, Enabled, at-once, later, isWithdraw, isTaken, NoneWithdrawn, ReadyWord, first, given}
+use Rattle.trace.specs.Visits.{nmtState, Stays, InVisit, Asking, Asked, visiting, Enabled, at-once, later, isWithdraw, isTaken, NoneWithdrawn, resets, NoReset, afterReset, ReadyWord, since}
 use Rattle.trace.proofs.Modes.{implies, always, every, always-at, every-at, follows, both-first, both-second}
 use Rattle.trace.proofs.Ticking.{InTick}
 use Rattle.trace.proofs.Moves.{Moves, moves}
@@ -141,7 +141,7 @@ module _ (p : Plain) (c : Call) (h : calm (p .nmt) ≡ true) where
   in-tick InTick.fails = by-event Error (unasked Error refl)
   in-tick InTick.times-out = by-event Timeout (unasked Timeout refl)
 
-  came : {m : CnNmtStateMachine} → Moves p c m → Came p c m
+  came : {e : EventMade} {m : CnNmtStateMachine} → Moves p c e m → Came p c m
   came Moves.same = stays
   came Moves.takes-back = record { calms = h; opens = λ o. inl o; readies = λ r. inl r }
   came (Moves.told n e x r) =
@@ -257,7 +257,7 @@ module _ (p : Plain) (c : Call) where
   word-in-tick InTick.fails h = word-by Error (unworded Error refl) h
   word-in-tick InTick.times-out h = word-by Timeout (unworded Timeout refl) h
 
-  word-came : {m : CnNmtStateMachine} → Moves p c m → m .«app_ready» ≡ true → (p .nmt .«app_ready» ≡ true) ⊎ Wording p c
+  word-came : {e : EventMade} {m : CnNmtStateMachine} → Moves p c e m → m .«app_ready» ≡ true → (p .nmt .«app_ready» ≡ true) ⊎ Wording p c
   word-came Moves.same h = inl h
   word-came Moves.takes-back h = absurd (true≢false (sym h))
   word-came (Moves.told n e x r) h =
@@ -299,32 +299,167 @@ unfolding NoneWithdrawn stepAll
 none-then p [] c h e = (e, tt)
 none-then p (x ∷ xs) c h e = (h .0, none-then (step p x .head) xs c (h .1) e)
 
+-- a reset: not ready behind it; and before the first one a head stays at GsInitialising
+abbrev event-forgets : NmtEvent → CnNmtStateMachine → Told → Bool
+event-forgets e m w = implies (isReset e) (not (processed m e .machine .«app_ready»))
+
+forgets-test : (m : CnNmtStateMachine) → always NmtEvents (λ e. every (event-forgets e) m) ≡ true
+unfolding processed resetBy applied enter rowOf isReset statesEntered
+forgets-test m = refl
+
+abbrev initial : CnNmtStateMachine → Bool
+initial m = sameState (m .«current_state») NmtGsInitialising
+
+abbrev event-remains : NmtEvent → CnNmtStateMachine → Told → Bool
+event-remains e m w = implies (both (initial m) (not (isReset e))) (initial (processed m e .machine))
+
+remains-test : (m : CnNmtStateMachine) → always NmtEvents (λ e. every (event-remains e) m) ≡ true
+unfolding processed resetBy applied enter rowOf isReset statesEntered
+remains-test m = refl
+
+not-true : (b : Bool) → not b ≡ true → b ≡ true → {A : Type 0} → A
+not-true true h g = absurd (true≢false (sym h))
+not-true false h g = absurd (true≢false (sym g))
+
+module _ (p : Plain) (c : Call) where
+  forgotten-event : (e : NmtEvent) → isReset e ≡ true → processed (p .nmt) e .machine .«app_ready» ≡ true → {A : Type 0} → A
+  forgotten-event e r h =
+      not-true (processed (p .nmt) e .machine .«app_ready»)
+      (follows (isReset e) (not (processed (p .nmt) e .machine .«app_ready»))
+      (every-at (event-forgets e) (p .nmt) (told false false) (always-at NmtEvents (λ e. every (event-forgets e) (p .nmt)) (forgets-test (p .nmt)) e)) r) h
+
+  remains-event : (e : NmtEvent) → isReset e ≡ false → initial (p .nmt) ≡ true → initial (processed (p .nmt) e .machine) ≡ true
+  remains-event e r i =
+      follows (both (initial (p .nmt)) (not (isReset e))) (initial (processed (p .nmt) e .machine))
+      (every-at (event-remains e) (p .nmt) (told false false) (always-at NmtEvents (λ e. every (event-remains e) (p .nmt)) (remains-test (p .nmt)) e)) (rw (i, r))
+
+  -- a call that resets leaves the machine not ready
+  reset-forgets : {e : EventMade} {m : CnNmtStateMachine} → Moves p c e m → resets e ≡ true → m .«app_ready» ≡ true → {A : Type 0} → A
+  reset-forgets Moves.same r h = absurd (true≢false (sym r))
+  reset-forgets Moves.takes-back r h = absurd (true≢false (sym r))
+  reset-forgets (Moves.told n e x y) r h = forgotten-event e r h
+  reset-forgets (Moves.ticks InTick.still) r h = absurd (true≢false (sym r))
+  reset-forgets (Moves.ticks InTick.fails) r h = forgotten-event Error r h
+  reset-forgets (Moves.ticks InTick.times-out) r h = forgotten-event Timeout r h
+
+  -- a call that does not, leaves a head at GsInitialising
+  remains : {e : EventMade} {m : CnNmtStateMachine} → Moves p c e m → resets e ≡ false → initial (p .nmt) ≡ true → initial m ≡ true
+  remains Moves.same r i = i
+  remains Moves.takes-back r i = i
+  remains (Moves.told n e x y) r i = remains-event e r i
+  remains (Moves.ticks InTick.still) r i = i
+  remains (Moves.ticks InTick.fails) r i = remains-event Error r i
+  remains (Moves.ticks InTick.times-out) r i = remains-event Timeout r i
+
+never-moved : (p : Plain) (cs : List Call) → NoReset p cs → initial (p .nmt) ≡ true → initial (stepAll p cs .nmt) ≡ true
+unfolding NoReset stepAll
+never-moved p [] k i = i
+never-moved p (c ∷ cs) k i = never-moved (step p c .head) cs (k .1) (remains p c (moves p c) (k .0) i)
+
+no-reset-then : (p : Plain) (xs : List Call) (c : Call) → NoReset p xs → resets (step (stepAll p xs) c .event) ≡ false → NoReset p (xs ++ (c ∷ []))
+unfolding NoReset stepAll
+no-reset-then p [] c k e = (e, tt)
+no-reset-then p (x ∷ xs) c k e = (k .0, no-reset-then (step p x .head) xs c (k .1) e)
+
+-- the last reset of some calls, or that there is none
+data Last (p : Plain) : List Call → Type 0 where
+  never : {cs : List Call} → NoReset p cs → Last p cs
+  last :
+      (before : List Call) (r : Call) (behind : List Call) → resets (step (stepAll p before) r .event) ≡ true → NoReset (afterReset p before r) behind →
+      Last p (before ++ (r ∷ behind))
+
+run-behind : (p : Plain) (before : List Call) (r : Call) (behind : List Call) → stepAll p (before ++ (r ∷ behind)) ≡ stepAll (afterReset p before r) behind
+unfolding stepAll
+run-behind p before r behind = run-on p before (r ∷ behind)
+
+last-then : (p : Plain) {cs : List Call} → Last p cs → (c : Call) (b : Bool) → resets (step (stepAll p cs) c .event) ≡ b → Last p (cs ++ (c ∷ []))
+unfolding NoReset
+last-then p {cs = cs} k c true e = last cs c [] e tt
+last-then p (never {cs = cs} k) c false e = never (no-reset-then p cs c k e)
+last-then p (last before r behind x k) c false e =
+    subst (Last p) (sym (again before (r ∷ behind) (c ∷ [])))
+    (last before r (behind ++ (c ∷ [])) x
+    (no-reset-then (afterReset p before r) behind c k
+    (ap (λ (g : Plain). resets (step g c .event)) (sym (run-behind p before r behind)) ∙ e)))
+
+-- a ready word, and one call more that is no reset and no withdrawal that was accepted
 word-then :
-    (p : Plain) {cs : List Call} → ReadyWord p cs → (c : Call) → both (isWithdraw c) (isTaken (step (stepAll p cs) c .answer)) ≡ false →
-    ReadyWord p (cs ++ (c ∷ []))
-word-then p (first {cs = cs} k) c e = first (none-then p cs c k e)
-word-then p (given before a after x k) c e =
-    subst (ReadyWord p) (sym (again before (a ∷ after) (c ∷ [])))
-    (given before a (after ++ (c ∷ [])) x
-    (none-then (stepAll p before) (a ∷ after) c k
-    (ap (λ (g : Plain). both (isWithdraw c) (isTaken (step g c .answer))) (sym (run-on p before (a ∷ after))) ∙ e)))
+    (p : Plain) {cs : List Call} → ReadyWord p cs → (c : Call) → resets (step (stepAll p cs) c .event) ≡ false →
+    both (isWithdraw c) (isTaken (step (stepAll p cs) c .answer)) ≡ false → ReadyWord p (cs ++ (c ∷ []))
+word-then p (since before r between a after x k v w) c n e =
+    let from = afterReset p before r in
+    let at : stepAll p (before ++ (r ∷ (between ++ (a ∷ after)))) ≡ stepAll from (between ++ (a ∷ after)) = run-behind p before r (between ++ (a ∷ after)) in
+    subst (ReadyWord p)
+    (ap (λ (l : List Call). before ++ (r ∷ l)) (sym (again between (a ∷ after) (c ∷ []))) ∙ sym (again before (r ∷ (between ++ (a ∷ after))) (c ∷ [])))
+    (since before r between a (after ++ (c ∷ [])) x
+    (subst (NoReset from) (again between (a ∷ after) (c ∷ []))
+    (no-reset-then from (between ++ (a ∷ after)) c k (ap (λ (g : Plain). resets (step g c .event)) (sym at) ∙ n)))
+    v
+    (none-then (stepAll from between) (a ∷ after) c w
+    (ap (λ (g : Plain). both (isWithdraw c) (isTaken (step g c .answer))) (sym (at ∙ run-on from between (a ∷ after))) ∙ e)))
 
-word-all : (p : Plain) (done cs : List Call) → (stepAll p done .nmt .«app_ready» ≡ true → ReadyWord p done) → stepAll p (done ++ cs) .nmt .«app_ready» ≡ true → ReadyWord p (done ++ cs)
-unfolding NoneWithdrawn
-word-all p done [] k = subst (λ (l : List Call). stepAll p l .nmt .«app_ready» ≡ true → ReadyWord p l) (sym (at-end done)) k
-word-all p done (c ∷ cs) k =
-    subst (λ (l : List Call). stepAll p l .nmt .«app_ready» ≡ true → ReadyWord p l) (again done (c ∷ []) cs) (word-all p (done ++ (c ∷ [])) cs next)
+-- after some calls from a head at GsInitialising
+record Worded (p : Plain) (cs : List Call) : Type 0 where
+  last : Last p cs
+  word : stepAll p cs .nmt .«app_ready» ≡ true → NoReset p cs ⊎ ReadyWord p cs
+
+module _ (p : Plain) (start : initial (p .nmt) ≡ true) where
+  -- a ready word, taken in PreOperational2: so there was a reset before it
+  word-given : {cs : List Call} → Last p cs → (c : Call) → Wording (stepAll p cs) c → resets (step (stepAll p cs) c .event) ≡ false → both (isWithdraw c) (isTaken (step (stepAll p cs) c .answer)) ≡ false → ReadyWord p (cs ++ (c ∷ []))
+  unfolding NoneWithdrawn
+  word-given (never {cs = cs} k) c w n e =
+      let i : sameState NmtPreOperational2 NmtGsInitialising ≡ true = ap (λ (s : NmtState). sameState s NmtGsInitialising) (sym (w .visit)) ∙ never-moved p cs k start in
+      absurd (true≢false (sym i))
+  word-given (last before r behind x k) c w n e =
+      let at = run-behind p before r behind in
+      subst (ReadyWord p) (sym (again before (r ∷ behind) (c ∷ [])))
+      (since before r behind c [] x
+      (no-reset-then (afterReset p before r) behind c k (ap (λ (g : Plain). resets (step g c .event)) (sym at) ∙ n))
+      (subst (λ (g : Plain). Wording g c) at w)
+      (ap (λ (g : Plain). both (isWithdraw c) (isTaken (step g c .answer))) (sym at) ∙ e, tt))
+
+  worded-then : (cs : List Call) (c : Call) → Worded p cs → Worded p (cs ++ (c ∷ []))
+  worded-then cs c k =
+      record {
+        last = last-then p (k .last) c (resets (step (stepAll p cs) c .event)) refl;
+        word = λ h. by (resets (step (stepAll p cs) c .event)) refl (sym (ap (λ (q : Plain). q .nmt .«app_ready») (run-then p cs c)) ∙ h);
+      }
+    where
+      by :
+          (b : Bool) → resets (step (stepAll p cs) c .event) ≡ b → step (stepAll p cs) c .head .nmt .«app_ready» ≡ true →
+          NoReset p (cs ++ (c ∷ [])) ⊎ ReadyWord p (cs ++ (c ∷ []))
+      by true r g = reset-forgets (stepAll p cs) c (moves (stepAll p cs) c) r g
+      by false r g = came-by (word-came (stepAll p cs) c (moves (stepAll p cs) c) g)
+        where
+          taken-back : both (isWithdraw c) (isTaken (step (stepAll p cs) c .answer)) ≡ false
+          taken-back = not-withdrawn (stepAll p cs) c g
+
+          kept : NoReset p cs ⊎ ReadyWord p cs → NoReset p (cs ++ (c ∷ [])) ⊎ ReadyWord p (cs ++ (c ∷ []))
+          kept (inl n) = inl (no-reset-then p cs c n r)
+          kept (inr w) = inr (word-then p w c r taken-back)
+
+          came-by : (stepAll p cs .nmt .«app_ready» ≡ true) ⊎ Wording (stepAll p cs) c → NoReset p (cs ++ (c ∷ [])) ⊎ ReadyWord p (cs ++ (c ∷ []))
+          came-by (inl x) = kept (k .word x)
+          came-by (inr w) = inr (word-given (k .last) c w r taken-back)
+
+  worded-all : (done cs : List Call) → Worded p done → Worded p (done ++ cs)
+  worded-all done [] k = subst (Worded p) (sym (at-end done)) k
+  worded-all done (c ∷ cs) k = subst (Worded p) (again done (c ∷ []) cs) (worded-all (done ++ (c ∷ [])) cs (worded-then done c k))
+
+worded-fresh : (s : Start) → Worded (fresh s) []
+unfolding NoReset
+worded-fresh s = record { last = never tt; word = λ h. inl tt }
+
+fresh-initial : (s : Start) → initial (fresh s .nmt) ≡ true
+unfolding fresh
+fresh-initial s = refl
+
+-- AT READYTOOPERATE with the machine ready, after any list of calls from a fresh head
+pub word-before : (s : Start) (cs : List Call) → nmtState (stepAll (fresh s) cs) ≡ NmtReadyToOperate → stepAll (fresh s) cs .nmt .«app_ready» ≡ true → ReadyWord (fresh s) cs
+word-before s cs r h = by (worded-all (fresh s) (fresh-initial s) [] cs (worded-fresh s) .word h)
   where
-    next : stepAll p (done ++ (c ∷ [])) .nmt .«app_ready» ≡ true → ReadyWord p (done ++ (c ∷ []))
-    next h = by (word-came (stepAll p done) c (moves (stepAll p done) c) g)
-      where
-        g : step (stepAll p done) c .head .nmt .«app_ready» ≡ true
-        g = sym (ap (λ (q : Plain). q .nmt .«app_ready») (run-then p done c)) ∙ h
-
-        by : (stepAll p done .nmt .«app_ready» ≡ true) ⊎ Wording (stepAll p done) c → ReadyWord p (done ++ (c ∷ []))
-        by (inl x) = word-then p (k x) c (not-withdrawn (stepAll p done) c g)
-        by (inr x) = given done c [] x (not-withdrawn (stepAll p done) c g, tt)
-
-pub word-before : (s : Start) (cs : List Call) → stepAll (fresh s) cs .nmt .«app_ready» ≡ true → ReadyWord (fresh s) cs
-unfolding NoneWithdrawn
-word-before s cs h = word-all (fresh s) [] cs (λ g. first tt) h
+    by : NoReset (fresh s) cs ⊎ ReadyWord (fresh s) cs → ReadyWord (fresh s) cs
+    by (inl n) =
+        let i : sameState NmtReadyToOperate NmtGsInitialising ≡ true = ap (λ (s : NmtState). sameState s NmtGsInitialising) (sym r) ∙ never-moved (fresh s) cs n (fresh-initial s) in
+        absurd (true≢false (sym i))
+    by (inr w) = w

@@ -71,7 +71,7 @@ pub record Claim (s : Start) (cs : List Call) (says : List Said) (h : Head) (q m
   pub asked : h .nmt .«current_state» ≡ NmtReadyToOperate → Enabled (fresh s) cs
   -- and in PreOperational2 the head is enabled exactly where one came in this visit
   pub enabled : h .nmt .«current_state» ≡ NmtPreOperational2 → h .nmt .«ready_to_operate_enabled» ≡ tallied s cs .told .asked
-  -- "and the application's last counted word is ready."
+  -- "and the application's last counted word is ready": as document 02, No. 7, amends it, one that counted since the last reset
   pub word : h .nmt .«current_state» ≡ NmtReadyToOperate → ReadyWord (fresh s) cs
   -- that word is the one that the head keeps, in every state
   pub heeded : h .nmt .«app_ready» ≡ tallied s cs .told .word

@@ -11,6 +11,7 @@ use Rattle.types.specs.Events.{sameEvent}
 use Rattle.types.specs.declared.nmt.states.NmtState.the-variants.{NmtPreOperational2}
 use Rattle.types.specs.declared.nmt.events.NmtEvent.{NmtEvent}
 use Rattle.types.specs.declared.nmt.events.NmtEvent.the-variants.{StartNode, EnableReadyToOperate, CnConfigurationComplete}
+use Rattle.nmt.specs.Resets.{isReset}
 use Rattle.nmt.specs.declared.cn_state_machine.CnNmtStateMachine.{CnNmtStateMachine}
 use Rattle.counters.specs.Marks.{Mark}
 use Rattle.entries.specs.declared.status_response.ErrorEntry.{ErrorEntry}
@@ -21,8 +22,8 @@ use Rattle.node.specs.declared.load.CounterUpdate.the-variants.{Set, Keep}
 use Rattle.node.specs.Plain.{Plain, Call, nmtEvent, dllEvent, error, cycleComplete, withdraw, heard, handOut, load, arm, tick, Answer, refused, taken, nmtAnswer, dllAnswer, errorAnswer, cycleAnswer, handOutAnswer, tickAnswer, EventMade, made, noEvent, Step}
 use Rattle.node.specs.Run.{step}
 
--- What the node was told: an enable or StartNode came in the last visit to PreOperational2; the application's last counted
--- word is ready.
+-- What the node was told: an enable or StartNode came in the last visit to PreOperational2; the application's last word that
+-- counted since the last reset is ready.
 pub record Told : Type 0 where
   pub asked : Bool
   pub word : Bool
@@ -43,9 +44,10 @@ abbrev pub askedBy : CnNmtStateMachine → NmtEvent → CnNmtStateMachine → Bo
 askedBy m e m′ asked =
     pick (inPreOperational2 m) (either asked (asks e)) (pick (inPreOperational2 m′) false asked)
 
--- "A ready word (CnConfigurationComplete) counts only in PreOperational2"
+-- "A ready word (CnConfigurationComplete) counts only in PreOperational2"; document 02, No. 7: "what was ready before must not count as ready after"
+-- a reset
 abbrev pub wordBy : CnNmtStateMachine → NmtEvent → Bool → Bool
-wordBy m e word = either word (both (inPreOperational2 m) (sameEvent e CnConfigurationComplete))
+wordBy m e word = pick (isReset e) false (either word (both (inPreOperational2 m) (sameEvent e CnConfigurationComplete)))
 
 abbrev pub toldBy : CnNmtStateMachine → NmtEvent → CnNmtStateMachine → Told → Told
 toldBy m e m′ w = told (askedBy m e m′ (w .asked)) (wordBy m e (w .word))

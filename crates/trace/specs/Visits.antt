@@ -11,7 +11,8 @@ use Rattle.types.specs.declared.nmt.states.NmtState.the-variants.{NmtPreOperati
 use Rattle.types.specs.declared.nmt.events.NmtEvent.{NmtEvent}
 use Rattle.types.specs.declared.nmt.events.NmtEvent.the-variants.{CnConfigurationComplete}
 use Rattle.types.specs.declared.nmt.events.NmtEventRead.the-variants.{Taken}
-use Rattle.node.specs.Plain.{Plain, Call, nmtEvent, dllEvent, error, cycleComplete, withdraw, heard, handOut, load, arm, tick, Answer, refused, taken, nmtAnswer, dllAnswer, errorAnswer, cycleAnswer, handOutAnswer, tickAnswer}
+use Rattle.nmt.specs.Resets.{isReset}
+use Rattle.node.specs.Plain.{Plain, Call, nmtEvent, dllEvent, error, cycleComplete, withdraw, heard, handOut, load, arm, tick, Answer, refused, taken, nmtAnswer, dllAnswer, errorAnswer, cycleAnswer, handOutAnswer, tickAnswer, EventMade, made, noEvent}
 use Rattle.node.specs.Run.{step, stepAll}
 use Rattle.trace.specs.Tally.{asks}
 
@@ -80,10 +81,28 @@ unfoldable pub NoneWithdrawn : Plain → List Call → Type 0
 NoneWithdrawn p [] = Unit {0}
 NoneWithdrawn p (c ∷ cs) = (both (isWithdraw c) (isTaken (step p c .answer)) ≡ false) × NoneWithdrawn (step p c .head) cs
 
--- "and the application's last counted word is ready": the fresh head's, or a ready word that came in PreOperational2; and no withdrawal was accepted
--- behind it
+-- one of the five reset events, through whatever call
+abbrev pub resets : EventMade → Bool
+resets (made e) = isReset e
+resets noEvent = false
+
+-- from the head p on, no reset is made
+unfoldable pub NoReset : Plain → List Call → Type 0
+NoReset p [] = Unit {0}
+NoReset p (c ∷ cs) = (resets (step p c .event) ≡ false) × NoReset (step p c .head) cs
+
+-- a reset as the last of some calls: the head after it
+abbrev pub afterReset : Plain → List Call → Call → Plain
+afterReset p before r = step (stepAll p before) r .head
+
+-- "and the application's last counted word is ready", which document 02, No. 7, amends: "A head that has been reset stands at ReadyToOperate only after a
+-- ready word that counted since the last reset". The calls are some calls, a reset, and calls without one, among which a ready word was taken in
+-- PreOperational2; and no withdrawal was accepted behind it. (A head that has not been reset is at GsInitialising.)
 pub data ReadyWord (p : Plain) : List Call → Type 0 where
-  first : {cs : List Call} → NoneWithdrawn p cs → ReadyWord p cs
-  given :
-      (before : List Call) (c : Call) (after : List Call) → InVisit (λ (e : NmtEvent). e ≡ CnConfigurationComplete) (stepAll p before) c →
-      NoneWithdrawn (stepAll p before) (c ∷ after) → ReadyWord p (before ++ (c ∷ after))
+  since :
+      (before : List Call) (r : Call) (between : List Call) (c : Call) (after : List Call) →
+      resets (step (stepAll p before) r .event) ≡ true →
+      NoReset (afterReset p before r) (between ++ (c ∷ after)) →
+      InVisit (λ (e : NmtEvent). e ≡ CnConfigurationComplete) (stepAll (afterReset p before r) between) c →
+      NoneWithdrawn (stepAll (afterReset p before r) between) (c ∷ after) →
+      ReadyWord p (before ++ (r ∷ (between ++ (c ∷ after))))

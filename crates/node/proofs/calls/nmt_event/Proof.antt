@@ -1,10 +1,8 @@
--- `node::calls::nmt_event` meets its contract: the number is read, and the machine by value decides.
+-- `node::calls::nmt_event` meets its contract: the number is read, and the event processed.
 -- Assumes nothing.
-use mathlib.Core.Path.{sym, ap, _∙_}
+use mathlib.Core.Path.{sym, _∙_}
 use denote.Ref.{now}
 use borrow.Author.Needs.{needs}
-use Rattle.nmt.specs.Nmt as Nmt
-use Rattle.nmt.specs.declared.cn_state_machine.CnNmtStateMachine.{CnNmtStateMachine}
 use Rattle.node.proofs.Refining.{nmt-no, nmt-yes}
 use Rattle.node.proofs.calls.nmt_event.Statement.{statement}
 use Rattle.node.proofs.calls.nmt_event.Tie as tie
@@ -17,17 +15,11 @@ nmt-event-spec =
     (λ c κs. search needs)
     (λ c. search needs)
     (λ c κs. search needs)
-    (λ c κs. search needs)
-    (λ c κs. search needs)
     (λ c.
-    let p = c .before .before .before .before in
-    let e = p .before .before .before .before in
+    let e = c .before .before .before in
     let t = e .before .before in
     let a = t .before .before .before .args in
-    nmt-yes (now (a .head)) (t .before .whole .ensures) _ (a .event) _ (p .process-event .result)
-    (sym (t .try-from .ensures) ∙ e .event .given .1)
-    (p .process-event .ensures ∙ ap (λ (m : CnNmtStateMachine). Nmt.processed m (e .event .given .0 .0)) (p .before .nmt-of .ensures))
-    (c .set-nmt .ensures))
+    nmt-yes (now (a .head)) (t .before .whole .ensures) _ (a .event) _ (c .process-event .result) (sym (t .try-from .ensures) ∙ e .event .given .1) (c .process-event .ensures))
     (λ c. search needs)
     (λ c.
     let t = c .before .before .before in
