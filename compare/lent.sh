@@ -69,6 +69,7 @@ sum() {
 compare() {
     drive "$work/report" --extern "lent=$root/target/rlib/lent.rlib" || {
         ran "$work/report" "with the crate lent"
+        ! grep -q 'did not end within the time limit' "$work/report.log" || fail "the driver did not end within the kit's time limit; is the machine busy?"
         fail "the lent form differs: $(head -n 1 "$work/report")."
     }
     one_of_three "$work/report"

@@ -5,13 +5,18 @@ cd "$(dirname "${BASH_SOURCE[0]}")/.."
 script=$1
 shift
 "${@:-target/bin/replay}" <"$script" >target/run.out
-# A comment, an empty line and a record of the run answer nothing, `show` answers up to the form of the run.
+# A comment, an empty line and a record of the run answer nothing. `show` answers its first form and those behind it up to the next answer, which begins with one of four words.
 awk -v answers=target/run.out '
+    function more() {
+        if (!read) read = (getline answer <answers)
+        return read > 0
+    }
     { print }
     /^(#|$|watch |unwatch$)/ { next }
     {
         do {
-            if ((getline answer <answers) < 1) exit 1
+            if (!more()) exit 1
             print "    " answer
-        } while ($0 == "show" && answer !~ /^\(watched/)
+            read = 0
+        } while ($0 == "show" && more() && answer !~ /^\((taken|refused|unreadable|nmt)[ )]/)
     }' "$script"

@@ -5,7 +5,7 @@
 #![allow(dead_code)]
 
 use powerlink_rs::NodeId;
-use powerlink_rs::frame::error::{CnErrorCounters, ThresholdCounter};
+use powerlink_rs::frame::error::ThresholdCounter;
 use powerlink_rs::frame::{DllCsEvent, DllError, NmtAction};
 use powerlink_rs::nmt::events::NmtEvent;
 use powerlink_rs::nmt::states::NmtState;
@@ -170,19 +170,6 @@ pub fn action_number(action: NmtAction) -> u8 {
         NmtAction::ResetCommunication => 1,
         NmtAction::ResetNode(_) => 2,
     }
-}
-
-/// The seven counters, in the order of their fields.
-pub fn seven(counters: &CnErrorCounters) -> [&ThresholdCounter; 7] {
-    [
-        &counters.collision,
-        &counters.loss_of_soc,
-        &counters.loss_of_soa,
-        &counters.loss_of_preq,
-        &counters.soc_jitter,
-        &counters.crc_errors,
-        &counters.heartbeat_timeout,
-    ]
 }
 
 /// A counter's level. Its field is private, so it is read from the derived Debug form.

@@ -1,6 +1,6 @@
 //! Counts what a script reached, from the head's answers and from the head before and after each line.
 
-use crate::view::{COUNTER_NAMES, View};
+use crate::view::{COUNTER_NAMES, HEARTBEAT, View};
 use std::io::{self, Write};
 
 /// Whether a script has ticks.
@@ -53,7 +53,7 @@ const CALLS: [&str; 13] = [
 ];
 
 /// Those that a tick can count: loss_of_soc, loss_of_soa, heartbeat_timeout.
-const TICK_KINDS: [usize; 3] = [1, 2, 6];
+const TICK_KINDS: [usize; 3] = [1, 2, HEARTBEAT];
 const COUNTERS: [&str; 4] = ["c1", "c2", "c3", "c5"];
 
 /// Each call with the refusals that it can give.
@@ -136,6 +136,7 @@ struct Minima {
     error_kind: u64,
     refusal: u64,
     crossing: u64,
+    crossing_again: u64,
     tick: u64,
     entry: u64,
     wrap: u64,
@@ -158,6 +159,7 @@ const MINIMA: Minima = Minima {
     error_kind: 50,
     refusal: 20,
     crossing: 20,
+    crossing_again: 5,
     tick: 50,
     entry: 50,
     wrap: 1,
@@ -188,6 +190,8 @@ pub struct Coverage {
     errors: [u64; ERROR_KINDS],
     crossings: [u64; 7],
     crossings_in_ticks: [u64; 7],
+    /// Those of a head whose counter had crossed before.
+    crossings_again: [u64; 7],
     /// Levels of 14 left by an error, and crossings at 15.
     level_14: u64,
     level_15: u64,
@@ -207,6 +211,8 @@ pub struct Coverage {
     asked_without_word: u64,
     one_late: u64,
     several_late: u64,
+    several_counted: u64,
+    late_uncounted: u64,
     first_heard: u64,
     cleared: u64,
     unreadable: u64,
@@ -252,6 +258,11 @@ fn stands(state: u8, ready: usize, enabled: usize) -> bool {
 /// µs from the last SoC within which no loss is seen.
 pub fn limit(view: &View) -> u64 {
     u64::from(view.cycle.unwrap_or(0)) + u64::from(view.tolerance.unwrap_or(100_000)) / 1000
+}
+
+/// The crossings of one counter.
+fn crossed(kind: usize, before: &View, after: &View) -> u64 {
+    u64::from(after.crossings[kind].saturating_sub(before.crossings[kind]))
 }
 
 impl Coverage {
@@ -317,18 +328,20 @@ impl Coverage {
                 if let Some(kind) = place(words.next(), ERROR_KINDS) {
                     self.errors[kind] += 1;
                 }
-                Self::count_crossings(&mut self.crossings, before, after);
+                self.count_crossings(before, after);
                 self.count_levels(before, after);
             }
             "tick" => {
-                Self::count_crossings(&mut self.crossings, before, after);
-                Self::count_crossings(&mut self.crossings_in_ticks, before, after);
+                self.count_crossings(before, after);
+                for kind in TICK_KINDS {
+                    self.crossings_in_ticks[kind] += crossed(kind, before, after);
+                }
                 let now = number(words.next()).unwrap_or(0);
                 self.count_tick(now, before, after, answer);
                 self.count_entries(before, after);
                 if !answer.starts_with("(refused") {
                     self.count_bounds(now, step.lent, before, after);
-                    self.count_late(now, step.lent, before);
+                    self.count_late(now, step.lent, before, after);
                 }
             }
             "start" | "withdraw" if !answer.starts_with("(refused") => self.word_forgotten = false,
@@ -375,9 +388,13 @@ impl Coverage {
         }
     }
 
-    fn count_crossings(counts: &mut [u64; 7], before: &View, after: &View) {
-        for (kind, count) in counts.iter_mut().enumerate() {
-            *count += u64::from(after.cumulative[kind].saturating_sub(before.cumulative[kind]));
+    fn count_crossings(&mut self, before: &View, after: &View) {
+        for kind in 0..COUNTER_NAMES.len() {
+            let crossed = crossed(kind, before, after);
+            self.crossings[kind] += crossed;
+            if before.crossings[kind] > 0 {
+                self.crossings_again[kind] += crossed;
+            }
         }
     }
 
@@ -386,7 +403,7 @@ impl Coverage {
         let elapsed = now.saturating_sub(before.last_soc);
         let kind = if answer.starts_with("(refused") {
             TICK_REFUSED
-        } else if after.cumulative[6] > before.cumulative[6] {
+        } else if crossed(HEARTBEAT, before, after) > 0 {
             TICK_HEARTBEAT
         } else if before.nmt == NOT_ACTIVE && after.nmt == BASIC_ETHERNET {
             TICK_TIMEOUT
@@ -445,18 +462,22 @@ impl Coverage {
         }
     }
 
-    fn count_late(&mut self, now: u64, lent: &[(u8, u64, u64)], before: &View) {
+    fn count_late(&mut self, now: u64, lent: &[(u8, u64, u64)], before: &View, after: &View) {
         if before.nmt < PRE_OPERATIONAL_2 {
             return;
         }
         let late = |(_, timeout, heard): &&(u8, u64, u64)| {
             *heard > 0 && *timeout > 0 && now.saturating_sub(*heard) > *timeout
         };
-        match lent.iter().filter(late).count() {
+        let late = lent.iter().filter(late).count() as u64;
+        match late {
             0 => (),
             1 => self.one_late += 1,
             _ => self.several_late += 1,
         }
+        let counted = u64::from(after.occurrences[HEARTBEAT] - before.occurrences[HEARTBEAT]);
+        self.several_counted += u64::from(counted > 1);
+        self.late_uncounted += u64::from(counted < late);
         self.first_heard += u64::from(lent.iter().any(|(_, _, heard)| *heard == 0));
     }
 
@@ -631,8 +652,13 @@ impl Coverage {
                 ..counted(name, self.crossings_in_ticks[kind], MINIMA.crossing)
             }
         };
+        let again = |(name, count): (&&str, u64)| {
+            let name = format!("{name}, not the head's first");
+            counted(name, count, MINIMA.crossing_again)
+        };
         let mut counts = named(&COUNTER_NAMES, &self.crossings, MINIMA.crossing);
         counts.extend(TICK_KINDS.into_iter().map(in_tick));
+        counts.extend(COUNTER_NAMES.iter().zip(self.crossings_again).map(again));
         counts.push(counted(
             "level of 14, no crossing",
             self.level_14,
@@ -650,6 +676,12 @@ impl Coverage {
         vec![
             counted("one late", self.one_late, MINIMA.late),
             counted("several late at once", self.several_late, MINIMA.late),
+            counted("several errors counted", self.several_counted, MINIMA.late),
+            counted(
+                "late behind a crossing, not counted",
+                self.late_uncounted,
+                MINIMA.late,
+            ),
             counted("last heard 0, set to now", self.first_heard, MINIMA.late),
         ]
     }

@@ -1,12 +1,13 @@
 //! The lines that docs/CALLS.md gives for answers and for `show`.
 
 use crate::dictionary;
-use crate::places::{action_number, error_form, level, named_form, seven};
+use crate::head::Head;
+use crate::places::{action_number, error_form, level, named_form};
 use crate::reset::Range;
 use crate::script::Watched;
 use crate::view::COUNTER_NAMES;
 use powerlink_rs::frame::DllError;
-use powerlink_rs::frame::error::{ErrorEntry, NmtAction};
+use powerlink_rs::frame::error::{ErrorEntry, NmtAction, seven};
 use powerlink_rs::nmt::states::NmtState;
 use powerlink_rs::node::cn::state::CnContext;
 
@@ -65,18 +66,20 @@ fn digits(bytes: &[u8]) -> String {
 }
 
 /// The head and the lent run.
-pub fn show(context: &CnContext, run: &[Watched]) -> Vec<String> {
+pub fn show(head: &Head, run: &[Watched]) -> Vec<String> {
+    let context = &head.context;
     let mut lines = vec![
         nmt(context),
         format!("(dll {})", context.dll_state_machine.current_state() as u8),
     ];
-    lines.extend(counters(context));
+    lines.extend(counters(head));
     lines.extend([
         soc(context),
         dictionary(context),
         queue(context),
         named_form("history", dictionary::history(&context.core.od).map(digits)),
         named_form("watched", run.iter().map(watched)),
+        crossings(context),
     ]);
     lines
 }
@@ -94,15 +97,16 @@ fn nmt(context: &CnContext) -> String {
     )
 }
 
-fn counters(context: &CnContext) -> Vec<String> {
-    let counters = &context.dll_error_manager.counters;
-    let form = |(name, counter)| {
-        let (level, cumulative) = (level(counter), counter.cumulative_count());
-        format!("({name} (level {level}) (cumulative {cumulative}))")
+fn counters(head: &Head) -> Vec<String> {
+    let counters = &head.context.dll_error_manager.counters;
+    let form = |((name, counter), occurrences)| {
+        let level = level(counter);
+        format!("({name} (level {level}) (cumulative {occurrences}))")
     };
     let mut lines: Vec<String> = COUNTER_NAMES
         .into_iter()
         .zip(seven(counters))
+        .zip(head.occurrences.counts)
         .map(form)
         .collect();
     lines.push(format!(
@@ -143,6 +147,13 @@ fn queue(context: &CnContext) -> String {
     let capacity = format!("(capacity {})", queue.capacity());
     let entries = queue.iter().map(|entry| digits(&entry.serialize()));
     named_form("queue", std::iter::once(capacity).chain(entries))
+}
+
+/// The cumulative values of the original (document 02, No. 3).
+fn crossings(context: &CnContext) -> String {
+    let counters = seven(&context.dll_error_manager.counters);
+    let crossings = counters.map(|counter| counter.cumulative_count().to_string());
+    named_form("crossings", crossings.into_iter())
 }
 
 fn watched(watched: &Watched) -> String {

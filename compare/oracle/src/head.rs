@@ -2,15 +2,19 @@
 //! of the original code, in their order: a call that is declined does not reach it.
 
 use crate::dictionary::{self, Defaults, Dictionary};
+use crate::occurrences::Occurrences;
 use crate::places::{self, DLL_EVENTS, NMT_EVENTS};
 use crate::reset;
 use crate::script::{Load, Start, Watched};
+use crate::view::HEARTBEAT;
 use crate::{forms, kinds};
 use powerlink_rs::NodeId;
 use powerlink_rs::common::{NetTime, RelativeTime};
 use powerlink_rs::frame::basic::MacAddress;
 use powerlink_rs::frame::cs_state_machine::DllCsState;
-use powerlink_rs::frame::error::{CnErrorCounters, DllErrorManager, LoggingErrorHandler};
+use powerlink_rs::frame::error::{
+    CnErrorCounters, DllErrorManager, Held, LoggingErrorHandler, held,
+};
 use powerlink_rs::frame::{DllCsStateMachine, DllError};
 use powerlink_rs::hal::TimeProvider;
 use powerlink_rs::nmt::NmtStateMachine;
@@ -56,6 +60,8 @@ impl TimeProvider for NoClock {
 
 pub struct Head {
     pub context: CnContext<'static>,
+    /// The errors that reached its counters.
+    pub occurrences: Occurrences,
     /// The capacity that start gave the queue.
     capacity: usize,
     dictionary: Dictionary,
@@ -79,8 +85,10 @@ impl Head {
         }
         let dictionary = Dictionary::new(defaults);
         let capacity = start.queue as usize;
+        let context = context(node, start, &dictionary, capacity);
         Ok(Self {
-            context: context(node, start, &dictionary, capacity),
+            occurrences: Occurrences::new(&context.dll_error_manager.counters),
+            context,
             capacity,
             dictionary,
             resets,
@@ -133,12 +141,16 @@ impl Head {
         if let Some(node) = places::node_of(&error) {
             try_node(node.0)?;
         }
-        let (action, signal) = self.context.dll_error_manager.handle_error(error);
+        let manager = &mut self.context.dll_error_manager;
+        let (action, signal) = manager.handle_error(error);
+        self.occurrences.handled(&manager.counters);
         Ok(forms::error_answer(action, signal, &kinds::take_logged()))
     }
 
     pub fn cycle(&mut self) -> Answer {
-        let cleared = self.context.dll_error_manager.on_cycle_complete();
+        let manager = &mut self.context.dll_error_manager;
+        let cleared = manager.on_cycle_complete();
+        self.occurrences.cycle_completed(&manager.counters);
         Ok(forms::taken(&[format!("(cleared {})", cleared as u8)]))
     }
 
@@ -171,8 +183,10 @@ impl Head {
     /// The original tick; what it logged.
     fn run_tick(&mut self, now: u64, run: &mut [Watched]) -> Vec<DllError> {
         self.lend(run);
-        let action = run_tick(&mut self.context, now);
+        let [given_before, ..] = dictionary::counters(&self.context.core.od);
+        let (action, at_lines) = run_tick(&mut self.context, now);
         assert_eq!(action, NodeAction::NoAction, "a tick sends nothing");
+        self.count_in_tick(at_lines, given_before);
         assert_eq!(self.context.heartbeat_consumers.len(), run.len());
         for (watched, (node, times)) in run.iter_mut().zip(&self.context.heartbeat_consumers) {
             assert_eq!(watched.node, node.0, "a tick leaves the nodes");
@@ -180,6 +194,26 @@ impl Head {
             watched.heard = times.1;
         }
         kinds::take_logged()
+    }
+
+    /// Counts the errors of a tick. Between two lines that it logged, each counter got at most one: a line
+    /// stands before every heartbeat error. Those of a lost SoC come with no line between them, but the
+    /// original adds to counter 1 at each of them, so that a second one for the same counter is noticed.
+    /// An unexpected event is given too, alone, and reaches none.
+    fn count_in_tick(&mut self, at_lines: Vec<Held>, given_before: u32) {
+        let before = self.occurrences.counts;
+        for now in at_lines {
+            self.occurrences.look(now);
+        }
+        self.occurrences
+            .look(held(&self.context.dll_error_manager.counters));
+        let rises = self.occurrences.counts.into_iter().zip(before);
+        let reached: u32 = rises.take(HEARTBEAT).map(|(now, then)| now - then).sum();
+        let [given, ..] = dictionary::counters(&self.context.core.od);
+        match given.wrapping_sub(given_before) {
+            1 if reached == 0 => {}
+            given => assert_eq!(reached, given, "each error of a lost SoC is seen"),
+        }
     }
 
     /// What the original says when it panics at this tick, all refusals aside; none: it does not.
@@ -233,6 +267,11 @@ impl Head {
         let capacity = self.context.emergency_queue.capacity();
         assert_eq!(capacity, self.capacity, "the queue keeps its capacity");
         assert!(kinds::take_logged().is_empty(), "only error and tick log");
+        assert_eq!(
+            self.occurrences.seen,
+            held(&self.context.dll_error_manager.counters),
+            "only error, cycle and tick change the counters"
+        );
     }
 }
 

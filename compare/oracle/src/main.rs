@@ -1,6 +1,7 @@
 //! The oracle of the comparison: reads a call script (docs/CALLS.md), drives the original Rust and
 //! prints what the script's calls answer. Behind each reset it sets by hand what document 02, No. 7
-//! lets a reset forget.
+//! lets a reset forget. Behind `cumulative` stand the errors that reached a counter of the original,
+//! and its own cumulative values are the crossings (document 02, No. 3).
 //!
 //!     oracle [replay] < SCRIPT     the answers
 //!     oracle original < SCRIPT     the answers of the original as it is, whose resets forget nothing
@@ -12,6 +13,8 @@
 
 mod coverage;
 mod dictionary;
+#[path = "../../driver/occurrences.rs"]
+mod occurrences;
 #[path = "../../driver/forms.rs"]
 mod places;
 #[path = "../../driver/reset.rs"]

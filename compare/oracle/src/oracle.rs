@@ -5,6 +5,7 @@ use crate::head::{self, Answer, Head, Resets};
 use crate::script::{self, Call, Line, Watched};
 use crate::view::{Driven, View};
 use crate::{forms, places};
+use powerlink_rs::frame::error::seven;
 
 const MOST_RECORDS: usize = 40;
 
@@ -86,7 +87,7 @@ impl Oracle {
     /// The lines of `show`; none before the first accepted start.
     pub fn show(&self) -> Option<Vec<String>> {
         let head = self.head.as_ref()?;
-        Some(forms::show(&head.context, &self.run))
+        Some(forms::show(head, &self.run))
     }
 
     /// The load that names every value as it stands, except for the history.
@@ -118,9 +119,10 @@ impl Driven for Oracle {
     }
 
     fn view(&self) -> Option<View> {
-        let context = &self.head.as_ref()?.context;
+        let head = self.head.as_ref()?;
+        let context = &head.context;
         let nmt = &context.nmt_state_machine;
-        let counters = places::seven(&context.dll_error_manager.counters);
+        let counters = seven(&context.dll_error_manager.counters);
         let od = &context.core.od;
         Some(View {
             nmt: nmt.current_state as u8,
@@ -129,7 +131,8 @@ impl Driven for Oracle {
             basic_timeout: nmt.basic_ethernet_timeout,
             dll: context.dll_state_machine.current_state() as u8,
             levels: counters.map(places::level),
-            cumulative: counters.map(|counter| counter.cumulative_count()),
+            occurrences: head.occurrences.counts,
+            crossings: counters.map(|counter| counter.cumulative_count()),
             last_soc: context.last_soc_reception_time_us,
             check: context.soc_timeout_check_active,
             deadline: context.next_tick_us,

@@ -11,6 +11,9 @@ pub const COUNTER_NAMES: [&str; 7] = [
     "heartbeat_timeout",
 ];
 
+/// The place of the heartbeat counter among them, the last.
+pub const HEARTBEAT: usize = 6;
+
 /// The head between two lines of a script.
 #[derive(Debug, Clone, PartialEq, Eq)]
 pub struct View {
@@ -23,7 +26,9 @@ pub struct View {
     pub dll: u8,
     /// In the order of `COUNTER_NAMES`.
     pub levels: [u32; 7],
-    pub cumulative: [u32; 7],
+    /// The errors that reached each counter, and the original's cumulative values.
+    pub occurrences: [u32; 7],
+    pub crossings: [u32; 7],
     pub last_soc: u64,
     pub check: bool,
     pub deadline: Option<u64>,

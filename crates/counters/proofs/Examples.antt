@@ -1,6 +1,7 @@
 -- The worked examples of document 01 that concern the counters alone, computed.
 -- Assumes nothing.
 use mathlib.Core.Path.{_≡_, refl}
+use mathlib.Core.Bool.{true}
 use mathlib.Core.List.{List, [], _∷_}
 use Rattle.types.specs.declared.frame.error.types.DllError.the-variants as error
 use Rattle.counters.specs.Counters.{counter, counterOf, replaced, newCounters, incremented, crossedAnswer, unsignalled, afterError, countedError, handled, lowered, completed}
@@ -19,13 +20,22 @@ one-between = refl
 
 one-between-crosses :
     handled (lost (onCycleComplete ∷ [])) error.LossOfSoc ≡
-    crossedAnswer (replaced LossOfSoc (counterOf 1 0 15) newCounters) error.LossOfSoc
+    crossedAnswer (replaced LossOfSoc (counterOf 2 0 15 1) newCounters) error.LossOfSoc
 unfolding replaced afterError countedError handled lowered completed
 one-between-crosses = refl
 
 -- two cycles between: 14, none
 two-between :
     handled (lost (onCycleComplete ∷ onCycleComplete ∷ [])) error.LossOfSoc ≡
-    unsignalled (replaced LossOfSoc (counterOf 0 14 15) newCounters)
+    unsignalled (replaced LossOfSoc (counterOf 2 14 15 0) newCounters)
 unfolding replaced afterError countedError handled lowered completed
 two-between = refl
+
+-- document 02, No. 3: both counts stop at the 32-bit top; a counter one below it, and at it, after an error that crosses
+near-the-top : afterError (counterOf 4294967294 8 15 4294967294) ≡ record { counter = counterOf 4294967295 0 15 4294967295; reached = true }
+unfolding afterError
+near-the-top = refl
+
+at-the-top : afterError (counterOf 4294967295 8 15 4294967295) ≡ record { counter = counterOf 4294967295 0 15 4294967295; reached = true }
+unfolding afterError
+at-the-top = refl

@@ -1,4 +1,4 @@
--- The error counters of a controlled node, by document 01, 'Counters': its words, in its order, stand above the definitions.
+-- The error counters of a controlled node, by document 01, 'Counters', as document 02, No. 3 amends it: their words, in their order, stand above the definitions.
 -- Assumes nothing.
 use Prim.Native.Nat.{ℕ, _+_, _-_, min}
 use mathlib.Core.Bool.{Bool, true, false, not}
@@ -64,12 +64,12 @@ unfoldable pub replaced : CounterKind → ThresholdCounter → CnErrorCounters �
 replaced k c s =
     byKind (λ (j : CounterKind). pick (sameKind k j) c (counter j s)) (s .«loss_of_link_cumulative»)
 
--- a counter: its cumulative count, its level, its threshold
-abbrev pub counterOf : ℕ → ℕ → ℕ → ThresholdCounter
-counterOf n l t = record { «cumulative_cnt» = n; «threshold_cnt» = l; threshold = t }
+-- a counter: its cumulative count, its level, its threshold, its count of crossings
+abbrev pub counterOf : ℕ → ℕ → ℕ → ℕ → ThresholdCounter
+counterOf n l t x = record { «cumulative_cnt» = n; «threshold_cnt» = l; threshold = t; «crossings_cnt» = x }
 
 abbrev pub newCounter : ℕ → ThresholdCounter
-newCounter t = counterOf 0 0 t
+newCounter t = counterOf 0 0 t 0
 
 -- "threshold 15"
 abbrev pub newCounters : CnErrorCounters
@@ -82,19 +82,19 @@ top = 4294967295
 abbrev pub addTop : ℕ → ℕ → ℕ
 addTop a b = min (a + b) top
 
--- "An error adds 8"
+-- "An error adds 8"; No. 3: "the cumulative count now rises by 1 at every counted error and stops at the top"
 abbrev pub incremented : ThresholdCounter → ThresholdCounter
-incremented c = counterOf (c .«cumulative_cnt») (addTop (c .«threshold_cnt») 8) (c .threshold)
+incremented c = counterOf (addTop (c .«cumulative_cnt») 1) (addTop (c .«threshold_cnt») 8) (c .threshold) (c .«crossings_cnt»)
 
 -- "at 15 or more": at the threshold or more; a threshold of 0 is never reached
 abbrev pub reaches : ThresholdCounter → Bool
 reaches c = both (ltb 0 (c .threshold)) (leb (c .threshold) (c .«threshold_cnt»))
 
--- "the level drops to 0, the cumulative count rises by 1, stopping at the 32-bit top"
+-- "the level drops to 0"; No. 3: "Crossings get a count of their own", which stops at the 32-bit top too
 abbrev pub checked : ThresholdCounter → ThresholdCheck
 checked c =
     pick (reaches c)
-    (record { counter = counterOf (addTop (c .«cumulative_cnt») 1) 0 (c .threshold); reached = true })
+    (record { counter = counterOf (c .«cumulative_cnt») 0 (c .threshold) (addTop (c .«crossings_cnt») 1); reached = true })
     (record { counter = c; reached = false })
 
 -- "and ResetCommunication is asked for"; "A crossing is logged and signals too."
@@ -118,7 +118,7 @@ countedError k s e = pick (afterError (counter k s) .reached) (crossedAnswer (ra
 
 -- "A completed cycle takes 1 from each level above 0"
 abbrev pub decremented : ThresholdCounter → ThresholdCounter
-decremented c = counterOf (c .«cumulative_cnt») (c .«threshold_cnt» - 1) (c .threshold)
+decremented c = counterOf (c .«cumulative_cnt») (c .«threshold_cnt» - 1) (c .threshold) (c .«crossings_cnt»)
 
 unfoldable pub lowered : CnErrorCounters → CnErrorCounters
 lowered s = byKind (λ (k : CounterKind). decremented (counter k s)) (s .«loss_of_link_cumulative»)

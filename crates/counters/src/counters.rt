@@ -5,11 +5,14 @@ use types::frame::error::types::DllError;
 use types::frame::error::types::DllErrors;
 use types::frame::error::types::NmtAction;
 
-// A level that an error raises by 8 and an error-free cycle lowers by 1, its threshold, and how often it was reached.
+// A level that an error raises by 8 and an error-free cycle lowers by 1, and its threshold.
 pub struct ThresholdCounter {
+    // How many errors there were.
     pub cumulative_cnt: u32,
     pub threshold_cnt: u32,
     pub threshold: u32,
+    // How often the threshold was reached.
+    pub crossings_cnt: u32,
 }
 
 // A counter after its check.
@@ -37,12 +40,14 @@ impl ThresholdCounter {
             cumulative_cnt: 0,
             threshold_cnt: 0,
             threshold,
+            crossings_cnt: 0,
         }
     }
 
     pub fn increment(mut self) -> Self
         ensures { λ r. ⌜ r ≡ incremented self ⌝ }
     {
+        self.cumulative_cnt = saturating_add(self.cumulative_cnt, 1);
         self.threshold_cnt = saturating_add(self.threshold_cnt, 8);
         self
     }
@@ -62,7 +67,7 @@ impl ThresholdCounter {
     {
         if 0 < self.threshold && self.threshold <= self.threshold_cnt {
             self.threshold_cnt = 0;
-            self.cumulative_cnt = saturating_add(self.cumulative_cnt, 1);
+            self.crossings_cnt = saturating_add(self.crossings_cnt, 1);
             ThresholdCheck {
                 counter: self,
                 reached: true,

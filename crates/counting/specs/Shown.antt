@@ -13,3 +13,7 @@ levelsOf s = map (λ (k : CounterKind). counter k s .«threshold_cnt») counterK
 -- the cumulative count of each
 abbrev pub countsOf : CnErrorCounters → List ℕ
 countsOf s = map (λ (k : CounterKind). counter k s .«cumulative_cnt») counterKinds
+
+-- the crossings of each
+abbrev pub crossingsOf : CnErrorCounters → List ℕ
+crossingsOf s = map (λ (k : CounterKind). counter k s .«crossings_cnt») counterKinds

@@ -1,8 +1,8 @@
-// The error counters at a sequence of errors and completed cycles: the answer to each call, with the levels and counts after it,
-// one form a line. The stored output was printed by the Rust (compare/), so a run shows that both agree.
+// The error counters at a sequence of errors and completed cycles: the answer to each call, with the levels, the counts of errors
+// and of crossings after it, one form a line. The stored output was printed by the Rust (compare/), so a run shows that both agree.
 ghost use mathlib.Core.Path.{_≡_};
 ghost use Prim.Native.Nat.{_+_, _*_, _%_};
-ghost use Rattle.counting.specs.Shown.{levelsOf, countsOf};
+ghost use Rattle.counting.specs.Shown.{levelsOf, countsOf, crossingsOf};
 use counters::counters::CnErrorCounters;
 use counters::counters::HandledError;
 use libc::STDOUT_FILENO;
@@ -104,11 +104,27 @@ fn counts(c: CnErrorCounters) -> [u32; 7]
     ]
 }
 
+fn crossings(c: CnErrorCounters) -> [u32; 7]
+    ensures { λ r. ⌜ r ≡ crossingsOf c ⌝ }
+{
+    [
+        c.collision.crossings_cnt,
+        c.loss_of_soc.crossings_cnt,
+        c.loss_of_soa.crossings_cnt,
+        c.loss_of_preq.crossings_cnt,
+        c.soc_jitter.crossings_cnt,
+        c.crc_errors.crossings_cnt,
+        c.heartbeat_timeout.crossings_cnt,
+    ]
+}
+
 fn say_counters(counters: CnErrorCounters) {
     say(b" (levels");
     say_each(levels(counters));
     say(b") (counts");
     say_each(counts(counters));
+    say(b") (crossings");
+    say_each(crossings(counters));
     say(b") (links ");
     say_number(counters.loss_of_link_cumulative as u64);
     say(b"))\n");

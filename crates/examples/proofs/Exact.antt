@@ -77,9 +77,9 @@ exact-nmt x y =
 
 exact-counter : (x y : ThresholdCounter) → Exactly (sameCounter x y) (x ≡ y)
 exact-counter x y =
-    exact-by (exact-and (exact-and (exact-number _ _) (exact-number _ _)) (exact-number _ _))
-    (λ h. λ i. record { «cumulative_cnt» = h .0 .0 i; «threshold_cnt» = h .0 .1 i; threshold = h .1 i })
-    (λ e. ((ap (λ z. z .«cumulative_cnt») e, ap (λ z. z .«threshold_cnt») e), ap (λ z. z .threshold) e))
+    exact-by (exact-and (exact-and (exact-and (exact-number _ _) (exact-number _ _)) (exact-number _ _)) (exact-number _ _))
+    (λ h. λ i. record { «cumulative_cnt» = h .0 .0 .0 i; «threshold_cnt» = h .0 .0 .1 i; threshold = h .0 .1 i; «crossings_cnt» = h .1 i })
+    (λ e. (((ap (λ z. z .«cumulative_cnt») e, ap (λ z. z .«threshold_cnt») e), ap (λ z. z .threshold) e), ap (λ z. z .«crossings_cnt») e))
 
 exact-errors : (x y : CnErrorCounters) → Exactly (sameErrors x y) (x ≡ y)
 exact-errors x y =

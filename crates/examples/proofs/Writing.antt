@@ -49,17 +49,17 @@ resting-stands s enabled ready ws e =
     (ap headOf e ∙ (λ i. placed (resting (state-back s i) (yes-one enabled i) (yes-one ready i)) (queue 0 0 1) (errorHistory 0 0))) refl refl refl
 
 pub counting-stands :
-    (a b c d : ℕ) (ws : List ℕ) →
-    ws ≡ counterWritten (counterWritten (restingWords NmtOperational false true (values 0 0 0 0 0)) LossOfSoc (counterOf a b 15)) HeartbeatTimeout (counterOf c d 15) →
-    Stands ws (counting (countersOf a b c d))
+    (a x b c d : ℕ) (ws : List ℕ) →
+    ws ≡ counterWritten (counterWritten (restingWords NmtOperational false true (values 0 0 0 0 0)) LossOfSoc (counterOf a b 15 x)) HeartbeatTimeout (counterOf c d 15 0) →
+    Stands ws (counting (countersOf a x b c d))
 unfolding headOf restingWords readState
-counting-stands a b c d ws e = stands ws (counting (countersOf a b c d)) (ap headOf e) refl refl refl
+counting-stands a x b c d ws e = stands ws (counting (countersOf a x b c d)) (ap headOf e) refl refl refl
 
 pub cycling-stands :
     (deadline level lost : ℕ) (ws : List ℕ) →
     ws ≡
     counterWritten (socWritten (set (restingWords NmtOperational false true (values 0 lost 0 0 0)) at.dll 1) (socWatch 10000 true (At deadline) false)) LossOfSoc
-    (counterOf 0 level 15) →
+    (counterOf lost level 15 0) →
     Stands ws (cycling deadline level lost)
 unfolding headOf restingWords readState
 cycling-stands deadline level lost ws e =
@@ -72,7 +72,7 @@ pub crossed-placed :
     historyWritten
     (queueWritten
     (counterWritten (socWritten (set (restingWords NmtPreOperational1 false true (values 1 2 1 0 1)) at.dll 1) (socWatch 10000 false Nothing true)) LossOfSoc
-    (counterOf 1 0 15))
+    (counterOf 2 0 15 1))
     (queue 0 1 1))
     (errorHistory 253 1) →
     headOf ws ≡ placed (crossingTick .all .head) (queue 0 1 1) (errorHistory 253 1)

@@ -40,6 +40,7 @@ sameCounter x y =
     eqb (x .«cumulative_cnt») (y .«cumulative_cnt»)
     && eqb (x .«threshold_cnt») (y .«threshold_cnt»)
     && eqb (x .threshold) (y .threshold)
+    && eqb (x .«crossings_cnt») (y .«crossings_cnt»)
 
 abbrev pub sameErrors : CnErrorCounters → CnErrorCounters → Bool
 sameErrors x y =

@@ -39,7 +39,7 @@ unfoldable pub restingWords : NmtState → Bool → Bool → Dictionary → List
 restingWords s enabled ready od =
     set
     (odWritten
-    (thresholdsWritten (identityWritten (nmtWritten (replicate 52 0) (machine s enabled ready)) (machine s enabled ready)) newCounters) od)
+    (thresholdsWritten (identityWritten (nmtWritten (replicate 58 0) (machine s enabled ready)) (machine s enabled ready)) newCounters) od)
     at.capacity 1
 
 -- Of a call c on the words ws with the memory q and m, which left ws′, q′ and m′ and the watched nodes l, and was compared with an answer and

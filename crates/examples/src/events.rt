@@ -74,12 +74,12 @@ pub fn no_cycle(head: &mut Head, after: &mut Head) -> bool
 pub fn one_between(head: &mut Head, after: &mut Head) -> bool
     ensures { λ r. ⌜ ((q m : List ℕ) → Shown table.oneBetween (now (head .exit)) q m [] r) ⌝ }
 {
-    counting(head, 0, 0, 0, 0);
-    counting(after, 0, 8, 0, 0);
+    counting(head, 0, 0, 0, 0, 0);
+    counting(after, 1, 0, 8, 0, 0);
     let lost = error_comes(head, 6, false, after);
-    counting(after, 0, 7, 0, 0);
+    counting(after, 1, 0, 7, 0, 0);
     let lowered = cycle_comes(head, false, after);
-    counting(after, 1, 0, 0, 0);
+    counting(after, 2, 1, 0, 0, 0);
     lost & lowered & raises_to(head, 15) & error_comes(head, 6, true, after)
 }
 
@@ -87,13 +87,13 @@ pub fn one_between(head: &mut Head, after: &mut Head) -> bool
 pub fn two_between(head: &mut Head, after: &mut Head) -> bool
     ensures { λ r. ⌜ ((q m : List ℕ) → Shown table.twoBetween (now (head .exit)) q m [] r) ⌝ }
 {
-    counting(head, 0, 0, 0, 0);
-    counting(after, 0, 8, 0, 0);
+    counting(head, 0, 0, 0, 0, 0);
+    counting(after, 1, 0, 8, 0, 0);
     let lost = error_comes(head, 6, false, after);
-    counting(after, 0, 7, 0, 0);
+    counting(after, 1, 0, 7, 0, 0);
     let lowered = cycle_comes(head, false, after);
-    counting(after, 0, 6, 0, 0);
+    counting(after, 1, 0, 6, 0, 0);
     let again = cycle_comes(head, false, after);
-    counting(after, 0, 14, 0, 0);
+    counting(after, 2, 0, 14, 0, 0);
     lost & lowered & again & raises_to(head, 14) & error_comes(head, 6, false, after)
 }

@@ -95,24 +95,25 @@ pub fn resting(head: &mut Head, state: NmtState, enabled: bool, ready: bool)
     write(head, state, enabled, ready, values(0, 0, 0, 0, 0));
 }
 
-fn counter(count: u32, level: u32) -> ThresholdCounter
-    ensures { λ r. ⌜ r ≡ counterOf count level 15 ⌝ }
+fn counter(occurrences: u32, crossings: u32, level: u32) -> ThresholdCounter
+    ensures { λ r. ⌜ r ≡ counterOf occurrences level 15 crossings ⌝ }
 {
     ThresholdCounter {
-        cumulative_cnt: count,
+        cumulative_cnt: occurrences,
         threshold_cnt: level,
         threshold: 15,
+        crossings_cnt: crossings,
     }
 }
 
-// Operational, with a count and a level of LossOfSoc and of HeartbeatTimeout.
-pub fn counting(head: &mut Head, socs: u32, soc: u32, beats: u32, beat: u32)
-    ensures { λ _. ⌜ Stands (now (head .exit)) (counting (countersOf socs soc beats beat)) ⌝ }
+// Operational, with occurrences, crossings and level of LossOfSoc, occurrences and level of HeartbeatTimeout.
+pub fn counting(head: &mut Head, socs: u32, crossings: u32, soc: u32, beats: u32, beat: u32)
+    ensures { λ _. ⌜ Stands (now (head .exit)) (counting (countersOf socs crossings soc beats beat)) ⌝ }
 {
     let od = values(0, 0, 0, 0, 0);
     write(head, NmtState::NmtOperational, false, true, od);
-    set_counter(head, CounterKind::LossOfSoc, counter(socs, soc));
-    set_counter(head, CounterKind::HeartbeatTimeout, counter(beats, beat));
+    set_counter(head, CounterKind::LossOfSoc, counter(socs, crossings, soc));
+    set_counter(head, CounterKind::HeartbeatTimeout, counter(beats, 0, beat));
 }
 
 // WaitSoc, with the last SoC at 10,000.
@@ -136,14 +137,14 @@ fn write_cycle(head: &mut Head, check: bool, next_tick_us: Deadline, changed: bo
     );
 }
 
-// Operational, WaitSoc, the check on, with a deadline; the level of LossOfSoc, and counter 1.
+// Operational, WaitSoc, the check on, with a deadline; the level of LossOfSoc, and its occurrences, which are counter 1.
 pub fn cycling(head: &mut Head, deadline: u64, level: u32, lost: u32)
     ensures { λ _. ⌜ Stands (now (head .exit)) (cycling deadline level lost) ⌝ }
 {
     let od = values(0, lost, 0, 0, 0);
     write(head, NmtState::NmtOperational, false, true, od);
     write_cycle(head, true, Deadline::At(deadline), false);
-    set_counter(head, CounterKind::LossOfSoc, counter(0, level));
+    set_counter(head, CounterKind::LossOfSoc, counter(lost, 0, level));
 }
 
 // After the crossing: PreOperational1, the check off, no deadline, one entry in queue and history.
@@ -153,7 +154,7 @@ pub fn crossed(head: &mut Head)
     let od = values(1, 2, 1, 0, 1);
     write(head, NmtState::NmtPreOperational1, false, true, od);
     write_cycle(head, false, Deadline::Nothing, true);
-    set_counter(head, CounterKind::LossOfSoc, counter(1, 0));
+    set_counter(head, CounterKind::LossOfSoc, counter(2, 1, 0));
     set_queue(
         head,
         EmergencyQueue {

@@ -46,6 +46,7 @@ fn same_counter(x: ThresholdCounter, y: ThresholdCounter) -> bool
     (x.cumulative_cnt == y.cumulative_cnt)
         & (x.threshold_cnt == y.threshold_cnt)
         & (x.threshold == y.threshold)
+        & (x.crossings_cnt == y.crossings_cnt)
 }
 
 fn same_errors(a: &Head, b: &Head) -> bool

@@ -137,13 +137,13 @@ pub fn late(
 ) -> bool
     ensures { λ r. ⌜ Shown table.late (now (head .exit)) (now (queue .exit)) (now (history .exit)) (watchedOf (nodesOf (now (nodes .exit))) 1) r ⌝ }
 {
-    counting(head, 0, 0, 0, 0);
-    counting(after, 0, 0, 0, 0);
+    counting(head, 0, 0, 0, 0, 0);
+    counting(after, 0, 0, 0, 0, 0);
     watching(nodes, 0);
     let heard = heard_comes(head, nodes, 1, 5, 100, after) & is_watching(nodes, 5, 50, 100);
     let in_time = tick_comes(head, queue, history, nodes, 1, 150, Stated::Nothing, after);
     let kept = is_watching(nodes, 5, 50, 100);
-    counting(after, 0, 0, 0, 8);
+    counting(after, 0, 0, 0, 1, 8);
     let late = tick_comes(head, queue, history, nodes, 1, 151, Stated::Nothing, after);
     heard & in_time & kept & late & is_watching(nodes, 5, 50, 151)
 }

@@ -68,10 +68,10 @@ ReadyRead r ws =
 abbrev DllRead : ℕ → List ℕ → Type 0
 DllRead n ws = headOf (set ws at.dll n) ≡ with-dll (headOf ws) (record { state = dllState n })
 
-abbrev CounterRead : CounterKind → ℕ → ℕ → List ℕ → Type 0
-CounterRead k n l ws =
-    headOf (set (set ws (at.counter k) n) (at.counter k + 1) l)
-    ≡ with-errors (headOf ws) (replaced k (counterOf n l (counterAt ws (at.counter k) .threshold)) (errorsOf ws))
+abbrev CounterRead : CounterKind → ℕ → ℕ → ℕ → List ℕ → Type 0
+CounterRead k n l x ws =
+    headOf (set (set (set ws (at.counter k) n) (at.counter k + 1) l) (at.counter k + 3) x)
+    ≡ with-errors (headOf ws) (replaced k (counterOf n l (counterAt ws (at.counter k) .threshold) x) (errorsOf ws))
 
 abbrev LinksRead : ℕ → List ℕ → Type 0
 LinksRead n ws = headOf (set ws at.links n) ≡ with-errors (headOf ws) (byKind (λ (k : CounterKind). counter k (errorsOf ws)) n)
@@ -125,7 +125,7 @@ SignalRead r n ws = headOf (set (set (set ws at.changed 1) at.register r) at.cou
 abbrev ChangedRead : List ℕ → Type 0
 ChangedRead ws = headOf (set ws at.changed 1) ≡ with-signal (headOf ws) (word ws at.register % 256) (word ws at.counter5)
 
-module _ (ws : List ℕ) (long : length ws ≡ 52) where
+module _ (ws : List ℕ) (long : length ws ≡ 58) where
   nmt-read : (s e r : ℕ) → NmtRead s e r ws
   unfolding headOf
   nmt-read s e r = whole (NmtRead s e r) ws long refl
@@ -151,15 +151,15 @@ module _ (ws : List ℕ) (long : length ws ≡ 52) where
   pub dll-written : (s : DllCsState) → headOf (set ws at.dll (csStateNumber s)) ≡ with-dll (headOf ws) (record { state = s })
   dll-written s = dll-read (csStateNumber s) ∙ (λ i. with-dll (headOf ws) (record { state = dll-back s i }))
 
-  counter-read : (k : CounterKind) (n l : ℕ) → CounterRead k n l ws
+  counter-read : (k : CounterKind) (n l x : ℕ) → CounterRead k n l x ws
   unfolding headOf replaced
-  counter-read Collision n l = whole (CounterRead Collision n l) ws long refl
-  counter-read LossOfSoc n l = whole (CounterRead LossOfSoc n l) ws long refl
-  counter-read LossOfSoa n l = whole (CounterRead LossOfSoa n l) ws long refl
-  counter-read LossOfPreq n l = whole (CounterRead LossOfPreq n l) ws long refl
-  counter-read SoCJitter n l = whole (CounterRead SoCJitter n l) ws long refl
-  counter-read Crc n l = whole (CounterRead Crc n l) ws long refl
-  counter-read HeartbeatTimeout n l = whole (CounterRead HeartbeatTimeout n l) ws long refl
+  counter-read Collision n l x = whole (CounterRead Collision n l x) ws long refl
+  counter-read LossOfSoc n l x = whole (CounterRead LossOfSoc n l x) ws long refl
+  counter-read LossOfSoa n l x = whole (CounterRead LossOfSoa n l x) ws long refl
+  counter-read LossOfPreq n l x = whole (CounterRead LossOfPreq n l x) ws long refl
+  counter-read SoCJitter n l x = whole (CounterRead SoCJitter n l x) ws long refl
+  counter-read Crc n l x = whole (CounterRead Crc n l x) ws long refl
+  counter-read HeartbeatTimeout n l x = whole (CounterRead HeartbeatTimeout n l x) ws long refl
 
   -- a counter with the threshold that was read
   pub counter-written :
@@ -167,8 +167,8 @@ module _ (ws : List ℕ) (long : length ws ≡ 52) where
       c .threshold ≡ counterAt ws (at.counter k) .threshold →
       headOf (counterWritten ws k c) ≡ with-errors (headOf ws) (replaced k c (errorsOf ws))
   counter-written k c kept =
-      counter-read k (c .«cumulative_cnt») (c .«threshold_cnt»)
-      ∙ (λ i. with-errors (headOf ws) (replaced k (counterOf (c .«cumulative_cnt») (c .«threshold_cnt») (sym kept i)) (errorsOf ws)))
+      counter-read k (c .«cumulative_cnt») (c .«threshold_cnt») (c .«crossings_cnt»)
+      ∙ (λ i. with-errors (headOf ws) (replaced k (counterOf (c .«cumulative_cnt») (c .«threshold_cnt») (sym kept i) (c .«crossings_cnt»)) (errorsOf ws)))
 
   pub links-written : (n : ℕ) → LinksRead n ws
   unfolding headOf

@@ -1,5 +1,5 @@
--- The place of each word of a head, 0 to 51. A time takes two words, its low one and its high one. Words 29 and 51 are spare: start leaves them 0, and no
--- call writes them.
+-- The place of each word of a head, 0 to 57. A time takes two words, its low one and its high one. Word 57 is spare: start leaves it 0, and no call
+-- writes it.
 -- Assumes nothing.
 use Prim.Native.Nat.{ℕ, _+_, _*_}
 use Rattle.counters.specs.Counters.{place}
@@ -30,50 +30,50 @@ ready = 5
 abbrev pub dll : ℕ
 dll = 6
 
--- three words for each kind: cumulative count, level, threshold
+-- four words for each kind: cumulative count, level, threshold, count of crossings
 abbrev pub counter : CounterKind → ℕ
-counter k = 7 + 3 * place k
+counter k = 7 + 4 * place k
 
 abbrev pub links : ℕ
-links = 28
+links = 35
 
 abbrev pub lastSoc : ℕ
-lastSoc = 30
+lastSoc = 36
 
 abbrev pub deadline : ℕ
-deadline = 32
+deadline = 38
 
 abbrev pub check : ℕ
-check = 34
+check = 40
 
 -- whether there is a deadline
 abbrev pub due : ℕ
-due = 35
+due = 41
 
 abbrev pub changed : ℕ
-changed = 36
+changed = 42
 
 abbrev pub register : ℕ
-register = 37
+register = 43
 
 -- whether there is a value, and then the value
 abbrev pub cycle : ℕ
-cycle = 38
+cycle = 44
 
 abbrev pub tolerance : ℕ
-tolerance = 40
+tolerance = 46
 
 abbrev pub counter1 : ℕ
-counter1 = 42
+counter1 = 48
 
 abbrev pub counter2 : ℕ
-counter2 = 43
+counter2 = 49
 
 abbrev pub counter3 : ℕ
-counter3 = 44
+counter3 = 50
 
 abbrev pub counter5 : ℕ
-counter5 = 45
+counter5 = 51
 
 -- the same by what they are of
 abbrev pub object : Object → ℕ
@@ -87,16 +87,16 @@ statistic Counter3 = counter3
 statistic Counter5 = counter5
 
 abbrev pub oldest : ℕ
-oldest = 46
+oldest = 52
 
 abbrev pub queued : ℕ
-queued = 47
+queued = 53
 
 abbrev pub capacity : ℕ
-capacity = 48
+capacity = 54
 
 abbrev pub newest : ℕ
-newest = 49
+newest = 55
 
 abbrev pub count : ℕ
-count = 50
+count = 56

@@ -75,7 +75,7 @@ abbrev pub dllState : ℕ → DllCsState
 dllState n = readBy csStateNumber (λ (s : DllCsState). s) NonCyclic (WaitSoc ∷ WaitPreq ∷ WaitSoa ∷ []) n
 
 abbrev pub counterAt : List ℕ → ℕ → ThresholdCounter
-counterAt ws i = counterOf (word ws i) (word ws (i + 1)) (word ws (i + 2))
+counterAt ws i = counterOf (word ws i) (word ws (i + 1)) (word ws (i + 2)) (word ws (i + 3))
 
 abbrev pub errorsOf : List ℕ → CnErrorCounters
 errorsOf ws = byKind (λ (k : CounterKind). counterAt ws (at.counter k)) (word ws at.links)

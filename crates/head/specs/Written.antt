@@ -31,7 +31,8 @@ nmtWritten ws m =
 
 -- the threshold stays
 abbrev pub counterWritten : List ℕ → CounterKind → ThresholdCounter → List ℕ
-counterWritten ws k c = set (set ws (at.counter k) (c .«cumulative_cnt»)) (at.counter k + 1) (c .«threshold_cnt»)
+counterWritten ws k c =
+    set (set (set ws (at.counter k) (c .«cumulative_cnt»)) (at.counter k + 1) (c .«threshold_cnt»)) (at.counter k + 3) (c .«crossings_cnt»)
 
 abbrev pub levelWritten : CnErrorCounters → CounterKind → List ℕ → List ℕ
 levelWritten s k ws = set ws (at.counter k + 1) (counter k s .«threshold_cnt»)

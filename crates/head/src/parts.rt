@@ -40,74 +40,74 @@ const ENABLED: usize = 4;
 const READY: usize = 5;
 // The DLL machine.
 const DLL: usize = 6;
-// The counters, three words each: cumulative count, level, threshold.
+// The counters, four words each: cumulative count, level, threshold, count of crossings.
 const COLLISION: usize = 7;
 
-const LOSS_OF_SOC: usize = 10;
+const LOSS_OF_SOC: usize = 11;
 
-const LOSS_OF_SOA: usize = 13;
+const LOSS_OF_SOA: usize = 15;
 
-const LOSS_OF_PREQ: usize = 16;
+const LOSS_OF_PREQ: usize = 19;
 
-const SOC_JITTER: usize = 19;
+const SOC_JITTER: usize = 23;
 
-const CRC: usize = 22;
+const CRC: usize = 27;
 
-const HEARTBEAT_TIMEOUT: usize = 25;
+const HEARTBEAT_TIMEOUT: usize = 31;
 
-const LOSS_OF_LINK: usize = 28;
+const LOSS_OF_LINK: usize = 35;
 // The watch over the cycle.
-const LAST_SOC: usize = 30;
+const LAST_SOC: usize = 36;
 
-const LAST_SOC_HIGH: usize = 31;
+const LAST_SOC_HIGH: usize = 37;
 
-const DEADLINE: usize = 32;
+const DEADLINE: usize = 38;
 
-const DEADLINE_HIGH: usize = 33;
+const DEADLINE_HIGH: usize = 39;
 
-const CHECK: usize = 34;
+const CHECK: usize = 40;
 
-const DUE: usize = 35;
+const DUE: usize = 41;
 
-const CHANGED: usize = 36;
+const CHANGED: usize = 42;
 // The dictionary values.
-const REGISTER: usize = 37;
+const REGISTER: usize = 43;
 
-const HAS_CYCLE: usize = 38;
+const HAS_CYCLE: usize = 44;
 
-const CYCLE: usize = 39;
+const CYCLE: usize = 45;
 
-const HAS_TOLERANCE: usize = 40;
+const HAS_TOLERANCE: usize = 46;
 
-const TOLERANCE: usize = 41;
+const TOLERANCE: usize = 47;
 
-const COUNTER_1: usize = 42;
+const COUNTER_1: usize = 48;
 
-const COUNTER_2: usize = 43;
+const COUNTER_2: usize = 49;
 
-const COUNTER_3: usize = 44;
+const COUNTER_3: usize = 50;
 
-const COUNTER_5: usize = 45;
+const COUNTER_5: usize = 51;
 // The places of the queue.
-const OLDEST: usize = 46;
+const OLDEST: usize = 52;
 
-const QUEUED: usize = 47;
+const QUEUED: usize = 53;
 
-const CAPACITY: usize = 48;
+const CAPACITY: usize = 54;
 // The places of the history.
-const NEWEST: usize = 49;
+const NEWEST: usize = 55;
 
-const COUNT: usize = 50;
+const COUNT: usize = 56;
 
 // Lent as a slice, the words say how many they are.
 fn counted(words: &[u32])
-    requires { ⌜ length (now words) ≡ 52 ⌝ }
-    ensures { λ _. ⌜ length (now (words .entry)) ≡ 52 ⌝ }
+    requires { ⌜ length (now words) ≡ 58 ⌝ }
+    ensures { λ _. ⌜ length (now (words .entry)) ≡ 58 ⌝ }
 {}
 
-// What the proof of a caller that writes needs: a head has 52 words. No instruction is made of it.
+// What the proof of a caller that writes needs: a head has 58 words. No instruction is made of it.
 pub fn whole(head: &Head)
-    ensures { λ _. ⌜ length (now (head .entry)) ≡ 52 ⌝ }
+    ensures { λ _. ⌜ length (now (head .entry)) ≡ 58 ⌝ }
 {
     counted(head);
 }
@@ -209,7 +209,7 @@ pub fn set_dll(head: &mut Head, machine: DllCsStateMachine)
 }
 
 fn place_of(kind: CounterKind) -> usize
-    ensures { λ r. ⌜ (r ≡ at.counter kind) × (r ≤ 25) ⌝ }
+    ensures { λ r. ⌜ (r ≡ at.counter kind) × (r ≤ 31) ⌝ }
 {
     match kind {
         CounterKind::Collision => COLLISION,
@@ -231,6 +231,7 @@ pub fn counter_of(head: &Head, kind: CounterKind) -> ThresholdCounter
         cumulative_cnt: head[place],
         threshold_cnt: head[place + 1],
         threshold: head[place + 2],
+        crossings_cnt: head[place + 3],
     }
 }
 
@@ -241,6 +242,7 @@ pub fn set_counter(head: &mut Head, kind: CounterKind, counter: ThresholdCounter
     let place = place_of(kind);
     head[place] = counter.cumulative_cnt;
     head[place + 1] = counter.threshold_cnt;
+    head[place + 3] = counter.crossings_cnt;
 }
 
 pub fn links_of(head: &Head) -> u32
@@ -449,9 +451,9 @@ pub fn timeout_of(head: &Head) -> u32
 
 // Every word 0.
 pub fn clear(head: &mut Head)
-    ensures { λ _. ⌜ now (head .exit) ≡ replicate 52 0 ⌝ }
+    ensures { λ _. ⌜ now (head .exit) ≡ replicate 58 0 ⌝ }
 {
-    *head = [0; 52];
+    *head = [0; 58];
 }
 
 // What start gives the NMT machine, and no event changes.
@@ -476,7 +478,7 @@ pub fn set_thresholds(head: &mut Head, errors: CnErrorCounters)
 }
 
 fn object_place(object: Object) -> usize
-    ensures { λ r. ⌜ (r ≡ at.object object) × (r ≤ 40) ⌝ }
+    ensures { λ r. ⌜ (r ≡ at.object object) × (r ≤ 46) ⌝ }
 {
     match object {
         Object::CycleTime => HAS_CYCLE,
@@ -503,7 +505,7 @@ pub fn set_object(head: &mut Head, object: Object, value: ObjectValue)
 }
 
 fn statistic_place(statistic: Statistic) -> usize
-    ensures { λ r. ⌜ (r ≡ at.statistic statistic) × (r ≤ 45) ⌝ }
+    ensures { λ r. ⌜ (r ≡ at.statistic statistic) × (r ≤ 51) ⌝ }
 {
     match statistic {
         Statistic::Counter1 => COUNTER_1,

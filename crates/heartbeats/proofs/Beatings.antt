@@ -210,7 +210,7 @@ number-small ns k few h i inside =
     small (getD ns (3 * i) 0) (both-left (isNode (getD ns (3 * i) 0)) _ (sym (ap fits w) ∙ f))
 
 -- the error of one late node
-module _ (ws : List ℕ) (long : length ws ≡ 52) (n : ℕ) (r : ErrorTaken) (e : r ≡ replied (handled (errorsOf ws) (HeartbeatTimeout (node n)))) (ws₁ : List ℕ) (e₁ : ws₁ ≡ effectWords ws (effect (HeartbeatTimeout (node n)))) (a : Bool) (z : a ≡ acts (r .action)) (f : Dealt) (ws′ : List ℕ) where
+module _ (ws : List ℕ) (long : length ws ≡ 58) (n : ℕ) (r : ErrorTaken) (e : r ≡ replied (handled (errorsOf ws) (HeartbeatTimeout (node n)))) (ws₁ : List ℕ) (e₁ : ws₁ ≡ effectWords ws (effect (HeartbeatTimeout (node n)))) (a : Bool) (z : a ≡ acts (r .action)) (f : Dealt) (ws′ : List ℕ) where
   module _ (w : WatchedNode) (x : w .node ≡ n) where
     abbrev R : HandledError
     R = handled (errorsOf ws) (timeoutOf w)

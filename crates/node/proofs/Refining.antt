@@ -70,11 +70,11 @@ in-place ws c a k to known ws′ x e f w =
     record { refines = y .0; places = y .1; words = w ∙ sym f }
 
 -- the machine's part is written, and there are as many words as before
-nmt-long : (ws : List ℕ) → length ws ≡ 52 → (m : CnNmtStateMachine) → length (nmtWritten ws m) ≡ 52
+nmt-long : (ws : List ℕ) → length ws ≡ 58 → (m : CnNmtStateMachine) → length (nmtWritten ws m) ≡ 58
 nmt-long ws long m = length-set (set (set ws at.state _) at.enabled _) at.ready _ ∙ length-set (set ws at.state _) at.enabled _ ∙ length-set ws at.state _ ∙ long
 
 -- a reset forgets, in words
-reset-written : (b : Bool) (ws : List ℕ) → length ws ≡ 52 → headOf (resetWords b ws) ≡ forgetting-if b (headOf ws)
+reset-written : (b : Bool) (ws : List ℕ) → length ws ≡ 58 → headOf (resetWords b ws) ≡ forgetting-if b (headOf ws)
 reset-written true ws long = forgotten-written ws long
 reset-written false ws long = refl
 
@@ -178,7 +178,7 @@ module _ (ws : List ℕ) where
   handled-by e x r ws′ h a b =
       (a ∙ ap (λ (x : Counters.Effect). replied (Counters.handledAs x (errorsOf ws) e)) (sym h), b ∙ ap (effectWords ws) (sym h))
 
-  module _ (long : length ws ≡ 52) where
+  module _ (long : length ws ≡ 58) where
     pub effect-written :
         (x : Counters.Effect) (e : DllError) →
         headOf (effectWords ws x) ≡ with-errors (headOf ws) (Counters.handledAs x (errorsOf ws) e .counters)
@@ -217,7 +217,7 @@ module _ (ws : List ℕ) where
   pub arm-no : (t : ℕ) → inTime t ≡ false → InPlace ws (arm t) (refused 5) ws (armWords ws t)
   arm-no t e = unwritten ws (arm t) _ _ (arm-refused (headOf ws) t e) (ap (λ (b : Bool). pick b (socWritten ws (armed (socOf ws) (odOf ws) t)) ws) e)
 
-  module _ (long : length ws ≡ 52) (ws′ : List ℕ) where
+  module _ (long : length ws ≡ 58) (ws′ : List ℕ) where
     pub withdraw-yes :
         sameState (stateOf (word ws at.state)) NmtReadyToOperate ≡ false →
         ws′ ≡ set ws at.ready (one false) →

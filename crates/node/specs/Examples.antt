@@ -88,34 +88,34 @@ values r a b c e =
       «counter_5» = e;
     }
 
--- count and level of LossOfSoc, and of HeartbeatTimeout; those of the other kinds are 0
-abbrev pub countersOf : ℕ → ℕ → ℕ → ℕ → CnErrorCounters
-countersOf socs soc beats beat =
+-- occurrences, crossings and level of LossOfSoc, occurrences and level of HeartbeatTimeout; the other numbers are 0
+abbrev pub countersOf : ℕ → ℕ → ℕ → ℕ → ℕ → CnErrorCounters
+countersOf socs crossings soc beats beat =
     record {
-      collision = counterOf 0 0 15;
-      «loss_of_soc» = counterOf socs soc 15;
-      «loss_of_soa» = counterOf 0 0 15;
-      «loss_of_preq» = counterOf 0 0 15;
-      «soc_jitter» = counterOf 0 0 15;
-      «crc_errors» = counterOf 0 0 15;
-      «heartbeat_timeout» = counterOf beats beat 15;
+      collision = counterOf 0 0 15 0;
+      «loss_of_soc» = counterOf socs soc 15 crossings;
+      «loss_of_soa» = counterOf 0 0 15 0;
+      «loss_of_preq» = counterOf 0 0 15 0;
+      «soc_jitter» = counterOf 0 0 15 0;
+      «crc_errors» = counterOf 0 0 15 0;
+      «heartbeat_timeout» = counterOf beats beat 15 0;
       «loss_of_link_cumulative» = 0;
     }
 
 -- without a cycle yet: DLL NonCyclic, levels and counts 0, check off
 abbrev pub resting : NmtState → Bool → Bool → Plain
 resting s enabled ready =
-    plainOf (machine s enabled ready) NonCyclic (countersOf 0 0 0 0) (socWatch 0 false Nothing false) (values 0 0 0 0 0) 1 [] []
+    plainOf (machine s enabled ready) NonCyclic (countersOf 0 0 0 0 0) (socWatch 0 false Nothing false) (values 0 0 0 0 0) 1 [] []
 
 -- Operational, DLL NonCyclic, with these counters
 abbrev pub counting : CnErrorCounters → Plain
 counting e =
     plainOf (machine NmtOperational false true) NonCyclic e (socWatch 0 false Nothing false) (values 0 0 0 0 0) 1 [] []
 
--- Operational, WaitSoc, check on, last SoC 10,000, a deadline; the level of LossOfSoc, and counter 1
+-- Operational, WaitSoc, check on, last SoC 10,000, a deadline; the level of LossOfSoc, and its occurrences, which are counter 1
 abbrev pub cycling : ℕ → ℕ → ℕ → Plain
 cycling deadline level lost =
-    plainOf (machine NmtOperational false true) WaitSoc (countersOf 0 level 0 0) (socWatch 10000 true (At deadline) false)
+    plainOf (machine NmtOperational false true) WaitSoc (countersOf lost 0 level 0 0) (socWatch 10000 true (At deadline) false)
     (values 0 lost 0 0 0) 1 [] []
 
 -- what is to come: the state's number, the head, the answer
@@ -212,21 +212,21 @@ abbrev pub asksReset : Answer
 asksReset = errorAnswer action.ResetCommunication true (error.LossOfSoc ∷ [])
 
 abbrev firstLoss : Coming
-firstLoss = counts 0xFD (counting (countersOf 0 8 0 0)) quiet (given LossOfSoc ∷ []) [] (8 ∷ [])
+firstLoss = counts 0xFD (counting (countersOf 1 0 8 0 0)) quiet (given LossOfSoc ∷ []) [] (8 ∷ [])
 
 abbrev lowers : ℕ → Coming
-lowers level = counts 0xFD (counting (countersOf 0 level 0 0)) (cycleAnswer false) (drained LossOfSoc ∷ []) [] []
+lowers level = counts 0xFD (counting (countersOf 1 0 level 0 0)) (cycleAnswer false) (drained LossOfSoc ∷ []) [] []
 
 -- "Two SoC losses, one cycle between: 15, crossing."
 abbrev pub oneBetween : Example
 oneBetween =
     record {
-      before = counting (countersOf 0 0 0 0);
+      before = counting (countersOf 0 0 0 0 0);
       calls = error 6 0 0 ∷ cycleComplete ∷ error 6 0 0 ∷ [];
       after =
           firstLoss ∷
           lowers 7 ∷
-          counts 0xFD (counting (countersOf 1 0 0 0)) asksReset (given LossOfSoc ∷ crossed LossOfSoc ∷ []) [] (15 ∷ []) ∷
+          counts 0xFD (counting (countersOf 2 1 0 0 0)) asksReset (given LossOfSoc ∷ crossed LossOfSoc ∷ []) [] (15 ∷ []) ∷
           [];
     }
 
@@ -234,13 +234,13 @@ oneBetween =
 abbrev pub twoBetween : Example
 twoBetween =
     record {
-      before = counting (countersOf 0 0 0 0);
+      before = counting (countersOf 0 0 0 0 0);
       calls = error 6 0 0 ∷ cycleComplete ∷ cycleComplete ∷ error 6 0 0 ∷ [];
       after =
           firstLoss ∷
           lowers 7 ∷
           lowers 6 ∷
-          counts 0xFD (counting (countersOf 0 14 0 0)) quiet (given LossOfSoc ∷ []) [] (14 ∷ []) ∷
+          counts 0xFD (counting (countersOf 2 0 14 0 0)) quiet (given LossOfSoc ∷ []) [] (14 ∷ []) ∷
           [];
     }
 
@@ -286,7 +286,7 @@ crossingTick =
       all =
           record {
             head =
-                plainOf (machine NmtPreOperational1 false true) WaitSoc (countersOf 1 0 0 0) (socWatch 10000 false Nothing true)
+                plainOf (machine NmtPreOperational1 false true) WaitSoc (countersOf 2 1 0 0 0) (socWatch 10000 false Nothing true)
                 (values 1 2 1 0 1) 1 (entry ∷ []) (entry ∷ []);
             answer = tickAnswer (error.LossOfSoc ∷ []);
             lent = [];
@@ -310,12 +310,12 @@ watching t = watchedNode 5 50 t ∷ []
 abbrev pub late : Example
 late =
     record {
-      before = counting (countersOf 0 0 0 0);
+      before = counting (countersOf 0 0 0 0 0);
       calls = heard 5 100 (watching 0) ∷ tick 150 (watching 100) ∷ tick 151 (watching 100) ∷ [];
       after =
-          leaves 0xFD (counting (countersOf 0 0 0 0)) taken (watching 100) [] ∷
-          leaves 0xFD (counting (countersOf 0 0 0 0)) (tickAnswer []) (watching 100) [] ∷
-          leaves 0xFD (counting (countersOf 0 0 0 8)) (tickAnswer []) (watching 151) (given HeartbeatTimeout ∷ []) ∷
+          leaves 0xFD (counting (countersOf 0 0 0 0 0)) taken (watching 100) [] ∷
+          leaves 0xFD (counting (countersOf 0 0 0 0 0)) (tickAnswer []) (watching 100) [] ∷
+          leaves 0xFD (counting (countersOf 0 0 0 1 8)) (tickAnswer []) (watching 151) (given HeartbeatTimeout ∷ []) ∷
           [];
     }
 

@@ -21,7 +21,7 @@ fn main() {
     let mut text = [0u8; 16384];
     let mut given = [0u64; 11];
     let mut bytes = [0u8; 6000];
-    let mut head = [0u32; 52];
+    let mut head = [0u32; 58];
     let mut queue = [0u8; 640];
     let mut history = [0u8; 5080];
     let mut nodes = [0u64; 96];

@@ -185,6 +185,24 @@ fn show_run(out: &mut Buffer, nodes: &NodeWords, rest: &Rest, count: usize) {
     say(out, b")\n")
 }
 
+// The crossings of each of the seven kinds, in the order of their lines.
+fn show_crossings(out: &mut Buffer, head: &Head) {
+    let counters = errors_of(head);
+    say_form(
+        out,
+        b"(crossings # # # # # # #)\n",
+        &[
+            wide(counters.collision.crossings_cnt),
+            wide(counters.loss_of_soc.crossings_cnt),
+            wide(counters.loss_of_soa.crossings_cnt),
+            wide(counters.loss_of_preq.crossings_cnt),
+            wide(counters.soc_jitter.crossings_cnt),
+            wide(counters.crc_errors.crossings_cnt),
+            wide(counters.heartbeat_timeout.crossings_cnt),
+        ],
+    )
+}
+
 pub(crate) fn show(
     out: &mut Buffer,
     head: &Head,
@@ -200,5 +218,6 @@ pub(crate) fn show(
     show_dictionary(out, head);
     show_queue(out, head, queue);
     show_history(out, head, history);
-    show_run(out, nodes, rest, count)
+    show_run(out, nodes, rest, count);
+    show_crossings(out, head)
 }

@@ -59,7 +59,7 @@ pub fresh-is :
     (n : NodeId) (f : FeatureFlags) (t k : ℕ) (o : Dictionary) (m : CnNmtStateMachine) (s : CnErrorCounters) (w₀ w₁ w₂ w₃ w₄ w₅ : List ℕ) →
     m ≡ Nmt.newMachine n f t →
     s ≡ newCounters →
-    w₀ ≡ replicate 52 0 →
+    w₀ ≡ replicate 58 0 →
     w₁ ≡ nmtWritten w₀ m →
     w₂ ≡ identityWritten w₁ m →
     w₃ ≡ thresholdsWritten w₂ s →
@@ -69,8 +69,8 @@ pub fresh-is :
     (headOf w₅ ≡ freshHead n f t k o) × (w₅ ≡ freshWords n f t k o)
 unfolding freshWords
 fresh-is n f t k o m s w₀ w₁ w₂ w₃ w₄ w₅ em es e₀ e₁ e₂ e₃ e₄ e₅ x y z =
-    let a : w₁ ≡ nmtWritten (replicate 52 0) (Nmt.newMachine n f t) = e₁ ∙ (λ i. nmtWritten (e₀ i) (em i)) in
-    let b : w₂ ≡ identityWritten (nmtWritten (replicate 52 0) (Nmt.newMachine n f t)) (Nmt.newMachine n f t) = e₂ ∙ (λ i. identityWritten (a i) (em i)) in
+    let a : w₁ ≡ nmtWritten (replicate 58 0) (Nmt.newMachine n f t) = e₁ ∙ (λ i. nmtWritten (e₀ i) (em i)) in
+    let b : w₂ ≡ identityWritten (nmtWritten (replicate 58 0) (Nmt.newMachine n f t)) (Nmt.newMachine n f t) = e₂ ∙ (λ i. identityWritten (a i) (em i)) in
     let c = e₃ ∙ (λ i. thresholdsWritten (b i) (es i)) in
     let d : w₅ ≡ freshWords n f t k o = e₅ ∙ ap (λ (l : List ℕ). set l at.capacity k) (e₄ ∙ ap (λ (l : List ℕ). odWritten l o) c) in
     (ap headOf d ∙ fresh-written n f t k o x y z, d)

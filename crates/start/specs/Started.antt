@@ -64,10 +64,10 @@ pub record Begins (s : Start) (a : CallAnswer) (h : Head) (l : List WatchedNode)
   pub begun : (q m : List ℕ) → begunBy a h q m ≡ started s .begun
   pub lent : l ≡ started s .lent
 
--- all 52 words, from the arguments alone: those that no part names are 0
+-- all 58 words, from the arguments alone: those that no part names are 0
 unfoldable pub freshWords : NodeId → FeatureFlags → ℕ → ℕ → Dictionary → List ℕ
 freshWords n f t c o =
-    set (odWritten (thresholdsWritten (identityWritten (nmtWritten (replicate 52 0) (Nmt.newMachine n f t)) (Nmt.newMachine n f t)) newCounters) o)
+    set (odWritten (thresholdsWritten (identityWritten (nmtWritten (replicate 58 0) (Nmt.newMachine n f t)) (Nmt.newMachine n f t)) newCounters) o)
     at.capacity c
 
 -- the last-heard words of the first so many nodes are 0

@@ -47,7 +47,7 @@ use Rattle.heartbeats.specs.PartsIn.{Turns, dealtOf, FinishesIn, TicksIn}
 use Rattle.tick.proofs.Turning.{counter1-turns, entry-read}
 
 -- the entry of a crossing
-module _ (ws : List ℕ) (long : length ws ≡ 52) where
+module _ (ws : List ℕ) (long : length ws ≡ 58) where
   abbrev P : Pushed
   P = pushed (queueOf ws)
 
@@ -125,7 +125,7 @@ module _ (ws : List ℕ) (long : length ws ≡ 52) where
         (z .0, z .1, w ∙ sym (ap entered (keeps false y)))
 
 -- one error of the SoC check
-module _ (ws : List ℕ) (long : length ws ≡ 52) (q m : List ℕ) (e : DllError) (t : ℕ) (quiet : isQuiet e ≡ true) (r : ErrorTaken) (same : r ≡ replied (handled (errorsOf ws) e)) (ws₁ : List ℕ) (there : ws₁ ≡ effectWords ws (effect e)) (long₁ : length ws₁ ≡ 52) (ws₂ : List ℕ) (count : ws₂ ≡ set ws₁ at.counter1 (oneMore (word ws₁ at.counter1))) (a : Bool) (z : a ≡ acts (r .action)) (f : Dealt) (ws′ : List ℕ) where
+module _ (ws : List ℕ) (long : length ws ≡ 58) (q m : List ℕ) (e : DllError) (t : ℕ) (quiet : isQuiet e ≡ true) (r : ErrorTaken) (same : r ≡ replied (handled (errorsOf ws) e)) (ws₁ : List ℕ) (there : ws₁ ≡ effectWords ws (effect e)) (long₁ : length ws₁ ≡ 58) (ws₂ : List ℕ) (count : ws₂ ≡ set ws₁ at.counter1 (oneMore (word ws₁ at.counter1))) (a : Bool) (z : a ≡ acts (r .action)) (f : Dealt) (ws′ : List ℕ) where
   abbrev R : HandledError
   R = handled (errorsOf ws) e
 

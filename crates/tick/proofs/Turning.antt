@@ -48,7 +48,7 @@ EntryRead n o l a b ws =
     ≡ ofParts (headOf ws .nmt) (headOf ws .dll) (headOf ws .errors) (headOf ws .soc)
     (statistics (odOf ws) (odOf ws .«counter_1») n (odOf ws .«counter_3»)) (queue (o % 256) (l % 256) (word ws at.capacity % 256)) (errorHistory (a % 256) (b % 256))
 
-module _ (ws : List ℕ) (long : length ws ≡ 52) where
+module _ (ws : List ℕ) (long : length ws ≡ 58) where
   off-read : OffRead ws
   unfolding headOf
   off-read = whole OffRead ws long refl

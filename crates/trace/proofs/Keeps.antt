@@ -9,7 +9,7 @@ use lib.Dec.{lit<, lit≤}
 use lib.ListN.{length, length-append}
 use Rattle.types.specs.Pick.{either}
 use Rattle.counters.specs.Counters.{counter, newCounter, top}
-use Rattle.counters.specs.Marks.{isCrossed, isCrossing, countOf, level, N}
+use Rattle.counters.specs.Marks.{isCrossing, countOf, level, E, N}
 use Rattle.counters.specs.declared.counters.CounterKind.{CounterKind}
 use Rattle.counters.proofs.ByKind.{counter-new}
 use Rattle.counters.proofs.Balance.{Balanced, balanced-none, balanced-then, FromZero, from-zero, count-append}
@@ -23,14 +23,14 @@ use Rattle.trace.specs.Claim.{Merge, empty, Each, tallied, Claim}
 use Rattle.trace.proofs.Modes.{mode, mode-word, mode-enabled, mode-ready}
 use Rattle.trace.proofs.Visits.{enabled-before, word-before}
 use Rattle.trace.proofs.Queues.{merge-queued}
-use Rattle.counters.proofs.Counts.{Rises, rises-none, rises-then}
+use Rattle.counters.proofs.Counts.{Rises, rises-none, rises-then, Count, occurrence-count, crossing-count}
 use Rattle.trace.proofs.Shares.{Shares, shares, rule}
 
 -- of the head p and what was counted since a start at which counter 3 was lost₀
 pub record Kept (lost₀ : ℕ) (p : Plain) (z : Tally) : Type 0 where
   pub told : mode (p .nmt) (z .told) ≡ true
   pub balance : (k : CounterKind) → Balanced 15 k (newCounter 15) (z .marks) (counter k (p .errors))
-  pub count : (k : CounterKind) → Rises 0 (N k (z .marks)) (counter k (p .errors) .«cumulative_cnt»)
+  pub count : (x : Count) (k : CounterKind) → Rises (x .read (newCounter 15)) (countOf (x .of-kind k) (z .marks)) (x .read (counter k (p .errors)))
   pub crossings : length (z .crossings) ≡ countOf isCrossing (z .checked)
   pub entries : Merge (z .crossings) (z .handed ++ p .queue) (z .dropped)
   pub lost :
@@ -57,7 +57,7 @@ kept-by lost₀ p z c t s i =
     record {
       told = s .told (z .told) (i .told);
       balance = λ k. balanced-then (i .balance k) (s .counts .balance k (i .balance k .kept));
-      count = λ k. rw (count-append (isCrossed k) (z .marks) (t .marks)) (rises-then (i .count k) (s .counts .count k));
+      count = λ x k. rw (count-append (x .of-kind k) (z .marks) (t .marks)) (rises-then (i .count x k) (s .counts .count x k));
       crossings =
           length-append (z .crossings) (t .crossings)
           ∙ ap₂ (λ (m n : ℕ). m + n) (i .crossings) (s .crossed)
@@ -86,7 +86,7 @@ starts s =
     record {
       told = refl;
       balance = λ k. rw (counter-new k) (balanced-none 15 k (newCounter 15) refl);
-      count = λ k. rw (counter-new k) (rises-none 0);
+      count = λ x k. rw (counter-new k) (rises-none (x .read (newCounter 15)));
       crossings = refl;
       entries = empty;
       lost = λ l b. omega arith;
@@ -103,6 +103,7 @@ pub claimed :
     plain h q m ≡ stepAll (fresh s) cs →
     says ≡ saidAll (fresh s) cs →
     Claim s cs says h q m
+unfolding occurrence-count crossing-count
 claimed s cs says h q m alike answered =
     let k : Kept (s .od .«counter_3») (plain h q m) (tallied s cs) =
     subst (λ (p : Plain). Kept (s .od .«counter_3») p (tallied s cs)) (sym alike)
@@ -123,7 +124,8 @@ claimed s cs says h q m alike answered =
           λ j.
           let z : FromZero 15 j (tallied s cs .marks) (level j (h .errors)) = from-zero (lit< tt) (lit≤ tt) refl (k .balance j) in
           record { low = z .low; high = z .high };
-      crossed = λ j b. let r = k .count j .risen b in omega arith;
+      crossed = λ j b. let r : counter j (h .errors) .«crossings_cnt» ≡ 0 + N j (tallied s cs .marks) = k .count crossing-count j .risen b in omega arith;
+      occurred = λ j b. let r : counter j (h .errors) .«cumulative_cnt» ≡ 0 + E j (tallied s cs .marks) = k .count occurrence-count j .risen b in omega arith;
       crossings = k .crossings;
       entries = k .entries;
       each = each (fresh s) cs;

@@ -78,11 +78,15 @@ pub record Claim (s : Start) (cs : List Call) (says : List Said) (h : Head) (q m
   -- "For each kind with a threshold, with E errors counted, N crossings of the threshold, D cycles drained and level L:
   -- 15N + L + D ≤ 8E ≤ 22N + L + D."
   pub balance : (k : CounterKind) → Balance k (tallied s cs .marks) (level k (h .errors))
-  -- N is the cumulative count, which stops at the 32-bit top
+  -- Document 02, No. 3: "A reader of the third demand takes N from the crossings and E from the cumulative count, while neither has reached the 32-bit top."
   pub crossed :
       (k : CounterKind) →
+      counter k (h .errors) .«crossings_cnt» < top →
+      counter k (h .errors) .«crossings_cnt» ≡ N k (tallied s cs .marks)
+  pub occurred :
+      (k : CounterKind) →
       counter k (h .errors) .«cumulative_cnt» < top →
-      counter k (h .errors) .«cumulative_cnt» ≡ N k (tallied s cs .marks)
+      counter k (h .errors) .«cumulative_cnt» ≡ E k (tallied s cs .marks)
   -- "Crossings at a tick's SoC check = entries handed out + waiting + dropped, each crossing and nothing else once, the kept
   -- ones in order;"
   -- a crossing is one that reached the threshold: as many as the N of the errors dealt with at the SoC check

@@ -22,4 +22,4 @@ counting-spec =
     let v6 = v4 .before .before in
     let v8 = v6 .before .before in
     let v9 = v8 .before in
-    counting-stands (v9 .args .socs) (v9 .args .soc) (v9 .args .beats) (v9 .args .beat) _ (rw (c .set-counter2 .ensures, v1 .counter2 .ensures, v3 .set-counter .ensures, v4 .counter .ensures, v6 .write .ensures, v8 .values .ensures))))
+    counting-stands (v9 .args .socs) (v9 .args .crossings) (v9 .args .soc) (v9 .args .beats) (v9 .args .beat) _ (rw (c .set-counter2 .ensures, v1 .counter2 .ensures, v3 .set-counter .ensures, v4 .counter .ensures, v6 .write .ensures, v8 .values .ensures))))

@@ -14,4 +14,7 @@ set-counter-spec =
     (λ c. search needs)
     (λ c. search needs)
     (λ c. search needs)
+    (λ c. search needs)
+    (λ c. search needs)
+    (λ c. search needs)
     (λ c. rw (c .place-of .ensures .0)))

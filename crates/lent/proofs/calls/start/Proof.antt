@@ -33,7 +33,7 @@ unfolding code.routine tablesOf
 start-spec 𝓤 H 𝓜 𝓖 𝓡 =
     entered 𝓤 H (tripleOf 𝓤 H (𝓖 .A) f.signature (f.spec 𝓤 H (𝓖 .A) (𝓜 .mem) (𝓡 .run)))
     (tables 𝓤 H 𝓜 𝓡 code.env .C) (tables 𝓤 H 𝓜 𝓡 code.env .Λ) f-key.name code.function (code.unfolded 𝓤 H 𝓜 𝓡)
-    (meets node findings setting call-answer word8 flags word32 word64 dictionary call-parts (Array u32 52) (tyArray (tyInt w32) 52) forStart foundAll Starts (λ s vs. map (settled s) vs) StartedOn (λ vs ws n f t c o s r ws′ e judged. judged vs e)
+    (meets node findings setting call-answer word8 flags word32 word64 dictionary call-parts (Array u32 58) (tyArray (tyInt w32) 58) forStart foundAll Starts (λ s vs. map (settled s) vs) StartedOn (λ vs ws n f t c o s r ws′ e judged. judged vs e)
     ask-def.name survey-def.name judge-def.name settle-def.name 𝓤 H (𝓖 .A) (givenOf 𝓤 H 𝓜 𝓖) (tablesOf 𝓤 H 𝓜 (tables 𝓤 H 𝓜 𝓡 code.env))
     (cited 𝓤 H (tripleOf 𝓤 H (𝓖 .A) ask.signature (ask.spec 𝓤 H (𝓖 .A) (𝓜 .mem) (𝓡 .run))) 𝓜 𝓡 code.env ask-def.name ask-def.routine code.calls-lent·run·for-start (ask-thm.met 𝓤 H 𝓜 𝓖 𝓡))
     (cited 𝓤 H (tripleOf 𝓤 H (𝓖 .A) survey.signature (survey.spec 𝓤 H (𝓖 .A) (𝓜 .mem) (𝓡 .run))) 𝓜 𝓡 code.env survey-def.name survey-def.routine code.calls-lent·run·survey (survey-thm.met 𝓤 H 𝓜 𝓖 𝓡))

@@ -33,7 +33,7 @@ unfolding code.routine tablesOf
 process-tick-spec 𝓤 H 𝓜 𝓖 𝓡 =
     entered 𝓤 H (tripleOf 𝓤 H (𝓖 .A) f.signature (f.spec 𝓤 H (𝓖 .A) (𝓜 .mem) (𝓡 .run)))
     (tables 𝓤 H 𝓜 𝓡 code.env .C) (tables 𝓤 H 𝓜 𝓡 code.env .Λ) f-key.name code.function (code.unfolded 𝓤 H 𝓜 𝓡)
-    (meets node findings setting tick-answer word64 tick-parts (Array u32 52) (Array u8 640) (Array u8 5080) (tyArray (tyInt w32) 52) (tyArray (tyInt w8) 640) (tyArray (tyInt w8) 5080) forTick foundAll TicksBy (λ s vs. map (settled s) vs) TickedOn (λ vs ws q m t s r ws′ q′ m′ e judged. judged vs e)
+    (meets node findings setting tick-answer word64 tick-parts (Array u32 58) (Array u8 640) (Array u8 5080) (tyArray (tyInt w32) 58) (tyArray (tyInt w8) 640) (tyArray (tyInt w8) 5080) forTick foundAll TicksBy (λ s vs. map (settled s) vs) TickedOn (λ vs ws q m t s r ws′ q′ m′ e judged. judged vs e)
     ask-def.name survey-def.name judge-def.name settle-def.name 𝓤 H (𝓖 .A) (givenOf 𝓤 H 𝓜 𝓖) (tablesOf 𝓤 H 𝓜 (tables 𝓤 H 𝓜 𝓡 code.env))
     (cited 𝓤 H (tripleOf 𝓤 H (𝓖 .A) ask.signature (ask.spec 𝓤 H (𝓖 .A) (𝓜 .mem) (𝓡 .run))) 𝓜 𝓡 code.env ask-def.name ask-def.routine code.calls-lent·run·for-tick (ask-thm.met 𝓤 H 𝓜 𝓖 𝓡))
     (cited 𝓤 H (tripleOf 𝓤 H (𝓖 .A) survey.signature (survey.spec 𝓤 H (𝓖 .A) (𝓜 .mem) (𝓡 .run))) 𝓜 𝓡 code.env survey-def.name survey-def.routine code.calls-lent·run·survey (survey-thm.met 𝓤 H 𝓜 𝓖 𝓡))

@@ -9,4 +9,5 @@ increment-spec =
     tie.close
     (tie.spec
     (λ c κs. search needs)
-    (λ c. rw (c .saturating-add .ensures)))
+    (λ c κs. search needs)
+    (λ c. rw (c .before .saturating-add .ensures, c .saturating-add2 .ensures)))
