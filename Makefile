@@ -6,10 +6,11 @@
 #               calls, some minutes (needs cargo and the Rust source; 'make compare SEEDS="1 2" CALLS=200000' makes fewer);
 #               before that it drives the lent forms of nodes and counter beside the other ones (compare/lent.sh, which needs the kit alone)
 # make compare-oracle  replays and generates call scripts on the original Rust (the same needs)
+# make wireshark  compares the bytes of entries, and the numbers of NMT states and commands, with what Wireshark reads (needs tshark)
 
 SHELL := bash
 .SHELLFLAGS := -euo pipefail -c
-.PHONY: run incident replay test compare compare-oracle
+.PHONY: run incident replay test compare compare-oracle wireshark
 
 replay:
 	@mkdir -p target
@@ -43,3 +44,8 @@ compare:
 
 compare-oracle:
 	@compare/oracle.sh
+
+wireshark:
+	@compare/wireshark.py --needs
+	@$(MAKE) --no-print-directory replay
+	@compare/wireshark.py

@@ -64,11 +64,11 @@ compare_stored() {
     rm "$work/$name".*
 }
 
-# Compares the two on the script that the seed $1 gives.
+# Compares the two on the script that the seed $1 gives; with the word $2 behind it, on the script of that kind.
 compare_generated() {
-    local file="$work/$1" made lines
-    "$oracle" generate "$1" "$calls" >"$file.txt" 2>"$file.coverage" || {
-        echo "Seed $1: the script could not be generated as it should be:" >&2
+    local file="$work/$1${2:+-$2}" made lines
+    "$oracle" generate "$1" "$calls" ${2:+"$2"} >"$file.txt" 2>"$file.coverage" || {
+        echo "Seed $1${2:+, $2}: the script could not be generated as it should be:" >&2
         tail -n 20 "$file.coverage" >&2
         exit 1
     }
@@ -76,7 +76,7 @@ compare_generated() {
     made=$(sed -n 's/^Calls in all: //p' "$file.coverage")
     lines=$(wc -l <"$file.oracle")
     echo "Lines of output: $lines" >>"$file.coverage"
-    echo "Seed $1: $made calls, $(wc -l <"$file.txt") lines of script; the $lines lines of replay are the Rust's."
+    echo "Seed $1${2:+, $2}: $made calls, $(wc -l <"$file.txt") lines of script; the $lines lines of replay are the Rust's."
     rm "$file.txt" "$file.oracle" "$file.replay"
 }
 
@@ -115,4 +115,6 @@ for job in "${running[@]}"; do
     wait "$job" || failed=1
 done
 [ -z "${failed:-}" ] || exit 1
+# The calls on the desk's buffer, which no call on a head looks at, have a script of their own.
+compare_generated "${seeds%% *}" desk
 echo "Compared $(sum 'Calls in all') generated calls, $(sum tick) of them ticks, and $(sum show) shows of the head: replay and the Rust print the same $(sum 'Lines of output') lines."

@@ -60,13 +60,32 @@ pub fn handed_out(entry: Option<ErrorEntry>) -> String {
     }])
 }
 
+/// What an entry holds.
+pub fn entry_fields(entry: &ErrorEntry) -> String {
+    let entry_type = &entry.entry_type;
+    named_form(
+        "entry",
+        [
+            format!("(status {})", entry_type.is_status_entry as u8),
+            format!("(queue {})", entry_type.send_to_queue as u8),
+            format!("(mode {})", entry_type.mode as u8),
+            format!("(profile {})", entry_type.profile),
+            format!("(code 0x{:04X})", entry.error_code),
+            format!("(seconds {})", entry.timestamp.seconds),
+            format!("(ns {})", entry.timestamp.nanoseconds),
+            format!("(additional {})", entry.additional_information),
+        ]
+        .into_iter(),
+    )
+}
+
 /// Two hexadecimal digits for each byte.
 fn digits(bytes: &[u8]) -> String {
     bytes.iter().map(|byte| format!("{byte:02X}")).collect()
 }
 
-/// The head and the lent run.
-pub fn show(head: &Head, run: &[Watched]) -> Vec<String> {
+/// The head, the lent run and the desk's buffer.
+pub fn show(head: &Head, run: &[Watched], desk: &[u8]) -> Vec<String> {
     let context = &head.context;
     let mut lines = vec![
         nmt(context),
@@ -80,6 +99,7 @@ pub fn show(head: &Head, run: &[Watched]) -> Vec<String> {
         named_form("history", dictionary::history(&context.core.od).map(digits)),
         named_form("watched", run.iter().map(watched)),
         crossings(context),
+        named_form("desk", (!desk.is_empty()).then(|| digits(desk)).into_iter()),
     ]);
     lines
 }

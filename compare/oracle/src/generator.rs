@@ -62,10 +62,10 @@ const REGISTERS: [u64; 6] = [0, 0, 1, 2, 0xFE, 0xFF];
 const UNNAMED: [u64; 8] = [19, 22, 23, 255, 256, 257, 1 << 32, u64::MAX];
 
 /// splitmix64.
-struct Random(u64);
+pub struct Random(pub u64);
 
 impl Random {
-    fn next(&mut self) -> u64 {
+    pub fn next(&mut self) -> u64 {
         self.0 = self.0.wrapping_add(0x9E37_79B9_7F4A_7C15);
         let mut x = self.0;
         x = (x ^ (x >> 30)).wrapping_mul(0xBF58_476D_1CE4_E5B9);
@@ -73,15 +73,15 @@ impl Random {
         x ^ (x >> 31)
     }
 
-    fn below(&mut self, limit: u64) -> u64 {
+    pub fn below(&mut self, limit: u64) -> u64 {
         self.next() % limit
     }
 
-    fn one_in(&mut self, limit: u64) -> bool {
+    pub fn one_in(&mut self, limit: u64) -> bool {
         self.below(limit) == 0
     }
 
-    fn pick<T: Copy>(&mut self, from: &[T]) -> T {
+    pub fn pick<T: Copy>(&mut self, from: &[T]) -> T {
         from[self.below(from.len() as u64) as usize]
     }
 }

@@ -9,9 +9,12 @@
 //!     oracle panics < SCRIPT       how many ticks number 6 refused; the original panics at each
 //!     oracle generate SEED CALLS   a generated script; its coverage on standard error
 //!     oracle generate SEED CALLS without-ticks   the same of the other calls
+//!     oracle generate SEED CALLS desk            a script of calls on the desk's buffer
 //!     oracle shortest              the shortest ways of the original to ReadyToOperate with an old ready word
 
 mod coverage;
+mod desk;
+mod desk_generator;
 mod dictionary;
 #[path = "../../driver/occurrences.rs"]
 mod occurrences;
@@ -37,10 +40,10 @@ use oracle::Oracle;
 use std::io::{self, BufWriter, Read, Write};
 use std::process::ExitCode;
 
-/// The number of calls that the minima of coverage.rs are made for.
+/// The number of calls that the minima of coverage.rs and desk_generator.rs are made for.
 const LONG: u64 = 200_000;
 
-const USAGE: &str = "usage: oracle [replay | original | restore | panics] < SCRIPT, or oracle generate SEED CALLS [without-ticks], or oracle shortest";
+const USAGE: &str = "usage: oracle [replay | original | restore | panics] < SCRIPT, or oracle generate SEED CALLS [without-ticks | desk], or oracle shortest";
 
 fn main() -> ExitCode {
     let arguments: Vec<String> = std::env::args().skip(1).collect();
@@ -55,6 +58,7 @@ fn main() -> ExitCode {
         ["generate", seed, calls, "without-ticks"] => {
             generate(seed, calls, Ticks::Without, &mut out)
         }
+        ["generate", seed, calls, "desk"] => generate_desk(seed, calls, &mut out),
         ["shortest"] => incident::shortest(&mut out),
         _ => Err(io::Error::other(USAGE)),
     };
@@ -78,20 +82,35 @@ fn replay(resets: Resets, out: &mut dyn Write) -> io::Result<()> {
 }
 
 fn generate(seed: &str, calls: &str, ticks: Ticks, out: &mut dyn Write) -> io::Result<()> {
-    let (Ok(seed), Ok(calls)) = (seed.parse(), calls.parse()) else {
-        return Err(io::Error::other(USAGE));
-    };
+    let (seed, calls) = seed_and_calls(seed, calls)?;
     let mut head = Oracle::new(Defaults::Without, Resets::Forget);
     let coverage = generator::generate(&mut head, seed, calls, ticks, out)?;
-    let mut errors = io::stderr().lock();
-    coverage.report(&mut errors)?;
-    // The minima are those of a long script; a short one can't meet them all.
-    let shortfalls = coverage.shortfalls();
+    coverage.report(&mut io::stderr().lock())?;
+    held(calls, &coverage.shortfalls())
+}
+
+fn generate_desk(seed: &str, calls: &str, out: &mut dyn Write) -> io::Result<()> {
+    let (seed, calls) = seed_and_calls(seed, calls)?;
+    let mut head = Oracle::new(Defaults::Without, Resets::Forget);
+    let reached = desk_generator::generate(&mut head, seed, calls, out)?;
+    reached.report(&mut io::stderr().lock())?;
+    held(calls, &reached.shortfalls())
+}
+
+fn seed_and_calls(seed: &str, calls: &str) -> io::Result<(u64, u64)> {
+    match (seed.parse(), calls.parse()) {
+        (Ok(seed), Ok(calls)) => Ok((seed, calls)),
+        _ => Err(io::Error::other(USAGE)),
+    }
+}
+
+/// The minima are those of a long script; a short one can't meet them all.
+fn held(calls: u64, shortfalls: &[String]) -> io::Result<()> {
     if calls < LONG || shortfalls.is_empty() {
         return Ok(());
     }
-    for shortfall in &shortfalls {
-        writeln!(errors, "too few: {shortfall}")?;
+    for shortfall in shortfalls {
+        eprintln!("too few: {shortfall}");
     }
     Err(io::Error::other(
         "the script does not reach all that it should",

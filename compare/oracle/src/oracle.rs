@@ -1,5 +1,6 @@
 //! The oracle: it takes the lines of a script one by one and answers with the lines to print.
 
+use crate::desk;
 use crate::dictionary::{self, Defaults};
 use crate::head::{self, Answer, Head, Resets};
 use crate::script::{self, Call, Line, Watched};
@@ -16,6 +17,8 @@ pub struct Oracle {
     line: u64,
     /// The run of watched nodes that is lent.
     run: Vec<Watched>,
+    /// The desk's buffer.
+    desk: Vec<u8>,
     /// None before the first accepted start.
     head: Option<Head>,
 }
@@ -28,6 +31,7 @@ impl Oracle {
             resets,
             line: 0,
             run: Vec::new(),
+            desk: Vec::new(),
             head: None,
         }
     }
@@ -49,6 +53,7 @@ impl Oracle {
             Line::Watch(_) if self.run.len() == MOST_RECORDS => return None,
             Line::Watch(watched) => self.run.push(watched),
             Line::Unwatch => self.run.clear(),
+            Line::Desk(bytes) => self.desk = bytes,
             Line::Show => return self.show(),
             Line::Call(call) => {
                 let answer = self.call(call)?;
@@ -81,13 +86,15 @@ impl Oracle {
             Call::Load(load) => head.load(&load),
             Call::State(number) => head::read_state(number),
             Call::Command(number) => head::read_command(number),
+            Call::EntryWrite(write) => desk::entry_write(&mut self.desk, &write),
+            Call::EntryRead(bytes) => desk::entry_read(&bytes),
         })
     }
 
     /// The lines of `show`; none before the first accepted start.
     pub fn show(&self) -> Option<Vec<String>> {
         let head = self.head.as_ref()?;
-        Some(forms::show(head, &self.run))
+        Some(forms::show(head, &self.run, &self.desk))
     }
 
     /// The load that names every value as it stands, except for the history.

@@ -30,6 +30,19 @@ pub struct Load {
     pub history: Option<Vec<[u8; 20]>>,
 }
 
+/// An entry that is written at a place of the desk's buffer.
+pub struct EntryWrite {
+    pub place: u64,
+    pub status: bool,
+    pub queue: bool,
+    pub mode: u8,
+    pub profile: u16,
+    pub code: u16,
+    pub seconds: u32,
+    pub nanoseconds: u32,
+    pub additional: u64,
+}
+
 pub enum Call {
     Start(Start),
     Nmt(u64),
@@ -44,6 +57,8 @@ pub enum Call {
     Load(Load),
     State(u64),
     Command(u64),
+    EntryWrite(EntryWrite),
+    EntryRead([u8; 20]),
 }
 
 pub enum Line {
@@ -51,12 +66,14 @@ pub enum Line {
     Passed,
     Watch(Watched),
     Unwatch,
+    Desk(Vec<u8>),
     Show,
     Call(Call),
 }
 
 const LONGEST_LINE: usize = 16_384;
 const LONGEST_HISTORY: usize = 300;
+const LONGEST_DESK: usize = 100;
 
 /// What a line says; none: it is unreadable.
 pub fn read(line: &[u8]) -> Option<Line> {
@@ -74,6 +91,7 @@ pub fn read(line: &[u8]) -> Option<Line> {
             heard: words.number()?,
         }),
         b"unwatch" => Line::Unwatch,
+        b"desk" => Line::Desk(words.desk()?),
         b"show" => Line::Show,
         name => Line::Call(read_call(name, &mut words)?),
     };
@@ -101,6 +119,8 @@ fn read_call(name: &[u8], words: &mut Words) -> Option<Call> {
         b"load" => Call::Load(read_load(words)?),
         b"state" => Call::State(words.number()?),
         b"command" => Call::Command(words.number()?),
+        b"entrywrite" => Call::EntryWrite(read_entry_write(words)?),
+        b"entryread" => Call::EntryRead(entry(words.next()?)?),
         _ => return None,
     })
 }
@@ -120,6 +140,20 @@ fn read_start(words: &mut Words) -> Option<Start> {
             words.number()?,
             words.number()?,
         ],
+    })
+}
+
+fn read_entry_write(words: &mut Words) -> Option<EntryWrite> {
+    Some(EntryWrite {
+        place: words.number()?,
+        status: words.flag()?,
+        queue: words.flag()?,
+        mode: words.number().filter(|mode| *mode <= 3)?,
+        profile: words.number()?,
+        code: words.number()?,
+        seconds: words.number()?,
+        nanoseconds: words.number()?,
+        additional: words.number()?,
     })
 }
 
@@ -195,6 +229,16 @@ impl<'a> Words<'a> {
         read(self).map(Some)
     }
 
+    /// The bytes of the desk's buffer; none of them is `-`.
+    fn desk(&mut self) -> Option<Vec<u8>> {
+        let word = self.next()?;
+        if word == b"-" {
+            return Some(Vec::new());
+        }
+        let bytes = bytes(word)?;
+        (1..=LONGEST_DESK).contains(&bytes.len()).then_some(bytes)
+    }
+
     fn entries(&mut self) -> Option<Vec<[u8; 20]>> {
         let mut entries = Vec::new();
         while let Some(word) = self.next() {
@@ -222,13 +266,18 @@ fn number(word: &[u8]) -> Option<u64> {
 
 /// The 20 bytes of an entry that is written as 40 hexadecimal digits.
 fn entry(word: &[u8]) -> Option<[u8; 20]> {
-    if word.len() != 40 {
+    bytes(word)?.try_into().ok()
+}
+
+/// The bytes that are written as two hexadecimal digits each.
+fn bytes(word: &[u8]) -> Option<Vec<u8>> {
+    if word.len() % 2 == 1 {
         return None;
     }
-    let mut bytes = [0; 20];
-    for (byte, pair) in bytes.iter_mut().zip(word.chunks(2)) {
-        let digit = |place: usize| char::from(pair[place]).to_digit(16);
-        *byte = (digit(0)? * 16 + digit(1)?) as u8;
-    }
-    Some(bytes)
+    word.chunks(2)
+        .map(|pair| {
+            let digit = |place: usize| char::from(pair[place]).to_digit(16);
+            Some((digit(0)? * 16 + digit(1)?) as u8)
+        })
+        .collect()
 }

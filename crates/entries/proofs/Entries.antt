@@ -141,7 +141,7 @@ entry-written e t f =
 
 -- the bytes that an entry is read from are its bytes, whatever they are
 module _ (s : List ℕ) (h : Bytes s) where
-  later : (at : ℕ) → Bytes (drop at s)
+  pub later : (at : ℕ) → Bytes (drop at s)
   later at i = rw getD-drop (h (at + i))
 
   pub entry-in-fits : FitsBytes (entryIn s)

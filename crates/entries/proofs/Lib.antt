@@ -4,3 +4,5 @@ pub mod Entries
 pub mod Rings
 pub mod Lists
 pub mod Modes
+pub mod DeskLaws
+pub mod RoundTrips

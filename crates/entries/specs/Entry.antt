@@ -3,9 +3,9 @@
 use Prim.Native.Nat.{ℕ, zero, suc, _+_, _*_, _/_, _%_, _<_}
 use mathlib.Core.Bool.{Bool, true, false}
 use mathlib.Core.List.{List, [], _∷_, _++_}
-use lib.Dec.{eqb, leb}
-use lib.ListN.{length, getD, drop}
-use Rattle.types.specs.Pick.{pick, readBy}
+use lib.Dec.{eqb}
+use lib.ListN.{getD, drop}
+use Rattle.types.specs.Pick.{readBy}
 use Rattle.types.specs.Common.{netTime, fromMicros}
 use Rattle.types.specs.Errors.{errorCode}
 use Rattle.types.specs.declared.refusals.Refusal.the-variants.{UnknownNumber}
@@ -16,8 +16,6 @@ use Rattle.entries.specs.declared.status_response.ErrorEntryModeRead.{Er
 use Rattle.entries.specs.declared.status_response.ErrorEntryModeRead.the-variants as mode
 use Rattle.entries.specs.declared.status_response.EntryType.{EntryType}
 use Rattle.entries.specs.declared.status_response.ErrorEntry.{ErrorEntry}
-use Rattle.entries.specs.declared.status_response.ErrorEntryRead.{ErrorEntryRead}
-use Rattle.entries.specs.declared.status_response.ErrorEntryRead.the-variants.{Taken, BufferTooShort}
 
 abbrev pub modeNumber : ErrorEntryMode → ℕ
 modeNumber Terminator = 0
@@ -83,9 +81,6 @@ entryIn s =
       timestamp = netTime (numberIn 4 (drop 4 s)) (numberIn 4 (drop 8 s));
       «additional_information» = numberIn 8 (drop 12 s);
     }
-
-unfoldable pub deserialized : List ℕ → ErrorEntryRead
-deserialized s = pick (leb 20 (length s)) (Taken (entryIn s)) BufferTooShort
 
 -- the entry of an error that crossed its threshold in the SoC check, at a time in microseconds: the queue mark, mode
 -- EventOccurred, profile 2, the error's code, the time with its seconds modulo 2^32, additional information 0

@@ -1,11 +1,8 @@
 -- A ring of places of 20 bytes, each with an entry, in lent bytes.
 -- Assumes nothing.
 use Prim.Native.Nat.{ℕ, zero, suc, _+_, _*_, _%_}
-use mathlib.Core.Bool.{Bool}
 use mathlib.Core.List.{List, [], _∷_, _++_}
-use lib.Dec.{leb}
 use lib.ListN.{length, take, drop}
-use Rattle.types.specs.Pick.{pick}
 use Rattle.entries.specs.Entry.{entryBytes, entryIn}
 use Rattle.entries.specs.declared.status_response.ErrorEntry.{ErrorEntry}
 use Rattle.entries.specs.declared.status_response.FoundEntry.{FoundEntry}
@@ -14,14 +11,6 @@ use Rattle.entries.specs.declared.status_response.FoundEntry.the-variant
 -- s with the bytes b from a place on, and all others as they were
 unfoldable pub written : List ℕ → ℕ → List ℕ → List ℕ
 written s at b = take at s ++ (b ++ drop (at + length b) s)
-
--- s has 20 bytes from a place on, and the place is not past the end
-abbrev pub roomAt : List ℕ → ℕ → Bool
-roomAt s at = leb (at + 20) (length s)
-
--- s with an entry at a place that has room for it; else s
-unfoldable pub serializedAt : List ℕ → ℕ → ErrorEntry → List ℕ
-serializedAt s at e = pick (roomAt s at) (written s at (entryBytes e)) s
 
 -- the entry at the i-th place, and the bytes with an entry put there
 abbrev pub entryAt : List ℕ → ℕ → ErrorEntry

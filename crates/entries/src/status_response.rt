@@ -1,7 +1,6 @@
 // The error entry (EPSG DS 301, Tables 94 and 96): what it holds, and its 20 bytes.
 ghost use mathlib.Core.Path.{_≡_};
-ghost use Rattle.entries.specs.Entry.{modeOf, modeNumber, readMode, bit, typeNumber, typeOf, entryBytes, deserialized, crossingEntry};
-ghost use Rattle.entries.specs.Ring.{roomAt, serializedAt};
+ghost use Rattle.entries.specs.Entry.{modeOf, modeNumber, readMode, bit, typeNumber, typeOf, entryBytes, entryIn, crossingEntry};
 use crate::place;
 use types::common::NetTime;
 use types::frame::error::types::DllError;
@@ -102,11 +101,6 @@ pub struct ErrorEntry {
     pub additional_information: u64,
 }
 
-pub enum ErrorEntryRead {
-    Taken(ErrorEntry),
-    BufferTooShort,
-}
-
 // An entry, or none.
 pub enum FoundEntry {
     Entry(ErrorEntry),
@@ -132,14 +126,11 @@ impl ErrorEntry {
         }
     }
 
-    // The entry in the first 20 bytes.
-    pub fn deserialize(buffer: &[u8]) -> ErrorEntryRead
-        ensures { λ r. ⌜ r ≡ deserialized (now (buffer .entry)) ⌝ }
+    // The Rust takes any buffer and refuses one that is too short; with a buffer and a place, that is `desk::read_at`.
+    pub fn deserialize(bytes: [u8; 20]) -> Self
+        ensures { λ r. ⌜ r ≡ entryIn bytes ⌝ }
     {
-        if buffer.len() < 20 {
-            return ErrorEntryRead::BufferTooShort;
-        }
-        ErrorEntryRead::Taken(place::read_entry(buffer, 0))
+        place::read_entry(&bytes, 0)
     }
 
     pub fn serialize(self) -> [u8; 20]
@@ -148,19 +139,5 @@ impl ErrorEntry {
         let mut bytes = [0u8; 20];
         place::write_entry(&mut bytes, self);
         bytes
-    }
-
-    // Writes the 20 bytes at a stated place. False, and nothing is written, where the buffer has no room for them there.
-    pub fn serialize_at(self, buffer: &mut [u8], at: usize) -> bool
-        ensures { λ r. ⌜ (r ≡ roomAt (now (buffer .entry)) at) × (now (buffer .exit) ≡ serializedAt (now (buffer .entry)) at self) ⌝ }
-    {
-        if buffer.len() < 20 {
-            return false;
-        }
-        if buffer.len() - 20 < at {
-            return false;
-        }
-        place::put_entry(buffer, at, self);
-        true
     }
 }

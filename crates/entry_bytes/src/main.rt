@@ -2,12 +2,13 @@
 // stored output was printed by the Rust (compare/), so a run shows that both agree.
 ghost use mathlib.Core.Path.{_≡_};
 ghost use Rattle.entry_bytes.specs.Patterns.{drawn, last, filled, numbered};
+use entries::desk;
+use entries::desk::ErrorEntryRead;
 use entries::error_history::ErrorHistory;
 use entries::error_history::write_error_to_history;
 use entries::status_response::EntryType;
 use entries::status_response::ErrorEntry;
 use entries::status_response::ErrorEntryMode;
-use entries::status_response::ErrorEntryRead;
 use entries::status_response::FoundEntry;
 use libc::STDOUT_FILENO;
 use types::common::NetTime;
@@ -75,7 +76,7 @@ fn say_entry(entry: ErrorEntry) {
 }
 
 fn print_entry(pattern: &[u8]) {
-    match ErrorEntry::deserialize(pattern) {
+    match desk::read_at(pattern, 0) {
         ErrorEntryRead::Taken(entry) => {
             say(b"(entry ");
             say_bytes(pattern);
@@ -84,7 +85,7 @@ fn print_entry(pattern: &[u8]) {
             say_bytes(&entry.serialize());
             say(b"))\n");
         }
-        ErrorEntryRead::BufferTooShort => say(b"(entry short)\n"),
+        ErrorEntryRead::Refused(_) => say(b"(entry short)\n"),
     }
 }
 

@@ -5,6 +5,9 @@ use mathlib.Core.List.{List}
 use lib.Dec.{eqb}
 use lib.ListN.{getD}
 use Rattle.types.specs.Pick.{pick}
+use Rattle.types.specs.Common.{netTime}
+use Rattle.entries.specs.Entry.{modeOf}
+use Rattle.entries.specs.declared.status_response.ErrorEntry.{ErrorEntry}
 use Rattle.head.specs.declared.state.Deadline.{Deadline}
 use Rattle.head.specs.declared.state.Deadline.the-variants as deadline
 use Rattle.head.specs.declared.state.Dictionary.{Dictionary}
@@ -25,6 +28,9 @@ at ns i = getD ns i 0
 
 abbrev pub byteOf : ℕ → ℕ
 byteOf n = n % 256
+
+abbrev pub halfOf : ℕ → ℕ
+halfOf n = n % 65536
 
 abbrev pub wordOf : ℕ → ℕ
 wordOf n = n % 4294967296
@@ -80,3 +86,13 @@ deadlineNumber deadline.Nothing = nothing
 abbrev pub objectNumber : ObjectValue → ℕ
 objectNumber (Unsigned32 n) = n
 objectNumber Missing = nothing
+
+-- the entry to be written, from the second number on
+abbrev pub entryOf : List ℕ → ErrorEntry
+entryOf ns =
+    record {
+      «entry_type» = record { «is_status_entry» = eqb (at ns 1) 1; «send_to_queue» = eqb (at ns 2) 1; mode = modeOf (at ns 3); profile = halfOf (at ns 4) };
+      «error_code» = halfOf (at ns 5);
+      timestamp = netTime (wordOf (at ns 6)) (wordOf (at ns 7));
+      «additional_information» = at ns 8;
+    }

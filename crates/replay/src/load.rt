@@ -41,26 +41,42 @@ fn read_values(rows: &[u8], line: &[u8], from: usize, given: &mut Given) -> usiz
     at
 }
 
-// Reads as many entries as follow a place, each behind a space: whether all of them are entries.
-fn read_entries(line: &[u8], at: usize, count: usize, bytes: &mut EntryBuffer) -> bool
-    requires { ⌜ (at + 41 * count ≤ length (now line)) × (count ≤ 300) ⌝ }
+// Reads as many bytes as are asked for, two digits each from a place on, which become those from `first` on: whether all are digits.
+pub(crate) fn read_bytes(
+    line: &[u8],
+    at: usize,
+    count: usize,
+    bytes: &mut [u8],
+    first: usize,
+) -> bool
+    requires { ⌜ (at + 2 * count ≤ length (now line)) × (first + count ≤ length (now bytes)) ⌝ }
 {
-    for i in 0..20 * count {
-        let from = at + 41 * (i / 20) + 2 * (i % 20);
-        if i % 20 == 0 {
-            if line[from] != b' ' {
-                return false;
-            }
-        }
-        let high = digit_of(line[from + 1]);
-        let low = digit_of(line[from + 2]);
+    for i in 0..count {
+        let high = digit_of(line[at + 2 * i]);
+        let low = digit_of(line[at + 2 * i + 1]);
         if 15 < high {
             return false;
         }
         if 15 < low {
             return false;
         }
-        bytes[i] = 16 * high + low;
+        bytes[first + i] = 16 * high + low;
+    }
+    true
+}
+
+// Reads as many entries as follow a place, each behind a space: whether all of them are entries.
+fn read_entries(line: &[u8], at: usize, count: usize, bytes: &mut EntryBuffer) -> bool
+    requires { ⌜ (at + 41 * count ≤ length (now line)) × (count ≤ 300) ⌝ }
+{
+    for i in 0..count {
+        let from = at + 41 * i;
+        if line[from] != b' ' {
+            return false;
+        }
+        if !read_bytes(line, from + 1, 20, bytes, 20 * i) {
+            return false;
+        }
     }
     true
 }

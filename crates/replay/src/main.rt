@@ -1,5 +1,6 @@
 // Drives a head by a call script from standard input and prints what each call answers (docs/CALLS.md).
 mod calls;
+mod desk;
 mod lines;
 mod load;
 mod print;
@@ -14,7 +15,7 @@ mod words;
 use lines::Gathered;
 use session::Session;
 
-// Owns all memory: the head's, that of the watched nodes, and the buffers of the script and of what is printed. The script's last
+// Owns all memory: the head's, that of the watched nodes, the desk's, and the buffers of the script and of what is printed. The script's last
 // line may lack its newline.
 fn main() {
     let mut part = [0u8; 65536];
@@ -26,11 +27,13 @@ fn main() {
     let mut history = [0u8; 5080];
     let mut nodes = [0u64; 96];
     let mut rest = [0u64; 24];
+    let mut desk = [0u8; 100];
     let mut answer = [0u64; 21];
     let mut out = [0u8; 65538];
     let mut session = Session {
         started: false,
         count: 0,
+        desk: 0,
     };
     let mut line = Gathered {
         length: 0,
@@ -52,6 +55,7 @@ fn main() {
             &mut history,
             &mut nodes,
             &mut rest,
+            &mut desk,
             &mut answer,
             &mut out,
         );

@@ -158,10 +158,15 @@ fn say_digits(out: &mut Buffer, byte: u8) {
     put(out, form[3]);
 }
 
-// An entry behind a space.
-pub(crate) fn say_entry(out: &mut Buffer, bytes: &[u8; 20]) {
+// Bytes behind a space.
+pub(crate) fn say_bytes(out: &mut Buffer, bytes: &[u8]) {
     put(out, b' ');
-    for i in 0..20usize {
+    for i in 0..bytes.len() {
         say_digits(out, bytes[i]);
     }
+}
+
+// An entry behind a space. Its type says that it has 20 bytes, also after they were lent to be written.
+pub(crate) fn say_entry(out: &mut Buffer, bytes: &[u8; 20]) {
+    say_bytes(out, bytes)
 }

@@ -1,6 +1,8 @@
 // What a line of a script says: its key, and the numbers that it gives.
 ghost use Prim.Native.Nat.{_≤_};
 ghost use lib.ListN.{length};
+use crate::desk::read_desk;
+use crate::desk::read_entry;
 use crate::lines::LineBuffer;
 use crate::load::EntryBuffer;
 use crate::load::read_load;
@@ -9,8 +11,8 @@ use crate::words::UNREADABLE;
 use crate::words::match_at;
 use bytes::scan::find;
 
-// The key of a line that can't be read. That of a comment is a space, that of a load l, and the others stand in the table in
-// `read_line`.
+// The key of a line that can't be read. That of a comment is a space, that of a load l, of a desk D, of the reading of an entry r, and
+// the others stand in the table in `read_table`.
 pub const NO_LINE: u8 = b'?';
 
 // Reads a line by a table, whose rows are a key and a pattern.
@@ -28,21 +30,33 @@ fn read_by(rows: &[u8], line: &[u8], given: &mut Given) -> u8 {
     NO_LINE
 }
 
+fn read_table(line: &[u8], given: &mut Given) -> u8 {
+    read_by(
+        b"nnmt L;Wwatch B L L;ddll L F;pshow;ttick L;ccycle;aarm L;eerror L X Y;hheard B L;ohandout;wwithdraw;\
+        Uunwatch;Sstart B W W L B O O W W W W;kcommand L;sstate L;ientrywrite L F F M H H W W L; ",
+        line,
+        given,
+    )
+}
+
 // Reads the line that the first characters of a text are.
 fn read_line(text: &[u8], count: usize, given: &mut Given, bytes: &mut EntryBuffer) -> u8
     requires { ⌜ count ≤ length (now text) ⌝ }
 {
     let line = &text[0..count];
-    let at = match_at(b"load", line, 0, given, 0);
-    if at != UNREADABLE {
-        return read_load(line, at, given, bytes);
+    let load = match_at(b"load", line, 0, given, 0);
+    if load != UNREADABLE {
+        return read_load(line, load, given, bytes);
     }
-    read_by(
-        b"nnmt L;Wwatch B L L;ddll L F;pshow;ttick L;ccycle;aarm L;eerror L X Y;hheard B L;ohandout;wwithdraw;\
-        Uunwatch;Sstart B W W L B O O W W W W;kcommand L;sstate L; ",
-        line,
-        given,
-    )
+    let desk = match_at(b"desk ", line, 0, given, 0);
+    if desk != UNREADABLE {
+        return read_desk(line, desk, given, bytes);
+    }
+    let entry = match_at(b"entryread ", line, 0, given, 0);
+    if entry != UNREADABLE {
+        return read_entry(line, entry, bytes);
+    }
+    read_table(line, given)
 }
 
 // Reads a line of some length. One that is longer than the buffer may still be a comment. Of an empty line the first character is of

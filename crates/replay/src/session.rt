@@ -1,9 +1,13 @@
 // What the lines of a script do. All that is large is lent with a line: the entries of a load, the head with its memory, the
-// run, the numbers of an answer.
+// run, the desk's buffer, the numbers of an answer.
 //
 // The check of a function costs by its statements, and most by what it lends.
 use crate::calls::make;
 use crate::calls::start;
+use crate::desk::Desk;
+use crate::desk::entry_read;
+use crate::desk::entry_write;
+use crate::desk::lay;
 use crate::load::EntryBuffer;
 use crate::print::Buffer;
 use crate::run::Rest;
@@ -23,6 +27,8 @@ pub struct Session {
     pub started: bool,
     // How many records the run has.
     pub count: usize,
+    // How many bytes the desk's buffer has.
+    pub desk: usize,
 }
 
 // A line that can't be: one that needs a head before the first accepted start (these have small letters for keys), and a watch
@@ -58,6 +64,7 @@ impl Session {
         history: &mut [u8; 5080],
         nodes: &mut NodeWords,
         rest: &mut Rest,
+        desk: &mut Desk,
         answer: &mut Numbers,
         out: &mut Buffer,
     ) -> Self {
@@ -77,7 +84,30 @@ impl Session {
                 return self;
             }
             b'p' => {
-                show(out, head, queue, history, nodes, rest, self.count);
+                show(
+                    out,
+                    head,
+                    queue,
+                    history,
+                    nodes,
+                    rest,
+                    self.count,
+                    desk,
+                    self.desk,
+                );
+                return self;
+            }
+            b'D' => {
+                self.desk = lay(desk, bytes, given);
+                return self;
+            }
+            b'i' => {
+                entry_write(desk, self.desk, given, answer);
+                say_answer(out, key, answer);
+                return self;
+            }
+            b'r' => {
+                entry_read(out, bytes);
                 return self;
             }
             b'o' => {

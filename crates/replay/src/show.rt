@@ -3,6 +3,8 @@ ghost use mathlib.Core.Path.{_≡_};
 ghost use Prim.Native.Nat.{_+_, _*_, _≤_, min};
 ghost use Rattle.replay.specs.Values.{deadlineNumber, objectNumber};
 ghost use lib.ListN.{length};
+use crate::desk::Desk;
+use crate::desk::show_desk;
 use crate::print::Buffer;
 use crate::print::say;
 use crate::print::say_form;
@@ -172,7 +174,7 @@ fn show_records(out: &mut Buffer, words: &[u64], count: usize)
 }
 
 // The smaller number.
-fn least(a: usize, b: usize) -> usize
+pub(crate) fn least(a: usize, b: usize) -> usize
     ensures { λ r. ⌜ r ≡ min a b ⌝ }
 {
     if a < b { a } else { b }
@@ -211,6 +213,8 @@ pub(crate) fn show(
     nodes: &NodeWords,
     rest: &Rest,
     count: usize,
+    desk: &Desk,
+    bytes: usize,
 ) {
     show_machines(out, head);
     show_counters(out, head);
@@ -219,5 +223,6 @@ pub(crate) fn show(
     show_queue(out, head, queue);
     show_history(out, head, history);
     show_run(out, nodes, rest, count);
-    show_crossings(out, head)
+    show_crossings(out, head);
+    show_desk(out, desk, bytes)
 }

@@ -1,16 +1,21 @@
 // The numbers of a line as the values that its call takes.
 ghost use mathlib.Core.Path.{_≡_};
 ghost use Prim.Native.Nat.{_≤_};
-ghost use Rattle.replay.specs.Values.{at, byteOf, wordOf, objectOf, dictionaryOf, byteUpdate, counterUpdate, objectUpdate, updatesOf};
+ghost use Rattle.replay.specs.Values.{at, byteOf, halfOf, wordOf, objectOf, dictionaryOf, byteUpdate, counterUpdate, objectUpdate, updatesOf, entryOf};
+ghost use Rattle.entries.specs.Entry.{modeOf};
 use crate::load::KEPT;
 use crate::words::Given;
 use answers::NOTHING;
+use entries::status_response::EntryType;
+use entries::status_response::ErrorEntry;
+use entries::status_response::ErrorEntryMode;
 use head::state::Dictionary;
 use head::state::ObjectValue;
 use node::load::ByteUpdate;
 use node::load::CounterUpdate;
 use node::load::DictionaryUpdate;
 use node::load::ObjectUpdate;
+use types::common::NetTime;
 
 pub(crate) fn number(given: Given, place: usize) -> u64
     requires { ⌜ place ≤ 10 ⌝ }
@@ -24,6 +29,13 @@ pub(crate) fn byte(n: u64) -> u8
     ensures { λ r. ⌜ r ≡ byteOf n ⌝ }
 {
     (n % 256) as u8
+}
+
+// A number that was read as one of 16 bits.
+fn half(n: u64) -> u16
+    ensures { λ r. ⌜ r ≡ halfOf n ⌝ }
+{
+    (n % 65536) as u16
 }
 
 // A number that was read as one of 32 bits.
@@ -105,5 +117,35 @@ pub(crate) fn updates(given: Given) -> DictionaryUpdate
         counter_2,
         counter_3,
         counter_5,
+    }
+}
+
+// A number that was read as a mode's; each of its values names one.
+fn mode_of(n: u64) -> ErrorEntryMode
+    ensures { λ r. ⌜ r ≡ modeOf n ⌝ }
+{
+    let entry_type = EntryType::from_u16((n % 4) as u16 * 4096);
+    entry_type.mode
+}
+
+// The entry to be written, behind its place.
+pub(crate) fn entry_of(given: Given) -> ErrorEntry
+    ensures { λ r. ⌜ r ≡ entryOf given ⌝ }
+{
+    let mode = mode_of(number(given, 3));
+    let entry_type = EntryType {
+        is_status_entry: number(given, 1) == 1,
+        send_to_queue: number(given, 2) == 1,
+        mode,
+        profile: half(number(given, 4)),
+    };
+    ErrorEntry {
+        entry_type,
+        error_code: half(number(given, 5)),
+        timestamp: NetTime {
+            seconds: word(number(given, 6)),
+            nanoseconds: word(number(given, 7)),
+        },
+        additional_information: number(given, 8),
     }
 }

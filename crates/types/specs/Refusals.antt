@@ -2,7 +2,7 @@
 -- Assumes nothing.
 use Prim.Native.Nat.{ℕ}
 use Rattle.types.specs.declared.refusals.Refusal.{Refusal}
-use Rattle.types.specs.declared.refusals.Refusal.the-variants.{NodeNumber, QueueCapacity, WatchedNodes, UnknownNumber, TimeLimit, BeforeHeard, NotWatched, ReadyToOperate}
+use Rattle.types.specs.declared.refusals.Refusal.the-variants.{NodeNumber, QueueCapacity, WatchedNodes, UnknownNumber, TimeLimit, BeforeHeard, NotWatched, ReadyToOperate, BufferTooShort, ProfileLimit}
 
 abbrev pub refusalNumber : Refusal → ℕ
 refusalNumber NodeNumber = 1
@@ -13,3 +13,5 @@ refusalNumber TimeLimit = 5
 refusalNumber BeforeHeard = 6
 refusalNumber NotWatched = 7
 refusalNumber ReadyToOperate = 8
+refusalNumber BufferTooShort = 11
+refusalNumber ProfileLimit = 12

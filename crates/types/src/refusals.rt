@@ -19,6 +19,10 @@ pub enum Refusal {
     NotWatched,
     // The head is at ReadyToOperate.
     ReadyToOperate,
+    // Fewer than 20 bytes are left from the place on, or the place is past the end.
+    BufferTooShort,
+    // The profile of an entry is above 4095.
+    ProfileLimit,
 }
 
 impl Refusal {
@@ -34,6 +38,8 @@ impl Refusal {
             Refusal::BeforeHeard => 6,
             Refusal::NotWatched => 7,
             Refusal::ReadyToOperate => 8,
+            Refusal::BufferTooShort => 11,
+            Refusal::ProfileLimit => 12,
         }
     }
 }
