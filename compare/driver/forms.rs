@@ -117,6 +117,15 @@ pub fn kind(error: &DllError) -> usize {
         .expect("ERRORS has every kind")
 }
 
+/// The place of the one kind that has the code; none where no kind has it, or more than one.
+pub fn kind_behind(code: u64) -> Option<usize> {
+    let mut kinds = ERRORS
+        .iter()
+        .filter(|error| u64::from(error.to_error_code()) == code)
+        .map(kind);
+    kinds.next().filter(|_| kinds.next().is_none())
+}
+
 /// An 8-bit number as states and commands are written, `0x1C`.
 pub fn hex(number: u8) -> String {
     format!("0x{number:02X}")

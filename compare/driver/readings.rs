@@ -1,6 +1,6 @@
 //! Prints what the original Rust reads each 8-bit number as, its named node numbers, the events of each kind of frame, the
-//! code of each kind of error, its feature flags and its times at their limits, one form a line. Every answer is computed
-//! by calling the original code.
+//! code of each kind of error and the kind behind each code, its feature flags and its times at their limits, one form a
+//! line. Every answer is computed by calling the original code; the kind behind a code by its code of every kind.
 
 mod forms;
 mod frames;
@@ -38,6 +38,7 @@ fn main() {
     });
     frames::print_frames();
     print_codes();
+    print_kinds();
     print_flags();
     print_times();
     print_additions();
@@ -85,6 +86,18 @@ fn print_codes() {
             error.to_error_code()
         );
     }
+}
+
+/// The kind behind each 16-bit code, and how many codes name no single kind.
+fn print_kinds() {
+    let mut refused = 0;
+    for code in 0..=u16::MAX {
+        match forms::kind_behind(u64::from(code)) {
+            Some(kind) => println!("(kind 0x{code:04X} {kind})"),
+            None => refused += 1,
+        }
+    }
+    println!("(kind refused {refused})");
 }
 
 /// The flags in the order of their declaration.

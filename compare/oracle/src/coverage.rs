@@ -1,5 +1,6 @@
 //! Counts what a script reached, from the head's answers and from the head before and after each line.
 
+use crate::places::{ERRORS, kind_behind};
 use crate::view::{COUNTER_NAMES, HEARTBEAT, View};
 use std::io::{self, Write};
 
@@ -47,9 +48,9 @@ const DLL_EVENTS: [&str; 6] = ["Soc", "Preq", "Pres", "Soa", "Asnd", "SocTimeout
 const NMT_EVENTS: usize = 19;
 const ERROR_KINDS: usize = 22;
 
-const CALLS: [&str; 13] = [
+const CALLS: [&str; 14] = [
     "start", "nmt", "dll", "error", "cycle", "tick", "withdraw", "heard", "handout", "arm", "load",
-    "state", "command",
+    "state", "command", "kind",
 ];
 
 /// Those that a tick can count: loss_of_soc, loss_of_soa, heartbeat_timeout.
@@ -57,7 +58,7 @@ const TICK_KINDS: [usize; 3] = [1, 2, HEARTBEAT];
 const COUNTERS: [&str; 4] = ["c1", "c2", "c3", "c5"];
 
 /// Each call with the refusals that it can give.
-const REFUSALS: [(&str, u8); 17] = [
+const REFUSALS: [(&str, u8); 18] = [
     ("start", 1),
     ("error", 1),
     ("start", 2),
@@ -75,7 +76,15 @@ const REFUSALS: [(&str, u8); 17] = [
     ("tick", 6),
     ("heard", 7),
     ("withdraw", 8),
+    ("kind", 13),
 ];
+
+/// The numbers of the refusals, and the highest of them.
+const NUMBERS: [usize; 9] = [1, 2, 3, 4, 5, 6, 7, 8, 13];
+const HIGHEST: usize = 13;
+
+/// Codes that name no single kind.
+const NO_KIND: [&str; 3] = ["0x8000, of five kinds", "above 16 bits", "of no kind"];
 
 const TICKS: [&str; 8] = [
     "refused",
@@ -134,6 +143,7 @@ struct Minima {
     nmt_pair: u64,
     dll_pair: u64,
     error_kind: u64,
+    code: u64,
     refusal: u64,
     crossing: u64,
     crossing_again: u64,
@@ -157,6 +167,7 @@ const MINIMA: Minima = Minima {
     nmt_pair: 5,
     dll_pair: 5,
     error_kind: 50,
+    code: 10,
     refusal: 20,
     crossing: 20,
     crossing_again: 5,
@@ -178,9 +189,9 @@ const MINIMA: Minima = Minima {
 #[derive(Debug, Clone, Default)]
 pub struct Coverage {
     script: Ticks,
-    calls: [u64; 13],
+    calls: [u64; 14],
     /// By the number of the refusal, from 1; place 0 counts accepted calls.
-    refusals: [[u64; 9]; 13],
+    refusals: [[u64; HIGHEST + 1]; 14],
     states: [u64; 12],
     /// By state, then ready, enabled and event.
     nmt: [[[[u64; NMT_EVENTS]; 2]; 2]; 12],
@@ -188,6 +199,9 @@ pub struct Coverage {
     dll: [[[[u64; 2]; 6]; 4]; 4],
     dll_elsewhere: u64,
     errors: [u64; ERROR_KINDS],
+    /// Codes by the kind that was answered, and those of `NO_KIND`.
+    kinds: [u64; ERROR_KINDS],
+    no_kind: [u64; 3],
     crossings: [u64; 7],
     crossings_in_ticks: [u64; 7],
     /// Those of a head whose counter had crossed before.
@@ -305,11 +319,10 @@ impl Coverage {
 
     fn count_call(&mut self, call: usize, answer: &str) {
         self.calls[call] += 1;
-        let digit = answer
+        let number = answer
             .strip_prefix("(refused ")
-            .and_then(|rest| rest.chars().next());
-        let refusal = digit.and_then(|d| d.to_digit(10)).unwrap_or(0);
-        self.refusals[call][refusal.min(8) as usize] += 1;
+            .and_then(|rest| rest.strip_suffix(')'));
+        self.refusals[call][place(number, HIGHEST + 1).unwrap_or(0)] += 1;
     }
 
     fn count_effect<'a>(
@@ -348,7 +361,20 @@ impl Coverage {
             "handout" if answer == "(taken none)" => self.handed_none += 1,
             "handout" => self.handed_out += 1,
             "cycle" if answer == "(taken (cleared 1))" => self.cleared += 1,
+            "kind" => self.count_code(number(words.next()).unwrap_or(0), answer),
             _ => (),
+        }
+    }
+
+    fn count_code(&mut self, code: u64, answer: &str) {
+        let kind = answer
+            .strip_prefix("(taken ")
+            .and_then(|rest| rest.strip_suffix(')'));
+        match place(kind, ERROR_KINDS) {
+            Some(kind) => self.kinds[kind] += 1,
+            None if code == 0x8000 => self.no_kind[0] += 1,
+            None if code > u64::from(u16::MAX) => self.no_kind[1] += 1,
+            None => self.no_kind[2] += 1,
         }
     }
 
@@ -547,6 +573,7 @@ impl Coverage {
             ("What a reset found to forget", self.forgotten_counts()),
             ("Refusals", self.refusal_counts()),
             ("Errors given to the counters, by kind", self.error_counts()),
+            ("Codes, by the kind behind them", self.code_counts()),
             ("Crossings", self.crossing_counts()),
             ("Ticks", by_tick(named(&TICKS, &self.ticks, MINIMA.tick))),
             (
@@ -631,7 +658,8 @@ impl Coverage {
                 ..counted(format!("{call} refused {n}"), count, MINIMA.refusal)
             }
         };
-        (1..=8)
+        NUMBERS
+            .into_iter()
             .map(of_number)
             .chain(REFUSALS.iter().map(of_call))
             .collect()
@@ -642,6 +670,17 @@ impl Coverage {
             counted(format!("kind {kind}"), *count, MINIMA.error_kind)
         };
         self.errors.iter().enumerate().map(count).collect()
+    }
+
+    fn code_counts(&self) -> Vec<Count> {
+        let of_kind = |(kind, count): (usize, &u64)| {
+            let own = kind_behind(u64::from(ERRORS[kind].to_error_code())).is_some();
+            let minimum = if own { MINIMA.code } else { 0 };
+            counted(format!("kind {kind}"), *count, minimum)
+        };
+        let mut counts: Vec<Count> = self.kinds.iter().enumerate().map(of_kind).collect();
+        counts.extend(named(&NO_KIND, &self.no_kind, MINIMA.code));
+        counts
     }
 
     fn crossing_counts(&self) -> Vec<Count> {

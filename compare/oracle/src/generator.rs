@@ -6,6 +6,7 @@ use crate::coverage::{
     BASIC_ETHERNET, CYCLIC, Coverage, NOT_ACTIVE, PRE_OPERATIONAL_2, READY_TO_OPERATE, Step, Ticks,
     limit,
 };
+use crate::places::ERRORS;
 use crate::view::{Driven, View};
 use std::io::{self, Write};
 
@@ -487,7 +488,7 @@ impl Script<'_> {
 // Scenarios.
 impl Script<'_> {
     fn scenario(&mut self) -> io::Result<()> {
-        match self.random.below(100) {
+        match self.random.below(101) {
             0..14 => self.nmt_events(),
             14..28 => self.dll_pairs(),
             28..36 => self.error_levels(),
@@ -508,6 +509,7 @@ impl Script<'_> {
             94 => self.refused_start(),
             95 => self.withdrawals(),
             96 | 97 => self.reset_between(),
+            98 => self.kinds(),
             _ => self.plain_calls(),
         }
     }
@@ -911,6 +913,21 @@ impl Script<'_> {
         Ok(())
     }
 
+    /// The codes that the original gives the kinds, their neighbours, numbers that are such a code but for a bit above the
+    /// 16, and any number.
+    fn kinds(&mut self) -> io::Result<()> {
+        for _ in 0..4 + self.random.below(12) {
+            let code = u64::from(self.random.pick(&ERRORS).to_error_code());
+            let wide = code + (1 << (16 + self.random.below(48)));
+            let any = self.random.below(1 << 16);
+            let number = self
+                .random
+                .pick(&[code, code, code, code - 1, code + 1, wide, any]);
+            self.call1("kind", number)?;
+        }
+        Ok(())
+    }
+
     /// Withdrawals where they count, and at ReadyToOperate, where they are declined.
     fn withdrawals(&mut self) -> io::Result<()> {
         let state = self
@@ -1027,6 +1044,7 @@ impl Script<'_> {
             "load cycle 1000",
             "state 28",
             "command 33",
+            "kind 0x8245",
             "nmt 99",
             "unwatch",
             "unknown",
@@ -1088,7 +1106,7 @@ impl Script<'_> {
     }
 }
 
-const UNREADABLE: [&str; 66] = [
+const UNREADABLE: [&str; 69] = [
     "unknown",
     "Nmt 3",
     "nmt",
@@ -1151,6 +1169,9 @@ const UNREADABLE: [&str; 66] = [
     "state",
     "state 0x1C 0",
     "command 18446744073709551616",
+    "kind",
+    "kind 0x8245 0",
+    "kind 18446744073709551616",
     "watch 256 50 0",
     "watch 17 50",
     "unwatch 1",

@@ -305,6 +305,12 @@ pub fn read_command(number: u64) -> Answer {
     Ok(forms::taken(&[forms::hex(command as u8)]))
 }
 
+/// The original has no way from a code to its kind: its code of every kind is tried.
+pub fn read_kind(code: u64) -> Answer {
+    let kind = places::kind_behind(code).ok_or(13)?;
+    Ok(forms::taken(&[kind.to_string()]))
+}
+
 /// Number 4: what stands at a place of a list.
 fn at<T>(list: &[T], place: u64) -> Result<&T, u8> {
     let place = usize::try_from(place).map_err(|_| 4)?;

@@ -88,6 +88,7 @@ impl Oracle {
             Call::Command(number) => head::read_command(number),
             Call::EntryWrite(write) => desk::entry_write(&mut self.desk, &write),
             Call::EntryRead(bytes) => desk::entry_read(&bytes),
+            Call::Kind(code) => head::read_kind(code),
         })
     }
 

@@ -59,6 +59,7 @@ pub enum Call {
     Command(u64),
     EntryWrite(EntryWrite),
     EntryRead([u8; 20]),
+    Kind(u64),
 }
 
 pub enum Line {
@@ -121,6 +122,7 @@ fn read_call(name: &[u8], words: &mut Words) -> Option<Call> {
         b"command" => Call::Command(words.number()?),
         b"entrywrite" => Call::EntryWrite(read_entry_write(words)?),
         b"entryread" => Call::EntryRead(entry(words.next()?)?),
+        b"kind" => Call::Kind(words.number()?),
         _ => return None,
     })
 }

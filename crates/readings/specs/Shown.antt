@@ -8,6 +8,7 @@ use Rattle.types.specs.States.{stateNumber}
 use Rattle.types.specs.Events.{commandNumber, managingNumber}
 use Rattle.types.specs.Frames.{messageNumber}
 use Rattle.types.specs.Flags.{flags}
+use Rattle.types.specs.Kinds.{CodeAnswer, kindNumber, refusedBy}
 use Rattle.types.specs.declared.common.NetTime.{NetTime}
 use Rattle.types.specs.declared.nmt.flags.FeatureFlags.{FeatureFlags}
 use Rattle.types.specs.declared.nmt.states.NmtStateRead.{NmtStateRead}
@@ -36,6 +37,10 @@ ofManaging (managing.Refused r) = Nothing
 abbrev pub ofMessage : MessageTypeRead → Reading
 ofMessage (message.Taken m) = Number (messageNumber m)
 ofMessage message.Unknown = Nothing
+
+abbrev pub ofCode : CodeAnswer → Reading
+ofCode (kindNumber n) = Number n
+ofCode (refusedBy n) = Nothing
 
 -- the flag at place n of the sixteen: the number with that bit alone
 unfoldable pub flagAt : ℕ → FeatureFlags

@@ -1,11 +1,12 @@
-// What each 8-bit number is read as, the named node numbers, the events of each kind of frame, the code of each kind of error, the feature flags and times at their limits,
-// one form a line. The stored output was printed by the Rust (compare/), so a run shows that both agree.
+// What each 8-bit number is read as, the named node numbers, the events of each kind of frame, the code of each kind of error and the kind behind each code, the feature flags and
+// times at their limits, one form a line. The stored output was printed by the Rust (compare/), so a run shows that both agree.
 ghost use mathlib.Core.Path.{_≡_};
 ghost use Rattle.types.specs.States.{readState};
 ghost use Rattle.types.specs.Events.{readCommand, readManaging};
 ghost use Rattle.readings.specs.Shown.{ofState, ofCommand, ofManaging, flagAt};
 
 mod frames;
+mod kinds;
 mod times;
 
 use libc::STDOUT_FILENO;
@@ -204,6 +205,7 @@ fn main() {
     frames::print_messages();
     frames::print_frames();
     print_codes();
+    kinds::print_kinds();
     print_flags();
     times::print_times();
     times::print_additions();

@@ -11,6 +11,8 @@ use answers::Numbers;
 use head::state::Head;
 use node::calls::CallAnswer;
 use tick::tick::TickAnswer;
+use types::frame::error::kinds::DllErrorKind;
+use types::frame::error::kinds::DllErrorKindRead;
 use types::nmt::events::NmtStateCommand;
 use types::nmt::events::NmtStateCommandRead;
 use types::nmt::flags::FeatureFlags;
@@ -113,6 +115,17 @@ fn read_command(n: u64, answer: &mut Numbers) {
     }
 }
 
+// The kind behind a code, whose place becomes that number.
+fn read_kind(code: u64, answer: &mut Numbers) {
+    match DllErrorKind::from_error_code(code) {
+        DllErrorKindRead::Taken(kind) => {
+            answer[0] = 0;
+            answer[4] = kind.place() as u64;
+        }
+        DllErrorKindRead::Refused(refusal) => answer[0] = refusal.number() as u64,
+    }
+}
+
 // The calls that need the head alone, with their first number, and the readings.
 fn call_on_head(key: u8, n: u64, given: Given, head: &mut Head, answer: &mut Numbers) {
     match key {
@@ -129,6 +142,7 @@ fn call_on_head(key: u8, n: u64, given: Given, head: &mut Head, answer: &mut Num
         b'w' => answers::call(node::calls::withdraw(head), answer),
         b'a' => answers::call(node::calls::arm(head, n), answer),
         b's' => read_state(n, answer),
+        b'q' => read_kind(n, answer),
         _ => read_command(n, answer),
     }
 }

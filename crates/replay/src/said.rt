@@ -20,6 +20,7 @@ pub(crate) fn say_as(out: &mut Buffer, key: u8, answer: &Numbers) {
         e--(taken (action #) (signal #)----------- (logged[ (#[ %][ #])][ (#[ %][ #])]))\n;\
         s----(taken %)\n;\
         k----(taken %)\n;\
+        q----(taken #)\n;\
         ?(unreadable #)\n;\
         *(taken)\n",
         key,

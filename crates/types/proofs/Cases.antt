@@ -1,8 +1,8 @@
 -- Laws for a finite enum: a claim about every item is one computed test over the list of its items, and the claim of a `match` arm that
 -- takes several variants is one computed test over the arm's keys.
 -- Assumes nothing.
-use Prim.Native.Nat.{ℕ}
-use mathlib.Core.Path.{_≡_, refl, ap, sym, _∙_}
+use Prim.Native.Nat.{ℕ, zero, suc}
+use mathlib.Core.Path.{_≡_, refl, ap, sym, subst, _∙_}
 use mathlib.Core.List.{List, [], _∷_, map}
 use mathlib.Core.Logic.{inl, inr}
 use mathlib.Core.Bool.{Bool, true, false}
@@ -15,6 +15,7 @@ use Rattle.types.specs.States.{states}
 use Rattle.types.specs.Events.{events}
 use Rattle.types.specs.CsEvents.{csEvents}
 use Rattle.types.specs.Frames.{messages}
+use Rattle.types.specs.Kinds.{errorKinds}
 use Rattle.types.specs.declared.nmt.states.NmtState.{NmtState}
 use Rattle.types.specs.declared.nmt.states.NmtState.the-variants.{NmtGsOff, NmtGsInitialising, NmtGsResetApplication, NmtGsResetCommunication, NmtGsResetConfiguration, NmtNotActive, NmtPreOperational1, NmtPreOperational2, NmtReadyToOperate, NmtOperational, NmtCsStopped, NmtBasicEthernet}
 use Rattle.types.specs.declared.nmt.events.NmtEvent.{NmtEvent}
@@ -23,10 +24,14 @@ use Rattle.types.specs.declared.frame.cs_state_machine.DllCsEvent.{DllCs
 use Rattle.types.specs.declared.frame.cs_state_machine.DllCsEvent.the-variants.{Soc, Preq, Pres, Soa, Asnd, SocTimeout}
 use Rattle.types.specs.declared.types.MessageType.{MessageType}
 use Rattle.types.specs.declared.types.MessageType.the-variants.{SoC, PReq, PRes, SoA, ASnd}
+use Rattle.types.specs.declared.frame.error.kinds.DllErrorKind.{DllErrorKind}
+use Rattle.types.specs.declared.frame.error.kinds.DllErrorKind.the-variants as kind
+use Rattle.types.proofs.Reading.{Each}
 use Rattle.types.proofs.nmt.states.NmtState as NmtStateType
 use Rattle.types.proofs.frame.cs_state_machine.DllCsEvent as DllCsEventType
 use Rattle.types.proofs.nmt.events.NmtEvent as NmtEventType
 use Rattle.types.proofs.types.MessageType as MessageTypeType
+use Rattle.types.proofs.frame.error.kinds.DllErrorKind as DllErrorKindType
 
 first-same : {B : Type 0} {a b : B} {xs ys : List B} → a ∷ xs ≡ b ∷ ys → a ≡ b
 first-same e = cc
@@ -82,6 +87,15 @@ module _ {A B : Type 0} (E : Enum A) (g f : A → B) where
   -- what holds at each item of the list holds at every item
   pub everywhere : map g (E .items) ≡ map f (E .items) → g (E .first) ≡ f (E .first) → (x : A) → g x ≡ f x
   everywhere e h x = ap g (sym (E .back x)) ∙ getD-same (E .items) (E .position x) (E .first) e h ∙ ap f (E .back x)
+
+each-getD : {A : Type 0} (P : A → Type 0) (xs : List A) (k : ℕ) (d : A) → Each P xs → P d → P (getD xs k d)
+each-getD P [] k d h b = b
+each-getD P (x ∷ xs) zero d h b = h .0
+each-getD P (x ∷ xs) (suc k) d h b = each-getD P xs k d (h .1) b
+
+-- the same of any property
+pub each-item : {A : Type 0} (E : Enum A) (P : A → Type 0) → Each P (E .items) → P (E .first) → (x : A) → P x
+each-item E P h b x = subst P (E .back x) (each-getD P (E .items) (E .position x) (E .first) h b)
 
 pub state-back : (x : NmtState) → getD states (tagOf NmtStateType.the-type x) NmtGsOff ≡ x
 state-back NmtGsOff = refl
@@ -144,3 +158,30 @@ message-back ASnd = refl
 
 abbrev pub MessageTypes : Enum MessageType
 MessageTypes = record { position = tagOf MessageTypeType.the-type; first = SoC; items = messages; back = message-back }
+
+pub kind-back : (x : DllErrorKind) → getD errorKinds (tagOf DllErrorKindType.the-type x) kind.LossOfLink ≡ x
+kind-back kind.LossOfLink = refl
+kind-back kind.BadPhysicalMode = refl
+kind-back kind.MacBuffer = refl
+kind-back kind.Crc = refl
+kind-back kind.Collision = refl
+kind-back kind.InvalidFormat = refl
+kind-back kind.LossOfSoc = refl
+kind-back kind.LossOfSoa = refl
+kind-back kind.LossOfPreq = refl
+kind-back kind.LossOfPres = refl
+kind-back kind.LossOfStatusRes = refl
+kind-back kind.CycleTimeExceeded = refl
+kind-back kind.LatePres = refl
+kind-back kind.SoCJitter = refl
+kind-back kind.MsWaitSoc = refl
+kind-back kind.MultipleMn = refl
+kind-back kind.AddressConflict = refl
+kind-back kind.MevAsndTimeout = refl
+kind-back kind.UnexpectedEventInState = refl
+kind-back kind.PdoMapVersion = refl
+kind-back kind.PdoPayloadShort = refl
+kind-back kind.HeartbeatTimeout = refl
+
+abbrev pub DllErrorKinds : Enum DllErrorKind
+DllErrorKinds = record { position = tagOf DllErrorKindType.the-type; first = kind.LossOfLink; items = errorKinds; back = kind-back }

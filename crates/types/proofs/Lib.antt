@@ -1,7 +1,9 @@
 pub mod Cases
+pub mod Codes
 pub mod ErrorCases
 pub mod Reading
 pub mod Refused
 pub mod Reported
 pub mod RoundTrips
+pub mod Searching
 pub mod Times

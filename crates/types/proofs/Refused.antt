@@ -3,14 +3,16 @@
 use Prim.Native.Nat.{ℕ}
 use mathlib.Core.Path.{_≡_, refl, sym, ap, _∙_}
 use mathlib.Core.List.{List, [], _∷_}
-use lib.ListN.{getD}
+use Rattle.types.specs.Pick.{readBy}
 use Rattle.types.specs.Refusals.{refusalNumber}
 use Rattle.types.specs.declared.refusals.Refusal.{Refusal}
-use Rattle.types.specs.declared.refusals.Refusal.the-variants.{NodeNumber, QueueCapacity, WatchedNodes, UnknownNumber, TimeLimit, BeforeHeard, NotWatched, ReadyToOperate, BufferTooShort, ProfileLimit}
+use Rattle.types.specs.declared.refusals.Refusal.the-variants.{NodeNumber, QueueCapacity, WatchedNodes, UnknownNumber, TimeLimit, BeforeHeard, NotWatched, ReadyToOperate, BufferTooShort, ProfileLimit, NoSingleKind}
 
--- the refusal at a number; where none is, any
+-- the refusal that has a number; where none has it, any
 abbrev named : ℕ → Refusal
-named n = getD (NodeNumber ∷ NodeNumber ∷ QueueCapacity ∷ WatchedNodes ∷ UnknownNumber ∷ TimeLimit ∷ BeforeHeard ∷ NotWatched ∷ ReadyToOperate ∷ NodeNumber ∷ NodeNumber ∷ BufferTooShort ∷ ProfileLimit ∷ []) n NodeNumber
+named n =
+    readBy refusalNumber (λ (r : Refusal). r) NodeNumber
+    (NodeNumber ∷ QueueCapacity ∷ WatchedNodes ∷ UnknownNumber ∷ TimeLimit ∷ BeforeHeard ∷ NotWatched ∷ ReadyToOperate ∷ BufferTooShort ∷ ProfileLimit ∷ NoSingleKind ∷ []) n
 
 back : (r : Refusal) → named (refusalNumber r) ≡ r
 back NodeNumber = refl
@@ -23,6 +25,7 @@ back NotWatched = refl
 back ReadyToOperate = refl
 back BufferTooShort = refl
 back ProfileLimit = refl
+back NoSingleKind = refl
 
 pub number-fixes : {r s : Refusal} → refusalNumber r ≡ refusalNumber s → r ≡ s
 number-fixes {r = r} {s = s} e = sym (back r) ∙ ap named e ∙ back s

@@ -1,12 +1,15 @@
--- The DLL errors: their kinds, their codes (DS 301, Appendix 3.9), and the reading of a kind.
+-- The DLL errors: their kinds and codes, and the reading of a kind's number.
 -- Assumes nothing.
 use Prim.Native.Nat.{ℕ}
 use mathlib.Core.List.{List, [], _∷_}
 use Rattle.types.specs.Pick.{readBy}
 use Rattle.types.specs.Types.{node, readNode}
+use Rattle.types.specs.Kinds.{kindPlace, kindCode}
 use Rattle.types.specs.declared.refusals.Refusal.the-variants.{UnknownNumber}
 use Rattle.types.specs.declared.types.NodeIdRead.{NodeIdRead}
 use Rattle.types.specs.declared.types.NodeIdRead.the-variants as node-id
+use Rattle.types.specs.declared.frame.error.kinds.DllErrorKind.{DllErrorKind}
+use Rattle.types.specs.declared.frame.error.kinds.DllErrorKind.the-variants as error-kind
 use Rattle.types.specs.declared.frame.error.types.DllError.{DllError}
 use Rattle.types.specs.declared.frame.error.types.DllError.the-variants.{LossOfLink, BadPhysicalMode, MacBuffer, Crc, Collision, InvalidFormat, LossOfSoc, LossOfSoa, LossOfPreq, LossOfPres, LossOfStatusRes, CycleTimeExceeded, LatePres, SoCJitter, MsWaitSoc, MultipleMn, AddressConflict, MevAsndTimeout, UnexpectedEventInState, PdoMapVersion, PdoPayloadShort, HeartbeatTimeout}
 use Rattle.types.specs.declared.frame.error.types.DllErrors.{DllErrors}
@@ -14,55 +17,37 @@ use Rattle.types.specs.declared.frame.error.types.DllErrors.the-variants
 use Rattle.types.specs.declared.frame.error.types.DllErrorRead.{DllErrorRead}
 use Rattle.types.specs.declared.frame.error.types.DllErrorRead.the-variants.{Taken, Refused}
 
--- an error's kind is its place in the enum, from 0
-abbrev pub errorKind : DllError → ℕ
-errorKind LossOfLink = 0
-errorKind BadPhysicalMode = 1
-errorKind MacBuffer = 2
-errorKind Crc = 3
-errorKind Collision = 4
-errorKind InvalidFormat = 5
-errorKind LossOfSoc = 6
-errorKind LossOfSoa = 7
-errorKind LossOfPreq = 8
-errorKind (LossOfPres n) = 9
-errorKind (LossOfStatusRes n) = 10
-errorKind CycleTimeExceeded = 11
-errorKind (LatePres n) = 12
-errorKind SoCJitter = 13
-errorKind MsWaitSoc = 14
-errorKind MultipleMn = 15
-errorKind AddressConflict = 16
-errorKind MevAsndTimeout = 17
-errorKind (UnexpectedEventInState s e) = 18
-errorKind (PdoMapVersion n) = 19
-errorKind (PdoPayloadShort n) = 20
-errorKind (HeartbeatTimeout n) = 21
+-- an error's kind: the error without what it carries
+abbrev pub kindOf : DllError → DllErrorKind
+kindOf LossOfLink = error-kind.LossOfLink
+kindOf BadPhysicalMode = error-kind.BadPhysicalMode
+kindOf MacBuffer = error-kind.MacBuffer
+kindOf Crc = error-kind.Crc
+kindOf Collision = error-kind.Collision
+kindOf InvalidFormat = error-kind.InvalidFormat
+kindOf LossOfSoc = error-kind.LossOfSoc
+kindOf LossOfSoa = error-kind.LossOfSoa
+kindOf LossOfPreq = error-kind.LossOfPreq
+kindOf (LossOfPres n) = error-kind.LossOfPres
+kindOf (LossOfStatusRes n) = error-kind.LossOfStatusRes
+kindOf CycleTimeExceeded = error-kind.CycleTimeExceeded
+kindOf (LatePres n) = error-kind.LatePres
+kindOf SoCJitter = error-kind.SoCJitter
+kindOf MsWaitSoc = error-kind.MsWaitSoc
+kindOf MultipleMn = error-kind.MultipleMn
+kindOf AddressConflict = error-kind.AddressConflict
+kindOf MevAsndTimeout = error-kind.MevAsndTimeout
+kindOf (UnexpectedEventInState s e) = error-kind.UnexpectedEventInState
+kindOf (PdoMapVersion n) = error-kind.PdoMapVersion
+kindOf (PdoPayloadShort n) = error-kind.PdoPayloadShort
+kindOf (HeartbeatTimeout n) = error-kind.HeartbeatTimeout
 
--- the code that an entry of the error has; five kinds have none of their own in DS 301, and share 0x8000
+-- the number of its kind
+abbrev pub errorKind : DllError → ℕ
+errorKind e = kindPlace (kindOf e)
+
 abbrev pub errorCode : DllError → ℕ
-errorCode LossOfLink = 0x8165
-errorCode BadPhysicalMode = 0x8161
-errorCode MacBuffer = 0x8166
-errorCode Crc = 0x8164
-errorCode Collision = 0x8163
-errorCode InvalidFormat = 0x8241
-errorCode LossOfSoc = 0x8245
-errorCode LossOfSoa = 0x8244
-errorCode LossOfPreq = 0x8242
-errorCode (LossOfPres n) = 0x8243
-errorCode (LossOfStatusRes n) = 0x8246
-errorCode CycleTimeExceeded = 0x8233
-errorCode (LatePres n) = 0x8236
-errorCode SoCJitter = 0x8235
-errorCode MsWaitSoc = 0x8000
-errorCode MultipleMn = 0x8000
-errorCode AddressConflict = 0x8000
-errorCode MevAsndTimeout = 0x8000
-errorCode (UnexpectedEventInState s e) = 0x8000
-errorCode (PdoMapVersion n) = 0x8211
-errorCode (PdoPayloadShort n) = 0x8210
-errorCode (HeartbeatTimeout n) = 0x8250
+errorCode e = kindCode (kindOf e)
 
 -- the errors that one event reports, in order
 abbrev pub reported : DllErrors → List DllError

@@ -7,4 +7,5 @@ pub mod States
 pub mod Events
 pub mod CsEvents
 pub mod Frames
+pub mod Kinds
 pub mod Errors

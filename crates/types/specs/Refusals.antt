@@ -2,7 +2,7 @@
 -- Assumes nothing.
 use Prim.Native.Nat.{ℕ}
 use Rattle.types.specs.declared.refusals.Refusal.{Refusal}
-use Rattle.types.specs.declared.refusals.Refusal.the-variants.{NodeNumber, QueueCapacity, WatchedNodes, UnknownNumber, TimeLimit, BeforeHeard, NotWatched, ReadyToOperate, BufferTooShort, ProfileLimit}
+use Rattle.types.specs.declared.refusals.Refusal.the-variants.{NodeNumber, QueueCapacity, WatchedNodes, UnknownNumber, TimeLimit, BeforeHeard, NotWatched, ReadyToOperate, BufferTooShort, ProfileLimit, NoSingleKind}
 
 abbrev pub refusalNumber : Refusal → ℕ
 refusalNumber NodeNumber = 1
@@ -15,3 +15,4 @@ refusalNumber NotWatched = 7
 refusalNumber ReadyToOperate = 8
 refusalNumber BufferTooShort = 11
 refusalNumber ProfileLimit = 12
+refusalNumber NoSingleKind = 13

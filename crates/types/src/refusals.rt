@@ -23,6 +23,8 @@ pub enum Refusal {
     BufferTooShort,
     // The profile of an entry is above 4095.
     ProfileLimit,
+    // A code names no single error kind.
+    NoSingleKind,
 }
 
 impl Refusal {
@@ -40,6 +42,7 @@ impl Refusal {
             Refusal::ReadyToOperate => 8,
             Refusal::BufferTooShort => 11,
             Refusal::ProfileLimit => 12,
+            Refusal::NoSingleKind => 13,
         }
     }
 }

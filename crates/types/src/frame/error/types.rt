@@ -1,7 +1,8 @@
-// The errors of the data link layer (EPSG DS 301, Section 4.7), their codes (Appendix 3.9), and what they ask of NMT.
+// The errors of the data link layer (EPSG DS 301, Section 4.7), and what they ask of NMT.
 ghost use mathlib.Core.Path.{_≡_};
 ghost use Rattle.types.specs.Errors.{errorKind, errorCode, readError, carried};
 ghost use Rattle.types.specs.Types.{readNode};
+use crate::frame::error::kinds::DllErrorKind;
 use crate::refusals::Refusal;
 use crate::types::NodeId;
 use crate::types::NodeIdRead;
@@ -55,55 +56,13 @@ impl DllError {
     pub fn kind(self) -> u8
         ensures { λ r. ⌜ r ≡ errorKind self ⌝ }
     {
-        match self {
-            DllError::LossOfLink => 0,
-            DllError::BadPhysicalMode => 1,
-            DllError::MacBuffer => 2,
-            DllError::Crc => 3,
-            DllError::Collision => 4,
-            DllError::InvalidFormat => 5,
-            DllError::LossOfSoc => 6,
-            DllError::LossOfSoa => 7,
-            DllError::LossOfPreq => 8,
-            DllError::LossOfPres { node_id: _ } => 9,
-            DllError::LossOfStatusRes { node_id: _ } => 10,
-            DllError::CycleTimeExceeded => 11,
-            DllError::LatePres { node_id: _ } => 12,
-            DllError::SoCJitter => 13,
-            DllError::MsWaitSoc => 14,
-            DllError::MultipleMn => 15,
-            DllError::AddressConflict => 16,
-            DllError::MevAsndTimeout => 17,
-            DllError::UnexpectedEventInState { state: _, event: _ } => 18,
-            DllError::PdoMapVersion { node_id: _ } => 19,
-            DllError::PdoPayloadShort { node_id: _ } => 20,
-            DllError::HeartbeatTimeout { node_id: _ } => 21,
-        }
+        DllErrorKind::of(self).place()
     }
 
     pub fn to_error_code(self) -> u16
         ensures { λ r. ⌜ r ≡ errorCode self ⌝ }
     {
-        match self {
-            DllError::LossOfLink => 0x8165,
-            DllError::BadPhysicalMode => 0x8161,
-            DllError::MacBuffer => 0x8166,
-            DllError::Crc => 0x8164,
-            DllError::Collision => 0x8163,
-            DllError::InvalidFormat => 0x8241,
-            DllError::LossOfSoc => 0x8245,
-            DllError::LossOfSoa => 0x8244,
-            DllError::LossOfPreq => 0x8242,
-            DllError::LossOfPres { node_id: _ } => 0x8243,
-            DllError::LossOfStatusRes { node_id: _ } => 0x8246,
-            DllError::CycleTimeExceeded => 0x8233,
-            DllError::LatePres { node_id: _ } => 0x8236,
-            DllError::SoCJitter => 0x8235,
-            DllError::PdoMapVersion { node_id: _ } => 0x8211,
-            DllError::PdoPayloadShort { node_id: _ } => 0x8210,
-            DllError::HeartbeatTimeout { node_id: _ } => 0x8250,
-            _ => 0x8000,
-        }
+        DllErrorKind::of(self).to_error_code()
     }
 
     // An error from its kind; a is its node, or a and b are its state and event. What a kind does not carry is not looked at.

@@ -1,17 +1,18 @@
--- `types::frame::error::types::DllError::to_error_code` meets its contract: each arm is told its variant, and the last that it is one of five.
+-- `types::frame::error::kinds::DllErrorKind::place` meets its contract: each arm is told its variant.
 -- Assumes nothing.
-use mathlib.Core.Path.{refl}
-use mathlib.Core.List.{[], _∷_}
 use borrow.Author.Needs.{needs}
-use Rattle.types.specs.Errors.{errorCode}
-use Rattle.types.proofs.ErrorCases.{errors-arm}
-use Rattle.types.proofs.frame.error.types.DllError.to_error_code.Statement.{statement}
-use Rattle.types.proofs.frame.error.types.DllError.to_error_code.Tie as tie
+use Rattle.types.proofs.frame.error.kinds.DllErrorKind.place.Statement.{statement}
+use Rattle.types.proofs.frame.error.kinds.DllErrorKind.place.Tie as tie
 
-pub to-error-code-spec : {M : Type 1} → statement M
-to-error-code-spec =
+pub place-spec : {M : Type 1} → statement M
+place-spec =
     tie.close
     (tie.spec
+    (λ c. search needs)
+    (λ c. search needs)
+    (λ c. search needs)
+    (λ c. search needs)
+    (λ c. search needs)
     (λ c. search needs)
     (λ c. search needs)
     (λ c. search needs)
@@ -46,5 +47,8 @@ to-error-code-spec =
     (λ c. rw (c .enum-told15 .given .1))
     (λ c. rw (c .enum-told16 .given .1))
     (λ c. rw (c .enum-told17 .given .1))
-    (λ c.
-    errors-arm (λ e. 0x8000) errorCode (14 ∷ 15 ∷ 16 ∷ 17 ∷ 18 ∷ []) (c .before .args .self) (c .match .keys18) (λ a b. refl)))
+    (λ c. rw (c .enum-told18 .given .1))
+    (λ c. rw (c .enum-told19 .given .1))
+    (λ c. rw (c .enum-told20 .given .1))
+    (λ c. rw (c .enum-told21 .given .1))
+    (λ c. rw (c .enum-told22 .given .1)))

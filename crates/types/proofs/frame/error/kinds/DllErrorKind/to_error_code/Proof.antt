@@ -1,18 +1,17 @@
--- `types::frame::error::types::DllError::kind` meets its contract: each arm is told its variant.
+-- `types::frame::error::kinds::DllErrorKind::to_error_code` meets its contract: each arm is told its variant, and the last that it is one of five.
 -- Assumes nothing.
+use mathlib.Core.Path.{refl}
+use mathlib.Core.List.{[], _∷_}
 use borrow.Author.Needs.{needs}
-use Rattle.types.proofs.frame.error.types.DllError.kind.Statement.{statement}
-use Rattle.types.proofs.frame.error.types.DllError.kind.Tie as tie
+use Rattle.types.specs.Kinds.{kindCode}
+use Rattle.types.proofs.Cases.{arm, DllErrorKinds}
+use Rattle.types.proofs.frame.error.kinds.DllErrorKind.to_error_code.Statement.{statement}
+use Rattle.types.proofs.frame.error.kinds.DllErrorKind.to_error_code.Tie as tie
 
-pub kind-spec : {M : Type 1} → statement M
-kind-spec =
+pub to-error-code-spec : {M : Type 1} → statement M
+to-error-code-spec =
     tie.close
     (tie.spec
-    (λ c. search needs)
-    (λ c. search needs)
-    (λ c. search needs)
-    (λ c. search needs)
-    (λ c. search needs)
     (λ c. search needs)
     (λ c. search needs)
     (λ c. search needs)
@@ -47,8 +46,5 @@ kind-spec =
     (λ c. rw (c .enum-told15 .given .1))
     (λ c. rw (c .enum-told16 .given .1))
     (λ c. rw (c .enum-told17 .given .1))
-    (λ c. rw (c .enum-told18 .given .1))
-    (λ c. rw (c .enum-told19 .given .1))
-    (λ c. rw (c .enum-told20 .given .1))
-    (λ c. rw (c .enum-told21 .given .1))
-    (λ c. rw (c .enum-told22 .given .1)))
+    (λ c.
+    arm DllErrorKinds (λ k. 0x8000) kindCode (14 ∷ 15 ∷ 16 ∷ 17 ∷ 18 ∷ []) (c .before .args .self) (c .match .keys18) refl))
