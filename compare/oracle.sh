@@ -31,6 +31,8 @@ for seed in 1 2; do
 done
 echo "Running the Rust where refusal 6 stands in front of it: it has to panic."
 "$oracle" panics <"$work/1.txt"
+echo "Giving a counter of the Rust at threshold 0 errors up to the 32-bit top: its level has to stop there."
+"$oracle" top
 echo "Giving the dictionary default values, and loading what each reset restored: the heads have to stay alike."
 "$oracle" restore <"$work/1.txt" >"$work/restored.txt"
 echo "$(wc -l <"$work/restored.txt") lines with $(($(wc -l <"$work/restored.txt") - $(wc -l <"$work/1.txt"))) loads behind resets."

@@ -1,5 +1,6 @@
 #!/usr/bin/env bash
-# Compares our program `replay` with the oracle, byte for byte: on the stored call scripts, and on ten million generated calls.
+# Compares our program `replay` with the oracle, byte for byte: on the stored call scripts, at the highest threshold, and on ten million
+# generated calls.
 # SEEDS names the seeds, CALLS the length of each generated script (from 200,000 on, what it reaches is held to the minima of
 # coverage.rs), JOBS how many are made at a time. A script and its outputs are removed where the two agree.
 set -eu
@@ -99,6 +100,16 @@ mkdir -p "$work"
 for script in "$here"/scripts/*.txt; do
     compare_stored "$script"
 done
+
+# The highest threshold, which is met by 125,000 errors, and beside it a level at 0 that grows as high.
+{
+    echo "start 7 0 0 2 0 1000 - 0 0 0 0 15 15 15 1000000 15 0 15"
+    yes $'error 8 0 0\nerror 3 0 0' | head -n 249998
+    printf '%s\n' show 'error 8 0 0' 'error 3 0 0' show cycle show
+} >"$work/highest.txt"
+compare "$work/highest"
+echo "highest: a threshold of 1,000,000 is met by error 125,000; the $(wc -l <"$work/highest.oracle") lines of replay are the Rust's."
+rm "$work"/highest.*
 
 # As many seeds at a time as there are jobs: before a further one is begun, the oldest has to end.
 running=()

@@ -5,7 +5,7 @@
   scripts/lent_laws.py           writes them (then: rt fmt)
   scripts/lent_laws.py --check   says whether they are what it writes, but for the layout
 
-A law is a line of LAWS: its name, the parameters in the order of the signature (P Q T: &mut of any type; run: the run; A B F G I: by value),
+A law is a line of LAWS: its name, the parameters in the order of the signature (P Q T: &mut of any type; run: the run; A B F G I N: by value),
 and what `ask` takes: parameters by value, or P, lent as a view, and one by value."""
 import os
 import re
@@ -13,11 +13,11 @@ import sys
 
 LAWS = {
     'JudgedHeard': ('run A B', 'A'),
-    'JudgedStart': ('P run A B F G I', ''),
+    'JudgedStart': ('P run A B F G I N', ''),
     'JudgedTick': ('P Q T run A', 'P A'),
 }
 FOLDER = os.path.join(os.path.dirname(os.path.dirname(os.path.abspath(__file__))), 'crates', 'lentlaws', 'proofs')
-VALUE = {'A': 'a', 'B': 'a′', 'F': 'a″', 'G': 'a‴', 'I': 'a⁗', 'P': 'p', 'Q': 'p′', 'T': 'p″'}
+VALUE = {'A': 'a', 'B': 'a′', 'F': 'a″', 'G': 'a‴', 'I': 'a⁗', 'N': 'c', 'P': 'p', 'Q': 'p′', 'T': 'p″'}
 LAST = {'P': 'z', 'Q': 'z′', 'T': 'z″'}
 LOW = '₀₁₂₃₄₅₆₇₈₉'
 
@@ -44,7 +44,7 @@ def moved(*places):
 
 def law(name, params, ask):
     params, ask = params.split(), ask.split()
-    values = [p for p in params if p in 'ABFGI']
+    values = [p for p in params if p in 'ABFGIN']
     refs = [p for p in params if p in 'PQT']
     judged = [p for p in params if p != 'run']
     viewed = 'P' in ask

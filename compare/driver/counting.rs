@@ -73,6 +73,7 @@ fn print_cycle(manager: &mut Manager, occurrences: &mut Occurrences) {
 /// `(levels ..) (counts ..) (crossings ..) (links 0)`, with a number for each of the seven counters.
 fn counters_form(counters: &CnErrorCounters, occurrences: &Occurrences) -> String {
     let seven = seven(counters);
+    assert_eq!(seven.map(forms::threshold), [15; 7], "thresholds stay");
     let levels = seven
         .iter()
         .map(|counter| forms::level(counter).to_string());

@@ -1,5 +1,5 @@
-//! The enums of the node in the order of their declaration, the counters' levels, and the printed
-//! forms of numbers and errors.
+//! The enums of the node in the order of their declaration, the counters' levels and thresholds, and
+//! the printed forms of numbers and errors.
 
 // Each driver uses a part of them.
 #![allow(dead_code)]
@@ -181,21 +181,30 @@ pub fn action_number(action: NmtAction) -> u8 {
     }
 }
 
-/// A counter's level. Its field is private, so it is read from the derived Debug form.
 pub fn level(counter: &ThresholdCounter) -> u32 {
+    level_and_threshold(counter).0
+}
+
+pub fn threshold(counter: &ThresholdCounter) -> u32 {
+    level_and_threshold(counter).1
+}
+
+/// Their fields are private, so they are read from the derived Debug form.
+fn level_and_threshold(counter: &ThresholdCounter) -> (u32, u32) {
     let form = format!("{counter:?}");
-    let level = form
-        .split_once("threshold_cnt: ")
-        .and_then(|(_, rest)| rest.split_once(','))
-        .map(|(level, _)| level)
-        .expect("the Debug form names the level");
+    let field = |name: &str| {
+        let (_, rest) = form.split_once(name).expect("the Debug form names it");
+        let digits = rest.split([',', ' ']).next().unwrap_or("");
+        digits.parse::<u32>().expect("it is a number")
+    };
+    let (level, threshold) = (field(" threshold_cnt: "), field(" threshold: "));
     assert_eq!(
         form,
         format!(
-            "ThresholdCounter {{ cumulative_cnt: {}, threshold_cnt: {level}, threshold: 15 }}",
+            "ThresholdCounter {{ cumulative_cnt: {}, threshold_cnt: {level}, threshold: {threshold} }}",
             counter.cumulative_count(),
         ),
-        "the level is read, and the threshold stays"
+        "these are all its fields"
     );
-    level.parse().expect("a level is a number")
+    (level, threshold)
 }

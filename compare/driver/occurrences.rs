@@ -1,8 +1,11 @@
 //! How many errors reached each of the seven counters of the original. It keeps no such count: its cumulative value is that of
 //! the crossings. So its counters are looked at again after each error, and one that holds something else than before got an
-//! error: below the threshold its level is higher, at a crossing it is 0 and was not.
+//! error, whatever its threshold: without a crossing its level is higher, at a crossing its cumulative value is. Only a number at
+//! the 32-bit top stays as it is, so there is none in what is looked at.
 
 use powerlink_rs::frame::error::{CnErrorCounters, Held, held};
+
+const TOP: &str = "4294967295";
 
 pub struct Occurrences {
     /// In the order of the counters' fields.
@@ -24,6 +27,7 @@ impl Occurrences {
     pub fn look(&mut self, now: Held) -> usize {
         let mut reached = 0;
         for (place, count) in self.counts.iter_mut().enumerate() {
+            assert!(!now[place].contains(TOP), "an error at the top is not seen");
             if now[place] != self.seen[place] {
                 *count = count.saturating_add(1);
                 reached += 1;

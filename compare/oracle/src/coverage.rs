@@ -1,7 +1,7 @@
 //! Counts what a script reached, from the head's answers and from the head before and after each line.
 
 use crate::places::{ERRORS, kind_behind};
-use crate::view::{COUNTER_NAMES, HEARTBEAT, View};
+use crate::view::{COUNTER_NAMES, HEARTBEAT, HIGHEST_THRESHOLD, View};
 use std::io::{self, Write};
 
 /// Whether a script has ticks.
@@ -58,7 +58,7 @@ const TICK_KINDS: [usize; 3] = [1, 2, HEARTBEAT];
 const COUNTERS: [&str; 4] = ["c1", "c2", "c3", "c5"];
 
 /// Each call with the refusals that it can give.
-const REFUSALS: [(&str, u8); 18] = [
+const REFUSALS: [(&str, u8); 19] = [
     ("start", 1),
     ("error", 1),
     ("start", 2),
@@ -77,11 +77,29 @@ const REFUSALS: [(&str, u8); 18] = [
     ("heard", 7),
     ("withdraw", 8),
     ("kind", 13),
+    ("start", 14),
+];
+
+/// The thresholds whose starts, errors and crossings are counted, with those between them as one.
+const THRESHOLDS: [u32; 7] = [0, 1, 8, 9, 15, 16, HIGHEST_THRESHOLD];
+const BETWEEN: usize = 7;
+
+/// What is seen of kinds at a threshold of 0, and at one other than 0 and 15.
+const LEVELS_AT_0: [&str; 4] = [
+    "level above 15",
+    "level drained by a cycle",
+    "level drained to 0",
+    "cycle that cleared the last level, of such a kind",
+];
+const LEVELS_ELSEWHERE: [&str; 3] = [
+    "level one below, no crossing",
+    "level met, a crossing",
+    "level passed, a crossing",
 ];
 
 /// The numbers of the refusals, and the highest of them.
-const NUMBERS: [usize; 9] = [1, 2, 3, 4, 5, 6, 7, 8, 13];
-const HIGHEST: usize = 13;
+const NUMBERS: [usize; 10] = [1, 2, 3, 4, 5, 6, 7, 8, 13, 14];
+const HIGHEST: usize = 14;
 
 /// Codes that name no single kind.
 const NO_KIND: [&str; 3] = ["0x8000, of five kinds", "above 16 bits", "of no kind"];
@@ -154,6 +172,7 @@ struct Minima {
     bound: u64,
     forgotten: u64,
     level: u64,
+    threshold: u64,
     late: u64,
     cleared: u64,
     unreadable: u64,
@@ -178,6 +197,7 @@ const MINIMA: Minima = Minima {
     bound: 20,
     forgotten: 20,
     level: 20,
+    threshold: 5,
     late: 20,
     cleared: 50,
     unreadable: 500,
@@ -209,6 +229,15 @@ pub struct Coverage {
     /// Levels of 14 left by an error, and crossings at 15.
     level_14: u64,
     level_15: u64,
+    /// By threshold of `THRESHOLDS`, or `BETWEEN`, and kind: accepted starts, errors that counted, crossings.
+    started_at: [[u64; 7]; 8],
+    errors_at: [[u64; 7]; 8],
+    crossings_at: [[u64; 7]; 8],
+    starts_without: u64,
+    levels_at_0: [u64; 4],
+    levels_elsewhere: [u64; 3],
+    /// Starts with a threshold above the limit, by the number of the refusal.
+    above_the_limit: [u64; HIGHEST + 1],
     ticks: [u64; 8],
     kept: u64,
     dropped: u64,
@@ -250,6 +279,28 @@ fn number(word: Option<&str>) -> Option<u64> {
 fn place(word: Option<&str>, limit: usize) -> Option<usize> {
     let place = usize::try_from(number(word)?).ok()?;
     (place < limit).then_some(place)
+}
+
+/// The number of the refusal; 0 of an accepted call.
+fn refusal(answer: &str) -> usize {
+    let number = answer
+        .strip_prefix("(refused ")
+        .and_then(|rest| rest.strip_suffix(')'));
+    place(number, HIGHEST + 1).unwrap_or(0)
+}
+
+fn threshold_place(threshold: u32) -> usize {
+    THRESHOLDS
+        .iter()
+        .position(|place| *place == threshold)
+        .unwrap_or(BETWEEN)
+}
+
+fn threshold_name(place: usize) -> String {
+    match THRESHOLDS.get(place) {
+        Some(threshold) => format!("threshold {threshold}"),
+        None => "another threshold".to_string(),
+    }
 }
 
 fn state_place(state: u8) -> usize {
@@ -309,6 +360,9 @@ impl Coverage {
             None if call == "show" => self.shows += 1,
             None => self.run_lines += 1,
         }
+        if call == "start" {
+            self.count_start(step, answer);
+        }
         if let Some(after) = step.after {
             self.states[state_place(after.nmt)] += 1;
         }
@@ -319,10 +373,25 @@ impl Coverage {
 
     fn count_call(&mut self, call: usize, answer: &str) {
         self.calls[call] += 1;
-        let number = answer
-            .strip_prefix("(refused ")
-            .and_then(|rest| rest.strip_suffix(')'));
-        self.refusals[call][place(number, HIGHEST + 1).unwrap_or(0)] += 1;
+        self.refusals[call][refusal(answer)] += 1;
+    }
+
+    /// The thresholds of a start stand behind its first eleven numbers.
+    fn count_start(&mut self, step: &Step, answer: &str) {
+        let named: Vec<u64> = step
+            .line
+            .split(' ')
+            .skip(12)
+            .filter_map(|word| number(Some(word)))
+            .collect();
+        let above = |threshold: &u64| *threshold > u64::from(HIGHEST_THRESHOLD);
+        self.above_the_limit[refusal(answer)] += u64::from(named.iter().any(above));
+        if let (0, Some(after)) = (refusal(answer), step.after) {
+            self.starts_without += u64::from(named.is_empty());
+            for (kind, threshold) in after.thresholds.iter().enumerate() {
+                self.started_at[threshold_place(*threshold)][kind] += 1;
+            }
+        }
     }
 
     fn count_effect<'a>(
@@ -343,9 +412,11 @@ impl Coverage {
                 }
                 self.count_crossings(before, after);
                 self.count_levels(before, after);
+                self.count_thresholds(before, after);
             }
             "tick" => {
                 self.count_crossings(before, after);
+                self.count_thresholds(before, after);
                 for kind in TICK_KINDS {
                     self.crossings_in_ticks[kind] += crossed(kind, before, after);
                 }
@@ -360,7 +431,7 @@ impl Coverage {
             "start" | "withdraw" if !answer.starts_with("(refused") => self.word_forgotten = false,
             "handout" if answer == "(taken none)" => self.handed_none += 1,
             "handout" => self.handed_out += 1,
-            "cycle" if answer == "(taken (cleared 1))" => self.cleared += 1,
+            "cycle" => self.count_cycle(before, after, answer == "(taken (cleared 1))"),
             "kind" => self.count_code(number(words.next()).unwrap_or(0), answer),
             _ => (),
         }
@@ -447,10 +518,48 @@ impl Coverage {
         self.ticks[kind] += 1;
     }
 
+    /// Of one error: what it left of the levels.
     fn count_levels(&mut self, before: &View, after: &View) {
-        for (before, after) in before.levels.iter().zip(&after.levels) {
-            self.level_14 += u64::from(*before == 6 && *after == 14);
-            self.level_15 += u64::from(*before == 7 && *after == 0);
+        for (kind, threshold) in before.thresholds.into_iter().enumerate() {
+            let (was, is) = (before.levels[kind], after.levels[kind]);
+            let crossed = crossed(kind, before, after) > 0;
+            let below = is > was && is + 1 == threshold;
+            let met = crossed && was + 8 == threshold;
+            match threshold {
+                0 => self.levels_at_0[0] += u64::from(is > was && is > 15),
+                15 => {
+                    self.level_14 += u64::from(below);
+                    self.level_15 += u64::from(met);
+                }
+                _ => {
+                    let seen = [below, met, crossed && !met];
+                    for (count, seen) in self.levels_elsewhere.iter_mut().zip(seen) {
+                        *count += u64::from(seen);
+                    }
+                }
+            }
+        }
+    }
+
+    /// The errors that counted and the crossings, by threshold.
+    fn count_thresholds(&mut self, before: &View, after: &View) {
+        for (kind, threshold) in before.thresholds.into_iter().enumerate() {
+            let place = threshold_place(threshold);
+            let errors = after.occurrences[kind].saturating_sub(before.occurrences[kind]);
+            self.errors_at[place][kind] += u64::from(errors);
+            self.crossings_at[place][kind] += crossed(kind, before, after);
+        }
+    }
+
+    fn count_cycle(&mut self, before: &View, after: &View, cleared: bool) {
+        self.cleared += u64::from(cleared);
+        for (kind, threshold) in before.thresholds.into_iter().enumerate() {
+            let (was, is) = (before.levels[kind], after.levels[kind]);
+            if threshold == 0 && is < was {
+                self.levels_at_0[1] += 1;
+                self.levels_at_0[2] += u64::from(is == 0);
+                self.levels_at_0[3] += u64::from(is == 0 && cleared);
+            }
         }
     }
 
@@ -575,6 +684,7 @@ impl Coverage {
             ("Errors given to the counters, by kind", self.error_counts()),
             ("Codes, by the kind behind them", self.code_counts()),
             ("Crossings", self.crossing_counts()),
+            ("Thresholds", self.threshold_counts()),
             ("Ticks", by_tick(named(&TICKS, &self.ticks, MINIMA.tick))),
             (
                 "Bounds in ticks",
@@ -711,6 +821,63 @@ impl Coverage {
         counts
     }
 
+    fn threshold_counts(&self) -> Vec<Count> {
+        let mut counts = vec![counted(
+            "start that names none",
+            self.starts_without,
+            MINIMA.refusal,
+        )];
+        for number in [1, 2, 3, HIGHEST] {
+            counts.push(counted(
+                format!("start with one above the limit, refused {number}"),
+                self.above_the_limit[number],
+                MINIMA.refusal,
+            ));
+        }
+        let at_0 = LEVELS_AT_0.iter().zip(self.levels_at_0);
+        counts.extend(at_0.map(|(name, count)| counted(format!("0: {name}"), count, MINIMA.level)));
+        let elsewhere = LEVELS_ELSEWHERE.iter().zip(self.levels_elsewhere);
+        counts.extend(elsewhere.map(|(name, count)| {
+            counted(format!("other than 0 and 15: {name}"), count, MINIMA.level)
+        }));
+        for place in 0..=BETWEEN {
+            let name = threshold_name(place);
+            let errors = self.errors_at[place].iter().sum();
+            let crossings = self.crossings_at[place].iter().sum();
+            counts.push(counted(format!("{name}, errors"), errors, MINIMA.crossing));
+            counts.push(counted(format!("{name}, crossings"), crossings, 0));
+        }
+        counts
+    }
+
+    /// Each threshold with each kind: starts, errors and crossings. At 0 there are none, and at the limit they are too far.
+    fn kind_counts(&self) -> Vec<Count> {
+        let mut counts = Vec::new();
+        for place in 0..=BETWEEN {
+            let name = threshold_name(place);
+            let crosses = !matches!(THRESHOLDS.get(place), Some(0 | &HIGHEST_THRESHOLD));
+            for (kind, counter) in COUNTER_NAMES.iter().enumerate() {
+                let mut push = |what: &str, count: u64, minimum: u64| {
+                    counts.push(counted(
+                        format!("{name}, {counter}, {what}"),
+                        count,
+                        minimum,
+                    ));
+                };
+                push("started", self.started_at[place][kind], MINIMA.threshold);
+                push("errors", self.errors_at[place][kind], MINIMA.threshold);
+                if crosses {
+                    push(
+                        "crossings",
+                        self.crossings_at[place][kind],
+                        MINIMA.threshold,
+                    );
+                }
+            }
+        }
+        counts
+    }
+
     fn heartbeat_counts(&self) -> Vec<Count> {
         vec![
             counted("one late", self.one_late, MINIMA.late),
@@ -799,6 +966,11 @@ impl Coverage {
             out,
             "DLL states in NMT states, events and expectations",
             &self.dll_counts(),
+        )?;
+        report_pairs(
+            out,
+            "Thresholds of kinds, with starts, errors and crossings",
+            &self.kind_counts(),
         )
     }
 
@@ -807,6 +979,7 @@ impl Coverage {
         let mut groups = self.groups();
         groups.push(("NMT", self.nmt_counts()));
         groups.push(("DLL", self.dll_counts()));
+        groups.push(("Thresholds", self.kind_counts()));
         let mut short = Vec::new();
         for (title, counts) in groups {
             for count in counts.iter().filter(|count| count.count < count.minimum) {

@@ -2,7 +2,7 @@
 
 use crate::dictionary;
 use crate::head::Head;
-use crate::places::{action_number, error_form, level, named_form};
+use crate::places::{action_number, error_form, level, named_form, threshold};
 use crate::reset::Range;
 use crate::script::Watched;
 use crate::view::COUNTER_NAMES;
@@ -100,6 +100,7 @@ pub fn show(head: &Head, run: &[Watched], desk: &[u8]) -> Vec<String> {
         named_form("watched", run.iter().map(watched)),
         crossings(context),
         named_form("desk", (!desk.is_empty()).then(|| digits(desk)).into_iter()),
+        thresholds(context),
     ]);
     lines
 }
@@ -174,6 +175,13 @@ fn crossings(context: &CnContext) -> String {
     let counters = seven(&context.dll_error_manager.counters);
     let crossings = counters.map(|counter| counter.cumulative_count().to_string());
     named_form("crossings", crossings.into_iter())
+}
+
+/// As the original's counters hold them (document 02, No. 6).
+fn thresholds(context: &CnContext) -> String {
+    let counters = seven(&context.dll_error_manager.counters);
+    let thresholds = counters.map(|counter| threshold(counter).to_string());
+    named_form("thresholds", thresholds.into_iter())
 }
 
 fn watched(watched: &Watched) -> String {

@@ -49,7 +49,7 @@ const WAIT_SOC: u8 = 1;
 const WAIT_PREQ: u8 = 2;
 const WAIT_SOA: u8 = 3;
 
-/// Error kinds that have a threshold, and kinds that carry a node.
+/// Error kinds that have a threshold, in the order of the counters, and kinds that carry a node.
 const THRESHOLD_KINDS: [u64; 7] = [4, 6, 7, 8, 13, 3, 21];
 const NODE_KINDS: [u64; 6] = [9, 10, 12, 19, 20, 21];
 
@@ -59,6 +59,11 @@ const CYCLES: [u64; 8] = [0, 1, 7, 1000, 1000, 1000, 20_000, 0xFFFF_FFFF];
 const TOLERANCES: [u64; 8] = [0, 999, 1000, 1999, 100_000, 100_000, 5_000_000, 0xFFFF_FFFF];
 const COUNTER_VALUES: [u64; 6] = [0, 0, 1, 7, 0xFFFF_FFFE, 0xFFFF_FFFF];
 const REGISTERS: [u64; 6] = [0, 0, 1, 2, 0xFE, 0xFF];
+/// 15 is the most frequent, so that the other scenarios cross as before.
+const THRESHOLDS: [u64; 20] = [
+    0, 0, 1, 7, 8, 8, 9, 9, 14, 15, 15, 15, 15, 15, 16, 16, 17, 24, 33, 1_000_000,
+];
+const THRESHOLDS_ABOVE: [u64; 3] = [1_000_001, 1_000_001, 0xFFFF_FFFF];
 /// Numbers that name no event, kind, state or command.
 const UNNAMED: [u64; 8] = [19, 22, 23, 255, 256, 257, 1 << 32, u64::MAX];
 
@@ -297,7 +302,36 @@ impl Script<'_> {
         let tolerance = self.value_or_missing(&TOLERANCES);
         let counters: Vec<String> = (0..4).map(|_| self.value(&COUNTER_VALUES)).collect();
         let counters = counters.join(" ");
-        format!("start {node} {flags} {timeout} {queue} {register} {cycle} {tolerance} {counters}")
+        let thresholds = self.thresholds();
+        format!(
+            "start {node} {flags} {timeout} {queue} {register} {cycle} {tolerance} {counters}{thresholds}"
+        )
+    }
+
+    /// Seven thresholds behind a start, or none.
+    fn thresholds(&mut self) -> String {
+        if self.random.one_in(3) {
+            return String::new();
+        }
+        (0..7)
+            .map(|_| format!(" {}", self.value(&THRESHOLDS)))
+            .collect()
+    }
+
+    /// A start with a threshold above the limit, at times with more than one.
+    fn start_above_the_limit(&mut self, node: u64, queue: u64) -> String {
+        let line = self.start_line(node, queue);
+        let mut words: Vec<String> = line.split(' ').take(12).map(str::to_string).collect();
+        let above = self.random.below(7);
+        for place in 0..7 {
+            let values = if place == above || self.random.one_in(8) {
+                &THRESHOLDS_ABOVE[..]
+            } else {
+                &THRESHOLDS[..]
+            };
+            words.push(self.value(values));
+        }
+        words.join(" ")
     }
 
     /// Starts that are declined, some for more than one reason.
@@ -305,10 +339,13 @@ impl Script<'_> {
         let (good, bad) = (u64::from(self.good_node()), u64::from(self.bad_node()));
         let queue = self.random.pick(&[33, 34, 256, 1 << 32, u64::MAX]);
         let few = self.random.below(33);
-        let line = match self.random.below(4) {
+        let line = match self.random.below(8) {
             0 => self.start_line(bad, few),
             1 => self.start_line(bad, queue),
             2 => self.start_line(good, queue),
+            3 => self.start_above_the_limit(bad, few),
+            4 => self.start_above_the_limit(good, queue),
+            5 | 6 => self.start_above_the_limit(good, few),
             _ => return self.bad_run(),
         };
         self.call(&line)
@@ -384,11 +421,14 @@ impl Script<'_> {
                 4 => self.call2("heard", u64::from(node), TOP + 1)?,
                 5 => self.plain_call()?,
                 _ => {
-                    // The node and the queue are looked at before the run.
+                    // The node and the queue are looked at before the run, and the thresholds behind it.
                     let bad = self.bad_node();
-                    let node = self.random.pick(&[node, node, bad]);
+                    let node = u64::from(self.random.pick(&[node, node, bad]));
                     let queue = self.random.pick(&[2, 2, 33]);
-                    let line = self.start_line(u64::from(node), queue);
+                    let line = match self.random.below(2) {
+                        0 => self.start_above_the_limit(node, queue),
+                        _ => self.start_line(node, queue),
+                    };
                     self.call(&line)?;
                 }
             }
@@ -488,7 +528,7 @@ impl Script<'_> {
 // Scenarios.
 impl Script<'_> {
     fn scenario(&mut self) -> io::Result<()> {
-        match self.random.below(101) {
+        match self.random.below(109) {
             0..14 => self.nmt_events(),
             14..28 => self.dll_pairs(),
             28..36 => self.error_levels(),
@@ -510,6 +550,7 @@ impl Script<'_> {
             95 => self.withdrawals(),
             96 | 97 => self.reset_between(),
             98 => self.kinds(),
+            99..107 => self.up_to_the_threshold(),
             _ => self.plain_calls(),
         }
     }
@@ -561,6 +602,36 @@ impl Script<'_> {
             }
         }
         Ok(())
+    }
+
+    /// Errors of one kind, with cycles before the last but one, so that this one leaves its level one below the threshold or meets it.
+    /// A level at threshold 0 rises further and is drained, at times by more cycles than it needs.
+    fn up_to_the_threshold(&mut self) -> io::Result<()> {
+        let place = self.random.below(7) as usize;
+        let kind = THRESHOLD_KINDS[place];
+        let below = self.random.below(2) as u32;
+        let held = |view: View| (view.levels[place], view.thresholds[place]);
+        for _ in 0..12 {
+            let Some((level, threshold)) = self.head.view().map(held) else {
+                break;
+            };
+            let left = threshold.saturating_sub(below);
+            match threshold {
+                0 if self.random.one_in(3) => self.cycles(level.min(40) + below)?,
+                0 => self.error(kind)?,
+                _ if level + 8 < left || level == 0 => self.error(kind)?,
+                _ => {
+                    self.cycles((level + 8).saturating_sub(left).min(level))?;
+                    self.error(kind)?;
+                    return self.error(kind);
+                }
+            }
+        }
+        Ok(())
+    }
+
+    fn cycles(&mut self, count: u32) -> io::Result<()> {
+        (0..count).try_for_each(|_| self.call("cycle"))
     }
 
     fn soc_check(&mut self) -> io::Result<()> {
@@ -1056,6 +1127,7 @@ impl Script<'_> {
             "unwatch",
             "start 0 0 5000 2 0 1000 - 0 0 0 0",
             "start 7 0 5000 33 0 1000 - 0 0 0 0",
+            "start 7 0 5000 2 0 1000 - 0 0 0 0 15 15 15 15 15 15 1000001",
             "show",
         ];
         lines.iter().try_for_each(|line| self.give(line))
@@ -1090,7 +1162,7 @@ impl Script<'_> {
     fn unreadable_start(&mut self) -> String {
         let line = self.start_line(7, 2);
         let rest = line.splitn(3, ' ').nth(2).unwrap_or("");
-        match self.random.below(8) {
+        match self.random.below(10) {
             0 => format!("{line} 0"),
             1 => line
                 .rsplit_once(' ')
@@ -1101,6 +1173,8 @@ impl Script<'_> {
             4 => "start 7 4294967296 0 2 0 1000 - 0 0 0 0".to_string(),
             5 => "start 7 0 0 2 256 1000 - 0 0 0 0".to_string(),
             6 => "start 7 0 0 2 0 4294967296 - 0 0 0 0".to_string(),
+            7 => "start 7 0 0 2 0 1000 - 0 0 0 0 15 15 15 15 15 15 4294967296".to_string(),
+            8 => "start 7 0 0 2 0 1000 - 0 0 0 0 - 15 15 15 15 15 15".to_string(),
             _ => "start 7 0 0 2 0 1000 - 0 0 0 -".to_string(),
         }
     }

@@ -6,14 +6,14 @@ use crate::occurrences::Occurrences;
 use crate::places::{self, DLL_EVENTS, NMT_EVENTS};
 use crate::reset;
 use crate::script::{Load, Start, Watched};
-use crate::view::HEARTBEAT;
+use crate::view::{HEARTBEAT, HIGHEST_THRESHOLD};
 use crate::{forms, kinds};
 use powerlink_rs::NodeId;
 use powerlink_rs::common::{NetTime, RelativeTime};
 use powerlink_rs::frame::basic::MacAddress;
 use powerlink_rs::frame::cs_state_machine::DllCsState;
 use powerlink_rs::frame::error::{
-    CnErrorCounters, DllErrorManager, Held, LoggingErrorHandler, held,
+    CnErrorCounters, DllErrorManager, Held, LoggingErrorHandler, ThresholdCounter, held,
 };
 use powerlink_rs::frame::{DllCsStateMachine, DllError};
 use powerlink_rs::hal::TimeProvider;
@@ -80,6 +80,7 @@ impl Head {
             return Err(2);
         }
         try_run(run)?;
+        try_thresholds(start.thresholds)?;
         for watched in run {
             watched.heard = 0;
         }
@@ -334,9 +335,37 @@ fn try_run(run: &[Watched]) -> Result<(), u8> {
     if sound { Ok(()) } else { Err(3) }
 }
 
+/// Number 14.
+fn try_thresholds(thresholds: Option<[u32; 7]>) -> Result<(), u8> {
+    let above = |threshold: u32| threshold > HIGHEST_THRESHOLD;
+    if thresholds.is_some_and(|seven| seven.into_iter().any(above)) {
+        return Err(14);
+    }
+    Ok(())
+}
+
 /// Number 5.
 fn try_time(time: u64) -> Result<(), u8> {
     if time <= LAST_TIME { Ok(()) } else { Err(5) }
+}
+
+/// The counters of a fresh head. The original's start with 15 for each kind; other thresholds are given
+/// to it by its own constructor of a counter.
+fn counters(thresholds: Option<[u32; 7]>) -> CnErrorCounters {
+    let mut counters = CnErrorCounters::new();
+    if let Some(given) = thresholds {
+        let new = given.map(ThresholdCounter::new);
+        [
+            counters.collision,
+            counters.loss_of_soc,
+            counters.loss_of_soa,
+            counters.loss_of_preq,
+            counters.soc_jitter,
+            counters.crc_errors,
+            counters.heartbeat_timeout,
+        ] = new;
+    }
+    counters
 }
 
 /// The context of a fresh head. What no call looks at is empty.
@@ -360,7 +389,7 @@ fn context(
         time_provider: &NoClock,
         nmt_state_machine: CnNmtStateMachine::new(node, flags, start.timeout),
         dll_state_machine: DllCsStateMachine::new(),
-        dll_error_manager: DllErrorManager::new(CnErrorCounters::new(), LoggingErrorHandler),
+        dll_error_manager: DllErrorManager::new(counters(start.thresholds), LoggingErrorHandler),
         asnd_transport: AsndTransport,
         last_soc_net_time: NetTime::default(),
         last_soc_relative_time: RelativeTime::default(),

@@ -1,7 +1,8 @@
 //! The oracle of the comparison: reads a call script (docs/CALLS.md), drives the original Rust and
 //! prints what the script's calls answer. Behind each reset it sets by hand what document 02, No. 7
 //! lets a reset forget. Behind `cumulative` stand the errors that reached a counter of the original,
-//! and its own cumulative values are the crossings (document 02, No. 3).
+//! and its own cumulative values are the crossings (document 02, No. 3). Thresholds that a start names
+//! are given to its counters (No. 6).
 //!
 //!     oracle [replay] < SCRIPT     the answers
 //!     oracle original < SCRIPT     the answers of the original as it is, whose resets forget nothing
@@ -10,6 +11,7 @@
 //!     oracle generate SEED CALLS   a generated script; its coverage on standard error
 //!     oracle generate SEED CALLS without-ticks   the same of the other calls
 //!     oracle generate SEED CALLS desk            a script of calls on the desk's buffer
+//!     oracle top                   how many errors take a level of the original at threshold 0 to the 32-bit top
 //!     oracle shortest              the shortest ways of the original to ReadyToOperate with an old ready word
 
 mod coverage;
@@ -43,7 +45,7 @@ use std::process::ExitCode;
 /// The number of calls that the minima of coverage.rs and desk_generator.rs are made for.
 const LONG: u64 = 200_000;
 
-const USAGE: &str = "usage: oracle [replay | original | restore | panics] < SCRIPT, or oracle generate SEED CALLS [without-ticks | desk], or oracle shortest";
+const USAGE: &str = "usage: oracle [replay | original | restore | panics] < SCRIPT, or oracle generate SEED CALLS [without-ticks | desk], or oracle top, or oracle shortest";
 
 fn main() -> ExitCode {
     let arguments: Vec<String> = std::env::args().skip(1).collect();
@@ -59,6 +61,7 @@ fn main() -> ExitCode {
             generate(seed, calls, Ticks::Without, &mut out)
         }
         ["generate", seed, calls, "desk"] => generate_desk(seed, calls, &mut out),
+        ["top"] => modes::top(&mut out),
         ["shortest"] => incident::shortest(&mut out),
         _ => Err(io::Error::other(USAGE)),
     };

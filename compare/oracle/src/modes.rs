@@ -4,6 +4,8 @@ use crate::dictionary::Defaults;
 use crate::forms;
 use crate::head::Resets;
 use crate::oracle::Oracle;
+use crate::places::level;
+use powerlink_rs::frame::error::ThresholdCounter;
 use std::io::{self, Write};
 use std::panic;
 
@@ -56,6 +58,31 @@ fn is_unreadable(printed: &[String]) -> bool {
 /// Whether the answer is that of a reset whose ranges have the objects of the kept values.
 fn restores_kept(answer: &str) -> bool {
     answer.starts_with("(taken (entered") && answer.contains(&forms::range(0x1000, 0x1FFF))
+}
+
+/// Gives a counter of the original at threshold 0 errors up to the 32-bit top, which no script reaches, and asserts that its level
+/// stops there, that it never crosses and that a cycle still lowers it; prints how many errors the top takes.
+pub fn top(out: &mut dyn Write) -> io::Result<()> {
+    let mut counter = ThresholdCounter::new(0);
+    let error = |counter: &mut ThresholdCounter| {
+        counter.increment();
+        assert!(!counter.check_and_reset(), "a threshold of 0 never crosses");
+    };
+    let below = u32::MAX / 8;
+    for _ in 0..below {
+        error(&mut counter);
+    }
+    assert_eq!(level(&counter), 8 * below);
+    for _ in 0..2 {
+        error(&mut counter);
+        assert_eq!(level(&counter), u32::MAX, "it stops at the top");
+    }
+    counter.decrement();
+    assert_eq!(level(&counter), u32::MAX - 1);
+    error(&mut counter);
+    assert_eq!(level(&counter), u32::MAX);
+    assert_eq!(counter.cumulative_count(), 0);
+    writeln!(out, "(top (errors {}))", u64::from(below) + 1)
 }
 
 /// What the original says when it takes a later time from an earlier one.

@@ -139,6 +139,7 @@ impl Driven for Oracle {
             basic_timeout: nmt.basic_ethernet_timeout,
             dll: context.dll_state_machine.current_state() as u8,
             levels: counters.map(places::level),
+            thresholds: counters.map(places::threshold),
             occurrences: head.occurrences.counts,
             crossings: counters.map(|counter| counter.cumulative_count()),
             last_soc: context.last_soc_reception_time_us,

@@ -19,6 +19,8 @@ pub struct Start {
     pub cycle: Option<u32>,
     pub tolerance: Option<u32>,
     pub counters: [u32; 4],
+    /// In the order of the counters' fields; none: those that the original gives.
+    pub thresholds: Option<[u32; 7]>,
 }
 
 /// The values that a load names. A cycle or tolerance that it names may be missing.
@@ -142,6 +144,7 @@ fn read_start(words: &mut Words) -> Option<Start> {
             words.number()?,
             words.number()?,
         ],
+        thresholds: words.thresholds()?,
     })
 }
 
@@ -212,6 +215,18 @@ impl<'a> Words<'a> {
             return Some(None);
         }
         self.number().map(Some)
+    }
+
+    /// The seven of a start, if a further word stands there.
+    fn thresholds(&mut self) -> Option<Option<[u32; 7]>> {
+        if self.rest.is_none() {
+            return Some(None);
+        }
+        let mut thresholds = [0; 7];
+        for threshold in &mut thresholds {
+            *threshold = self.number()?;
+        }
+        Some(Some(thresholds))
     }
 
     fn flag(&mut self) -> Option<bool> {

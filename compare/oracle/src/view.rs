@@ -14,6 +14,9 @@ pub const COUNTER_NAMES: [&str; 7] = [
 /// The place of the heartbeat counter among them, the last.
 pub const HEARTBEAT: usize = 6;
 
+/// Above it a threshold is declined.
+pub const HIGHEST_THRESHOLD: u32 = 1_000_000;
+
 /// The head between two lines of a script.
 #[derive(Debug, Clone, PartialEq, Eq)]
 pub struct View {
@@ -26,6 +29,7 @@ pub struct View {
     pub dll: u8,
     /// In the order of `COUNTER_NAMES`.
     pub levels: [u32; 7],
+    pub thresholds: [u32; 7],
     /// The errors that reached each counter, and the original's cumulative values.
     pub occurrences: [u32; 7],
     pub crossings: [u32; 7],

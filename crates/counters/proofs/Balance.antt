@@ -11,13 +11,14 @@ use borrow.Author.Tests.{ltb-true, ltb-false, leb-true, leb-false, eq-eqb}
 use lib.Dec.{leb, ltb, lit<, lit≤}
 use Rattle.types.specs.Pick.{pick, both}
 use Rattle.types.specs.declared.frame.error.types.DllError.{DllError}
-use Rattle.counters.specs.Counters.{counterKinds, place, sameKind, counter, replaced, top, newCounters, incremented, decremented, reaches, checked, afterError, active, lowered, countedError, linkLost, Effect, counts, losesLink, isLogged, nothing, effect, handledAs, handled, completed}
+use Rattle.counters.specs.Counters.{counterKinds, place, sameKind, counter, replaced, top, newCounters, thresholdFor, incremented, decremented, reaches, checked, afterError, active, lowered, countedError, linkLost, Effect, counts, losesLink, isLogged, nothing, effect, handledAs, handled, completed}
 use Rattle.counters.specs.Marks.{level, thresholdOf, Mark, given, crossed, drained, isGiven, isCrossed, isDrained, countOf, E, N, D, effectMarks, errorMarks, drainedOf, cycleMarks, CounterCall, handleError, onCycleComplete, after, marks}
 use Rattle.counters.specs.declared.counters.ThresholdCounter.{ThresholdCounter}
 use Rattle.counters.specs.declared.counters.ThresholdCheck.{ThresholdCheck}
 use Rattle.counters.specs.declared.counters.CounterKind.{CounterKind}
 use Rattle.counters.specs.declared.counters.CounterKind.the-variants.{Collision, LossOfSoc, LossOfSoa, LossOfPreq, SoCJitter, Crc, HeartbeatTimeout}
 use Rattle.counters.specs.declared.counters.CnErrorCounters.{CnErrorCounters}
+use Rattle.counters.specs.declared.counters.Thresholds.{Thresholds}
 use Rattle.counters.specs.declared.counters.HandledError.{HandledError}
 use Rattle.counters.proofs.ByKind.{same-kind, counter-of, counter-replaced, counter-new}
 
@@ -26,9 +27,12 @@ pub record Balance (T e n d L L′ : ℕ) : Type 0 where
   pub below : L < T → L′ < T
   pub low : T * n + L′ + d ≤ 8 * e + L
   pub high : T ≤ top → L < T → 8 * e + L ≤ (T + 7) * n + L′ + d
+  -- a threshold of 0 is never reached, and the level keeps what no cycle drained until it stops at the top
+  pub none : T ≡ 0 → n ≡ 0
+  pub exact : T ≡ 0 → 8 * e + L ≤ top → L′ + d ≡ 8 * e + L
 
 pub balance-none : (T L : ℕ) → Balance T 0 0 0 L L
-balance-none T L = record { below = λ h. h; low = omega arith; high = λ t h. omega arith }
+balance-none T L = record { below = λ h. h; low = omega arith; high = λ t h. omega arith; none = λ z. refl; exact = λ z h. omega arith }
 
 pub balance-then :
     (T e n d e′ n′ d′ L L′ L″ : ℕ) → Balance T e n d L L′ → Balance T e′ n′ d′ L′ L″ → Balance T (e + e′) (n + n′) (d + d′) L L″
@@ -37,6 +41,8 @@ balance-then T e n d e′ n′ d′ L L′ L″ a b =
       below = λ h. b .below (a .below h);
       low = omega (arith, a .low, b .low, mul-add T n n′);
       high = λ t h. omega (arith, a .high t h, b .high t (a .below h), mul-add (T + 7) n n′);
+      none = λ z. omega (arith, a .none z, b .none z);
+      exact = λ z h. let f = a .exact z (omega arith) in let g = b .exact z (omega arith) in omega arith;
     }
 
 -- an error: 8 is added, and at the threshold the level drops to 0
@@ -53,14 +59,15 @@ balance-error c = by (ltb 0 (c .threshold)) refl (leb (c .threshold) (incremente
         leb (c .threshold) (incremented c .«threshold_cnt») ≡ b →
         Balance (c .threshold) 1 (pick (checked (incremented c) .reached) 1 0) 0 (c .«threshold_cnt») (checked (incremented c) .counter .«threshold_cnt»)
     by true a true b =
+        let g = ltb-true 0 (c .threshold) a in
         let h = leb-true (c .threshold) (incremented c .«threshold_cnt») b in
-        rw (a, b) (record { below = λ l. omega arith; low = omega arith; high = λ t l. omega arith })
+        rw (a, b) (record { below = λ l. omega arith; low = omega arith; high = λ t l. omega arith; none = λ z. omega arith; exact = λ z l. omega arith })
     by true a false b =
         let h = leb-false (c .threshold) (incremented c .«threshold_cnt») b in
-        rw (a, b) (record { below = λ l. omega arith; low = omega arith; high = λ t l. omega arith })
+        rw (a, b) (record { below = λ l. omega arith; low = omega arith; high = λ t l. omega arith; none = λ z. omega arith; exact = λ z l. omega arith })
     by false a b q =
         let h = ltb-false 0 (c .threshold) a in
-        rw a (record { below = λ l. omega arith; low = omega arith; high = λ t l. omega arith })
+        rw a (record { below = λ l. omega arith; low = omega arith; high = λ t l. omega arith; none = λ z. omega arith; exact = λ z l. omega arith })
 
 -- a completed cycle: 1 is taken from a level above 0
 balance-cycle :
@@ -74,10 +81,10 @@ balance-cycle c = by (active c) refl
         Balance (c .threshold) 0 0 (pick (active c) 1 0) (c .«threshold_cnt») (decremented c .«threshold_cnt»)
     by true a =
         let h = ltb-true 0 (c .«threshold_cnt») a in
-        rw a (record { below = λ l. omega arith; low = omega arith; high = λ t l. omega arith })
+        rw a (record { below = λ l. omega arith; low = omega arith; high = λ t l. omega arith; none = λ z. omega arith; exact = λ z l. omega arith })
     by false a =
         let h = ltb-false 0 (c .«threshold_cnt») a in
-        rw a (record { below = λ l. omega arith; low = omega arith; high = λ t l. omega arith })
+        rw a (record { below = λ l. omega arith; low = omega arith; high = λ t l. omega arith; none = λ z. omega arith; exact = λ z l. omega arith })
 
 -- the counter of kind k, from c to c′, over a list of marks
 pub record Balanced (T : ℕ) (k : CounterKind) (c : ThresholdCounter) (ms : List Mark) (c′ : ThresholdCounter) : Type 0 where
@@ -224,25 +231,30 @@ balanced T k s h (onCycleComplete ∷ cs) =
     let b = balanced-completed T k s h in
     balanced-then b (balanced T k (completed s .counters) (b .kept) cs)
 
--- from level 0, with a threshold above 0 that 32 bits hold
+-- from level 0, with a threshold that 32 bits hold
 pub record FromZero (T : ℕ) (k : CounterKind) (ms : List Mark) (L : ℕ) : Type 0 where
-  pub below : L < T
+  pub below : 0 < T → L < T
   pub low : T * N k ms + L + D k ms ≤ 8 * E k ms
-  pub high : 8 * E k ms ≤ (T + 7) * N k ms + L + D k ms
+  pub high : 0 < T → 8 * E k ms ≤ (T + 7) * N k ms + L + D k ms
+  pub none : T ≡ 0 → N k ms ≡ 0
+  pub exact : T ≡ 0 → 8 * E k ms ≤ top → L + D k ms ≡ 8 * E k ms
 
 pub from-zero :
     {T : ℕ} {k : CounterKind} {c c′ : ThresholdCounter} {ms : List Mark} →
-    0 < T → T ≤ top → c .«threshold_cnt» ≡ 0 → Balanced T k c ms c′ → FromZero T k ms (c′ .«threshold_cnt»)
-from-zero p t z b =
+    T ≤ top → c .«threshold_cnt» ≡ 0 → Balanced T k c ms c′ → FromZero T k ms (c′ .«threshold_cnt»)
+from-zero t z b =
     record {
-      below = b .balance .below (rw z p);
+      below = λ p. b .balance .below (rw z p);
       low = omega (arith, b .balance .low);
-      high = omega (arith, b .balance .high t (rw z p));
+      high = λ p. omega (arith, b .balance .high t (rw z p));
+      none = b .balance .none;
+      exact = λ u h. let g = b .balance .exact u (omega arith) in omega arith;
     }
 
--- threshold 15, from new counters: 15N + L + D ≤ 8E ≤ 22N + L + D
-pub fifteen :
-    (k : CounterKind) (cs : List CounterCall) → FromZero 15 k (marks newCounters cs) (level k (after newCounters cs))
-fifteen k cs =
-    from-zero (lit< tt) (lit≤ tt) (ap (λ (c : ThresholdCounter). c .«threshold_cnt») (counter-new k))
-    (balanced 15 k newCounters (ap (λ (c : ThresholdCounter). c .threshold) (counter-new k)) cs)
+-- any sequence of the two calls from new counters: of a threshold T above 0, TN + L + D ≤ 8E ≤ (T + 7)N + L + D
+pub from-new :
+    (t : Thresholds) (k : CounterKind) → thresholdFor k t ≤ top → (cs : List CounterCall) →
+    FromZero (thresholdFor k t) k (marks (newCounters t) cs) (level k (after (newCounters t) cs))
+from-new t k h cs =
+    from-zero h (ap (λ (c : ThresholdCounter). c .«threshold_cnt») (counter-new k t))
+    (balanced (thresholdFor k t) k (newCounters t) (ap (λ (c : ThresholdCounter). c .threshold) (counter-new k t)) cs)

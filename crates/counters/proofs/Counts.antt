@@ -169,13 +169,13 @@ crossing-count =
 
 -- The counters' share of a call that takes them from s to s′ with the marks ms: of each kind, the balance, the cumulative count and the count of crossings.
 pub record Counting (s : CnErrorCounters) (ms : List Mark) (s′ : CnErrorCounters) : Type 0 where
-  pub balance : (k : CounterKind) → thresholdOf k s ≡ 15 → Balanced 15 k (counter k s) ms (counter k s′)
+  pub balance : (T : ℕ) (k : CounterKind) → thresholdOf k s ≡ T → Balanced T k (counter k s) ms (counter k s′)
   pub count : (x : Count) (k : CounterKind) → Rises (x .read (counter k s)) (countOf (x .of-kind k) ms) (x .read (counter k s′))
 
 pub counting-none : (s : CnErrorCounters) → Counting s [] s
 counting-none s =
     record {
-      balance = λ k h. balanced-none 15 k (counter k s) h;
+      balance = λ T k h. balanced-none T k (counter k s) h;
       count = λ x k. rises-none (x .read (counter k s));
     }
 
@@ -184,14 +184,14 @@ pub counting-then :
     {s s′ s″ : CnErrorCounters} {ms ns : List Mark} → Counting s ms s′ → Counting s′ ns s″ → Counting s (ms ++ ns) s″
 counting-then {s} {s′} {s″} {ms} {ns} a b =
     record {
-      balance = λ k h. let x = a .balance k h in balanced-then x (b .balance k (x .kept));
+      balance = λ T k h. let x = a .balance T k h in balanced-then x (b .balance T k (x .kept));
       count = λ x k. rw (count-append (x .of-kind k) ms ns) (rises-then (a .count x k) (b .count x k));
     }
 
 pub counting-handled : (s : CnErrorCounters) (e : DllError) → Counting s (errorMarks s e) (handled s e .counters)
 counting-handled s e =
-    record { balance = λ k h. balanced-handled 15 k s h e; count = λ x k. rises-handled x k s e }
+    record { balance = λ T k h. balanced-handled T k s h e; count = λ x k. rises-handled x k s e }
 
 pub counting-completed : (s : CnErrorCounters) → Counting s (cycleMarks s) (completed s .counters)
 counting-completed s =
-    record { balance = λ k h. balanced-completed 15 k s h; count = λ x k. rises-completed x k s }
+    record { balance = λ T k h. balanced-completed T k s h; count = λ x k. rises-completed x k s }

@@ -4,14 +4,18 @@ use mathlib.Core.Path.{_≡_, refl}
 use mathlib.Core.Bool.{true}
 use mathlib.Core.List.{List, [], _∷_}
 use Rattle.types.specs.declared.frame.error.types.DllError.the-variants as error
-use Rattle.counters.specs.Counters.{counter, counterOf, replaced, newCounters, incremented, crossedAnswer, unsignalled, afterError, countedError, handled, lowered, completed}
+use Rattle.counters.specs.Counters.{counter, counterOf, replaced, newCounters, sameForAll, incremented, crossedAnswer, unsignalled, afterError, countedError, handled, lowered, completed}
 use Rattle.counters.specs.Marks.{CounterCall, handleError, onCycleComplete, after}
 use Rattle.counters.specs.declared.counters.CounterKind.the-variants.{LossOfSoc}
 use Rattle.counters.specs.declared.counters.CnErrorCounters.{CnErrorCounters}
 
+-- "threshold 15"
+abbrev fifteen : CnErrorCounters
+fifteen = newCounters (sameForAll 15)
+
 -- new counters after a lost SoC and then some calls
 abbrev lost : List CounterCall → CnErrorCounters
-lost cs = after newCounters (handleError error.LossOfSoc ∷ cs)
+lost cs = after fifteen (handleError error.LossOfSoc ∷ cs)
 
 -- two SoC losses, one cycle between: 15, crossing
 one-between : incremented (counter LossOfSoc (lost (onCycleComplete ∷ []))) .«threshold_cnt» ≡ 15
@@ -20,14 +24,14 @@ one-between = refl
 
 one-between-crosses :
     handled (lost (onCycleComplete ∷ [])) error.LossOfSoc ≡
-    crossedAnswer (replaced LossOfSoc (counterOf 2 0 15 1) newCounters) error.LossOfSoc
+    crossedAnswer (replaced LossOfSoc (counterOf 2 0 15 1) fifteen) error.LossOfSoc
 unfolding replaced afterError countedError handled lowered completed
 one-between-crosses = refl
 
 -- two cycles between: 14, none
 two-between :
     handled (lost (onCycleComplete ∷ onCycleComplete ∷ [])) error.LossOfSoc ≡
-    unsignalled (replaced LossOfSoc (counterOf 2 14 15 0) newCounters)
+    unsignalled (replaced LossOfSoc (counterOf 2 14 15 0) fifteen)
 unfolding replaced afterError countedError handled lowered completed
 two-between = refl
 

@@ -1,4 +1,4 @@
--- The error counters of a controlled node, by document 01, 'Counters', as document 02, No. 3 amends it: their words, in their order, stand above the definitions.
+-- The error counters of a controlled node, by document 01, 'Counters', as document 02, No. 3 and No. 6 amend it: their words, in their order, stand above the definitions.
 -- Assumes nothing.
 use Prim.Native.Nat.{ℕ, _+_, _-_, min}
 use mathlib.Core.Bool.{Bool, true, false, not}
@@ -14,6 +14,7 @@ use Rattle.counters.specs.declared.counters.ThresholdCheck.{ThresholdChe
 use Rattle.counters.specs.declared.counters.CounterKind.{CounterKind}
 use Rattle.counters.specs.declared.counters.CounterKind.the-variants.{Collision, LossOfSoc, LossOfSoa, LossOfPreq, SoCJitter, Crc, HeartbeatTimeout}
 use Rattle.counters.specs.declared.counters.CnErrorCounters.{CnErrorCounters}
+use Rattle.counters.specs.declared.counters.Thresholds.{Thresholds}
 use Rattle.counters.specs.declared.counters.HandledError.{HandledError}
 use Rattle.counters.specs.declared.counters.CompletedCycle.{CompletedCycle}
 use Rattle.counters.specs.declared.counters.ErrorEffect.{ErrorEffect}
@@ -71,9 +72,40 @@ counterOf n l t x = record { «cumulative_cnt» = n; «threshold_cnt» = l; thre
 abbrev pub newCounter : ℕ → ThresholdCounter
 newCounter t = counterOf 0 0 t 0
 
--- "threshold 15"
-abbrev pub newCounters : CnErrorCounters
-newCounters = byKind (λ (k : CounterKind). newCounter 15) 0
+-- No. 6: "Each of the seven thresholds becomes part of the head, given at start"
+abbrev pub thresholdFor : CounterKind → Thresholds → ℕ
+thresholdFor Collision t = t .collision
+thresholdFor LossOfSoc t = t .«loss_of_soc»
+thresholdFor LossOfSoa t = t .«loss_of_soa»
+thresholdFor LossOfPreq t = t .«loss_of_preq»
+thresholdFor SoCJitter t = t .«soc_jitter»
+thresholdFor Crc t = t .«crc_errors»
+thresholdFor HeartbeatTimeout t = t .«heartbeat_timeout»
+
+abbrev pub newCounters : Thresholds → CnErrorCounters
+newCounters t = byKind (λ (k : CounterKind). newCounter (thresholdFor k t)) 0
+
+-- one for all kinds, as document 01's "threshold 15"
+abbrev pub sameForAll : ℕ → Thresholds
+sameForAll n =
+    record {
+      collision = n;
+      «loss_of_soc» = n;
+      «loss_of_soa» = n;
+      «loss_of_preq» = n;
+      «soc_jitter» = n;
+      «crc_errors» = n;
+      «heartbeat_timeout» = n;
+    }
+
+-- every item of the list passes the test
+abbrev pub allOf : {A : Type 0} → (A → Bool) → List A → Bool
+allOf p [] = true
+allOf p (x ∷ xs) = both (p x) (allOf p xs)
+
+-- "0 to 1,000,000"
+unfoldable pub withinLimit : Thresholds → Bool
+withinLimit t = allOf (λ (k : CounterKind). leb (thresholdFor k t) 1000000) counterKinds
 
 -- the 32-bit top, and a sum that stops there
 abbrev pub top : ℕ

@@ -1,6 +1,6 @@
 // The threshold counters (EPSG DS 301, Section 4.7.4.1) and those of a controlled node (Section 4.7.8).
 ghost use mathlib.Core.Path.{_≡_};
-ghost use Rattle.counters.specs.Counters.{addTop, newCounter, incremented, decremented, checked, afterError, active, newCounters, counter, replaced, unsignalled, signalledAnswer, countedError, effect, effectOf, handled, lowered, anyActive, completed};
+ghost use Rattle.counters.specs.Counters.{addTop, newCounter, incremented, decremented, checked, afterError, active, newCounters, counter, replaced, unsignalled, signalledAnswer, countedError, effect, effectOf, handled, lowered, anyActive, completed, sameForAll, withinLimit};
 use types::frame::error::types::DllError;
 use types::frame::error::types::DllErrors;
 use types::frame::error::types::NmtAction;
@@ -137,6 +137,46 @@ pub fn effect_of(error: DllError) -> ErrorEffect
     }
 }
 
+// The thresholds of the seven counters, in their order. One of 0 is never reached.
+pub struct Thresholds {
+    pub collision: u32,
+    pub loss_of_soc: u32,
+    pub loss_of_soa: u32,
+    pub loss_of_preq: u32,
+    pub soc_jitter: u32,
+    pub crc_errors: u32,
+    pub heartbeat_timeout: u32,
+}
+
+impl Thresholds {
+    // One for all kinds; in the Rust it is 15.
+    pub fn same_for_all(threshold: u32) -> Self
+        ensures { λ r. ⌜ r ≡ sameForAll threshold ⌝ }
+    {
+        Thresholds {
+            collision: threshold,
+            loss_of_soc: threshold,
+            loss_of_soa: threshold,
+            loss_of_preq: threshold,
+            soc_jitter: threshold,
+            crc_errors: threshold,
+            heartbeat_timeout: threshold,
+        }
+    }
+
+    pub fn is_within_limit(self) -> bool
+        ensures { λ r. ⌜ r ≡ withinLimit self ⌝ }
+    {
+        (self.collision <= 1000000)
+            & (self.loss_of_soc <= 1000000)
+            & (self.loss_of_soa <= 1000000)
+            & (self.loss_of_preq <= 1000000)
+            & (self.soc_jitter <= 1000000)
+            & (self.crc_errors <= 1000000)
+            & (self.heartbeat_timeout <= 1000000)
+    }
+}
+
 // The DLL error counters of a controlled node.
 pub struct CnErrorCounters {
     pub collision: ThresholdCounter,
@@ -189,17 +229,17 @@ fn signalled(counters: CnErrorCounters, error: DllError) -> HandledError
 }
 
 impl CnErrorCounters {
-    pub fn new() -> Self
-        ensures { λ r. ⌜ r ≡ newCounters ⌝ }
+    pub fn new(thresholds: Thresholds) -> Self
+        ensures { λ r. ⌜ r ≡ newCounters thresholds ⌝ }
     {
         CnErrorCounters {
-            collision: ThresholdCounter::new(15),
-            loss_of_soc: ThresholdCounter::new(15),
-            loss_of_soa: ThresholdCounter::new(15),
-            loss_of_preq: ThresholdCounter::new(15),
-            soc_jitter: ThresholdCounter::new(15),
-            crc_errors: ThresholdCounter::new(15),
-            heartbeat_timeout: ThresholdCounter::new(15),
+            collision: ThresholdCounter::new(thresholds.collision),
+            loss_of_soc: ThresholdCounter::new(thresholds.loss_of_soc),
+            loss_of_soa: ThresholdCounter::new(thresholds.loss_of_soa),
+            loss_of_preq: ThresholdCounter::new(thresholds.loss_of_preq),
+            soc_jitter: ThresholdCounter::new(thresholds.soc_jitter),
+            crc_errors: ThresholdCounter::new(thresholds.crc_errors),
+            heartbeat_timeout: ThresholdCounter::new(thresholds.heartbeat_timeout),
             loss_of_link_cumulative: 0,
         }
     }

@@ -5,6 +5,7 @@ ghost use Prim.Native.Nat.{_+_, _*_, _%_};
 ghost use Rattle.counting.specs.Shown.{levelsOf, countsOf, crossingsOf};
 use counters::counters::CnErrorCounters;
 use counters::counters::HandledError;
+use counters::counters::Thresholds;
 use libc::STDOUT_FILENO;
 use types::frame::error::types::DllError;
 use types::frame::error::types::DllErrorRead;
@@ -181,7 +182,7 @@ fn next(x: u64) -> u64
 }
 
 fn main() {
-    let mut counters = CnErrorCounters::new();
+    let mut counters = CnErrorCounters::new(Thresholds::same_for_all(15));
     let mut x = 1;
     for _ in 0..2000usize {
         x = next(x);

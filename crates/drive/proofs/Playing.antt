@@ -8,6 +8,7 @@ use native.Mathlib.Numerals.{add-one}
 use lib.ListN.{length, length-append, set}
 use Rattle.types.specs.declared.refusals.Refusal.{Refusal}
 use Rattle.types.specs.declared.nmt.flags.FeatureFlags.{FeatureFlags}
+use Rattle.counters.specs.declared.counters.Thresholds.{Thresholds}
 use Rattle.head.specs.declared.state.Dictionary.{Dictionary}
 use Rattle.watched.specs.Watched.{watchedOf}
 use Rattle.node.specs.Plain.{Call}
@@ -140,26 +141,26 @@ module _ (script bytes : List ℕ) (k₀ : ℕ) (x : Lent) (n : ℕ) where
       }
 
 -- by what start answered
-module _ {k n t c : ℕ} {f : FeatureFlags} {o : Dictionary} {a : CallAnswer} (script bytes : List ℕ) where
+module _ {k n t c : ℕ} {f : FeatureFlags} {o : Dictionary} {ts : Thresholds} {a : CallAnswer} (script bytes : List ℕ) where
   pub ran :
       {ws ns q m out ws₁ ns₁ ws′ ns′ q′ m′ out′ : List ℕ} →
-      StartedIn ws ns k n f t c o a ws₁ ns₁ →
+      StartedIn ws ns k n f t c o ts a ws₁ ns₁ →
       a ≡ answer.Taken →
       PlayedAll script bytes k (lent ws₁ ns₁ q m out) (lent ws′ ns′ q′ m′ out′) →
-      Replayed k n f t c o script bytes answer.Taken (lent ws ns q m out) (lent ws′ ns′ q′ m′ out′)
+      Replayed k n f t c o ts script bytes answer.Taken (lent ws ns q m out) (lent ws′ ns′ q′ m′ out′)
   ran {ws} {ns} {ws₁ = ws₁} {ns₁ = ns₁} s e p =
       record {
         words = ws₁;
         nodes = ns₁;
-        started = subst (λ (y : CallAnswer). StartedIn ws ns k n f t c o y ws₁ ns₁) e s;
+        started = subst (λ (y : CallAnswer). StartedIn ws ns k n f t c o ts y ws₁ ns₁) e s;
         rows = p;
       }
 
   pub declined :
       {ws ns ws′ ns′ q m out : List ℕ} {r : Refusal} →
-      StartedIn ws ns k n f t c o a ws′ ns′ →
+      StartedIn ws ns k n f t c o ts a ws′ ns′ →
       a ≡ answer.Refused r →
-      Replayed k n f t c o script bytes (answer.Refused r) (lent ws ns q m out) (lent ws′ ns′ q m out)
+      Replayed k n f t c o ts script bytes (answer.Refused r) (lent ws ns q m out) (lent ws′ ns′ q m out)
   declined {ws} {ns} {ws′} {ns′} {q} {m} {out} {r} s e =
-      let d : StartedIn ws ns k n f t c o (answer.Refused r) ws′ ns′ = subst (λ (y : CallAnswer). StartedIn ws ns k n f t c o y ws′ ns′) e s in
+      let d : StartedIn ws ns k n f t c o ts (answer.Refused r) ws′ ns′ = subst (λ (y : CallAnswer). StartedIn ws ns k n f t c o ts y ws′ ns′) e s in
       (d, ap₂ (λ (w v : List ℕ). lent w v q m out) (d .on .words) (d .nodes))

@@ -6,6 +6,7 @@ use mathlib.Core.List.{List, []}
 use denote.Ref.{now}
 use Rattle.types.specs.declared.refusals.Refusal.{Refusal}
 use Rattle.types.specs.declared.nmt.flags.FeatureFlags.{FeatureFlags}
+use Rattle.counters.specs.declared.counters.Thresholds.{Thresholds}
 use Rattle.head.specs.declared.state.Dictionary.{Dictionary}
 use Rattle.watched.specs.Watched.{watchedOf}
 use Rattle.node.specs.Plain.{Call, Start}
@@ -33,12 +34,12 @@ played-driven (Played.calls p e r) = and-then (played-driven p) r
 
 -- from the words that start wrote
 pub ran-claims :
-    {k n t c : ℕ} {f : FeatureFlags} {o : Dictionary} {script bytes : List ℕ} {x x′ : Lent} (r : Ran k n f t c o script bytes x x′) →
-    Claim (startOf n f t c o (watchedOf (nodesOf (x .nodes)) k)) (r .rows .calls) (r .rows .says) (headOf (x′ .head)) (x′ .queue) (x′ .history)
-ran-claims {k} {n} {t} {c} {f} {o} {x = x} r =
+    {k n t c : ℕ} {f : FeatureFlags} {o : Dictionary} {ts : Thresholds} {script bytes : List ℕ} {x x′ : Lent} (r : Ran k n f t c o ts script bytes x x′) →
+    Claim (startOf n f t c o ts (watchedOf (nodesOf (x .nodes)) k)) (r .rows .calls) (r .rows .says) (headOf (x′ .head)) (x′ .queue) (x′ .history)
+ran-claims {k} {n} {t} {c} {f} {o} {ts} {x = x} r =
     demand-3
-    (Began.start ([], ([], tt)) (lying (x .head), (lying (x .nodes), (k, (n, (f, (t, (c, (o, tt)))))))) answer.Taken
-    (lying (r .words), (lying (r .nodes), (k, (n, (f, (t, (c, (o, tt)))))))) (r .started))
+    (Began.start ([], ([], tt)) (lying (x .head), (lying (x .nodes), (k, (n, (f, (t, (c, (o, (ts, tt))))))))) answer.Taken
+    (lying (r .words), (lying (r .nodes), (k, (n, (f, (t, (c, (o, (ts, tt))))))))) (r .started))
     (played-driven (r .rows .played))
 
 -- κs: the lifetimes; a: the arguments; o: what is returned; x: what is lent, as it is left
@@ -46,20 +47,20 @@ module _ (κs : _) (a : _) (o : CallAnswer) (x : _) (e : drive-reads.Learnt κs 
   -- what start was given
   abbrev pub given : Start
   given =
-      startOf (a .1 .1 .1 .1 .1 .0) (a .1 .1 .1 .1 .1 .1 .0) (a .1 .1 .1 .1 .1 .1 .1 .0) (a .1 .1 .1 .1 .1 .1 .1 .1 .0) (a .1 .1 .1 .1 .1 .1 .1 .1 .1 .0)
+      startOf (a .1 .1 .1 .1 .1 .0) (a .1 .1 .1 .1 .1 .1 .0) (a .1 .1 .1 .1 .1 .1 .1 .0) (a .1 .1 .1 .1 .1 .1 .1 .1 .0) (a .1 .1 .1 .1 .1 .1 .1 .1 .1 .0) (a .1 .1 .1 .1 .1 .1 .1 .1 .1 .1 .0)
       (watchedOf (nodesOf (now (a .1 .0))) (a .1 .1 .0))
 
   abbrev pub before : Lent
-  before = lent (now (a .0)) (now (a .1 .0)) (now (a .1 .1 .1 .0)) (now (a .1 .1 .1 .1 .0)) (now (a .1 .1 .1 .1 .1 .1 .1 .1 .1 .1 .1 .1 .0))
+  before = lent (now (a .0)) (now (a .1 .0)) (now (a .1 .1 .1 .0)) (now (a .1 .1 .1 .1 .0)) (now (a .1 .1 .1 .1 .1 .1 .1 .1 .1 .1 .1 .1 .1 .0))
 
   abbrev pub after : Lent
-  after = lent (now (x .0)) (now (x .1 .0)) (now (x .1 .1 .1 .0)) (now (x .1 .1 .1 .1 .0)) (now (x .1 .1 .1 .1 .1 .1 .1 .1 .1 .1 .1 .1 .0))
+  after = lent (now (x .0)) (now (x .1 .0)) (now (x .1 .1 .1 .0)) (now (x .1 .1 .1 .1 .0)) (now (x .1 .1 .1 .1 .1 .1 .1 .1 .1 .1 .1 .1 .1 .0))
 
   -- what `drive` says of its arguments where it answers r
   abbrev Says : CallAnswer → Type 0
   Says r =
       Replayed (a .1 .1 .0) (a .1 .1 .1 .1 .1 .0) (a .1 .1 .1 .1 .1 .1 .0) (a .1 .1 .1 .1 .1 .1 .1 .0) (a .1 .1 .1 .1 .1 .1 .1 .1 .0)
-      (a .1 .1 .1 .1 .1 .1 .1 .1 .1 .0) (now (a .1 .1 .1 .1 .1 .1 .1 .1 .1 .1 .0)) (now (a .1 .1 .1 .1 .1 .1 .1 .1 .1 .1 .1 .0)) r before after
+      (a .1 .1 .1 .1 .1 .1 .1 .1 .1 .0) (a .1 .1 .1 .1 .1 .1 .1 .1 .1 .1 .0) (now (a .1 .1 .1 .1 .1 .1 .1 .1 .1 .1 .1 .0)) (now (a .1 .1 .1 .1 .1 .1 .1 .1 .1 .1 .1 .1 .0)) r before after
 
   -- THE WITNESS: the rows of the script that ran, and the claim of the calls that they were
   pub record Witnessed : Type 0 where

@@ -7,6 +7,7 @@ use lib.Dec.{eqb, leb, ltb}
 use lib.ListN.{length, getD, set, take, drop}
 use Rattle.types.specs.Pick.{pick}
 use Rattle.types.specs.declared.nmt.flags.FeatureFlags.{FeatureFlags}
+use Rattle.counters.specs.declared.counters.Thresholds.{Thresholds}
 use Rattle.head.specs.declared.state.Dictionary.{Dictionary}
 use Rattle.head.specs.declared.state.ObjectValue.the-variants.{Unsigned32, Missing}
 use Rattle.node.specs.declared.load.ByteUpdate.{ByteUpdate}
@@ -172,14 +173,14 @@ pub record PlayedAll (script bytes : List ℕ) (k : ℕ) (x x′ : Lent) : Type 
   pub numbered : x′ .out ≡ numbersWritten (x .out) 0 (numbers says)
 
 -- A start that was taken, with the words of the head and of the nodes that it left, and every row of the script from these on.
-pub record Ran (k n : ℕ) (f : FeatureFlags) (t c : ℕ) (o : Dictionary) (script bytes : List ℕ) (x x′ : Lent) : Type 0 where
+pub record Ran (k n : ℕ) (f : FeatureFlags) (t c : ℕ) (o : Dictionary) (ts : Thresholds) (script bytes : List ℕ) (x x′ : Lent) : Type 0 where
   pub words : List ℕ
   pub nodes : List ℕ
-  pub started : StartedIn (x .head) (x .nodes) k n f t c o answer.Taken words nodes
+  pub started : StartedIn (x .head) (x .nodes) k n f t c o ts answer.Taken words nodes
   pub rows : PlayedAll script bytes k (lent words nodes (x .queue) (x .history) (x .out)) x′
 
 -- What `drive` leaves: of a start that is taken, that; of one that is declined, its number, and all as it was lent.
-abbrev pub Replayed : ℕ → ℕ → FeatureFlags → ℕ → ℕ → Dictionary → List ℕ → List ℕ → CallAnswer → Lent → Lent → Type 0
-Replayed k n f t c o script bytes answer.Taken x x′ = Ran k n f t c o script bytes x x′
-Replayed k n f t c o script bytes (answer.Refused r) x x′ =
-    StartedIn (x .head) (x .nodes) k n f t c o (answer.Refused r) (x′ .head) (x′ .nodes) × (x′ ≡ x)
+abbrev pub Replayed : ℕ → ℕ → FeatureFlags → ℕ → ℕ → Dictionary → Thresholds → List ℕ → List ℕ → CallAnswer → Lent → Lent → Type 0
+Replayed k n f t c o ts script bytes answer.Taken x x′ = Ran k n f t c o ts script bytes x x′
+Replayed k n f t c o ts script bytes (answer.Refused r) x x′ =
+    StartedIn (x .head) (x .nodes) k n f t c o ts (answer.Refused r) (x′ .head) (x′ .nodes) × (x′ ≡ x)

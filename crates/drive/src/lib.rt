@@ -11,6 +11,7 @@ ghost use Rattle.node.specs.Plain.{Call};
 ghost use Rattle.watched.specs.Nodes.{nodesOf};
 ghost use Rattle.node.specs.InPlace.{said};
 ghost use Rattle.drive.specs.Script.{byteOf, wordOf, byteUpdate, counterUpdate, objectUpdate, valuesOf, callOf, lentBy, rowAt, numberOf, Turned, Plays, lent, PlayedAll, Replayed};
+use counters::counters::Thresholds;
 use head::state::Dictionary;
 use head::state::Head;
 use head::state::ObjectValue;
@@ -432,11 +433,12 @@ pub fn drive(
     basic_ethernet_timeout: u32,
     queue_capacity: u64,
     od: Dictionary,
+    thresholds: Thresholds,
     script: &[u64],
     bytes: &[u8],
     out: &mut [u64],
 ) -> CallAnswer
-    ensures { λ r. ⌜ Replayed count node «feature_flags» «basic_ethernet_timeout» «queue_capacity» od (now (script .entry)) (now (bytes .entry)) r
+    ensures { λ r. ⌜ Replayed count node «feature_flags» «basic_ethernet_timeout» «queue_capacity» od thresholds (now (script .entry)) (now (bytes .entry)) r
         (lent (now (head .entry)) (now (nodes .entry)) (now (queue .entry)) (now (history .entry)) (now (out .entry)))
         (lent (now (head .exit)) (now (nodes .exit)) (now (queue .exit)) (now (history .exit)) (now (out .exit))) ⌝ }
 {
@@ -449,6 +451,7 @@ pub fn drive(
         basic_ethernet_timeout,
         queue_capacity,
         od,
+        thresholds,
     ) {
         CallAnswer::Taken => {
             play_all(head, nodes, count, queue, history, script, bytes, out);

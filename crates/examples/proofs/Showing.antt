@@ -22,6 +22,8 @@ use Rattle.node.specs.Steps.{fresh, started}
 use Rattle.watched.specs.Watched.{wellFormed, watchedOf}
 use Rattle.watched.specs.Nodes.{nodesOf}
 use Rattle.node.specs.Run.{step}
+use Rattle.counters.specs.Counters.{sameForAll, withinLimit}
+use Rattle.counters.specs.declared.counters.Thresholds.{Thresholds}
 use Rattle.start.specs.Started.{startOf}
 use Rattle.node.specs.Refines.{plain, Rings, rings, joins, joinsAll}
 use Rattle.node.specs.InPlace.{said}
@@ -131,17 +133,17 @@ module _ (ws q m : List ℕ) (p : Plain) (e : plain (headOf ws) q m ≡ p) where
   history-is = ap (λ (p : Plain). p .history) e
 
 -- the fresh head of the first example
-pub begun :
+begun-with :
     (ws ns : List ℕ) (od : Dictionary) (a : CallAnswer) (ws′ ns′ : List ℕ) →
     od ≡ values 0 0 0 0 0 →
-    StartedIn ws ns 0 1 (flags 0) 5 1 od a ws′ ns′ →
+    StartedIn ws ns 0 1 (flags 0) 5 1 od (sameForAll 15) a ws′ ns′ →
     (said a ≡ taken) × ((q m : List ℕ) → Along ws′ q m (swReset .before) (swReset .calls) (swReset .after))
-unfolding started wellFormed listed
-begun ws ns od answer.Taken ws′ ns′ e s = (
+unfolding started wellFormed listed withinLimit
+begun-with ws ns od answer.Taken ws′ ns′ e s = (
   refl,
   λ q m.
       record {
-        whole = same-begun (s .on .begins .begun q m) ∙ ap (λ (o : Dictionary). fresh (startOf 1 (flags 0) 5 1 o [])) e;
+        whole = same-begun (s .on .begins .begun q m) ∙ ap (λ (o : Dictionary). fresh (startOf 1 (flags 0) 5 1 o (sameForAll 15) [])) e;
         queue = s .on .places .0;
         history = s .on .places .1;
         coming = holds 0;
@@ -150,4 +152,13 @@ begun ws ns od answer.Taken ws′ ns′ e s = (
   where
     same-begun : {p p′ : Plain} → begins p ≡ begins p′ → p ≡ p′
     same-begun e = cc
-begun ws ns od (answer.Refused r) ws′ ns′ e s = absurd (let b = s .on .begins .begun [] [] in clash (cc))
+begun-with ws ns od (answer.Refused r) ws′ ns′ e s = absurd (let b = s .on .begins .begun [] [] in clash (cc))
+
+pub begun :
+    (ws ns : List ℕ) (od : Dictionary) (ts : Thresholds) (a : CallAnswer) (ws′ ns′ : List ℕ) →
+    od ≡ values 0 0 0 0 0 →
+    ts ≡ sameForAll 15 →
+    StartedIn ws ns 0 1 (flags 0) 5 1 od ts a ws′ ns′ →
+    (said a ≡ taken) × ((q m : List ℕ) → Along ws′ q m (swReset .before) (swReset .calls) (swReset .after))
+begun ws ns od ts a ws′ ns′ e d s =
+    begun-with ws ns od a ws′ ns′ e (subst (λ (t : Thresholds). StartedIn ws ns 0 1 (flags 0) 5 1 od t a ws′ ns′) d s)

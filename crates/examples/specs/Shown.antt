@@ -7,7 +7,7 @@ use mathlib.Core.Bool.{Bool, true}
 use mathlib.Core.List.{List, [], _∷_}
 use lib.ListN.{set, replicate}
 use Rattle.types.specs.declared.nmt.states.NmtState.{NmtState}
-use Rattle.counters.specs.Counters.{newCounters}
+use Rattle.counters.specs.Counters.{newCounters, sameForAll}
 use Rattle.entries.specs.Queue.{queue}
 use Rattle.entries.specs.History.{errorHistory}
 use Rattle.entries.specs.declared.emergency_queue.EmergencyQueue.{EmergencyQueue}
@@ -39,7 +39,7 @@ unfoldable pub restingWords : NmtState → Bool → Bool → Dictionary → List
 restingWords s enabled ready od =
     set
     (odWritten
-    (thresholdsWritten (identityWritten (nmtWritten (replicate 58 0) (machine s enabled ready)) (machine s enabled ready)) newCounters) od)
+    (thresholdsWritten (identityWritten (nmtWritten (replicate 58 0) (machine s enabled ready)) (machine s enabled ready)) (newCounters (sameForAll 15))) od)
     at.capacity 1
 
 -- Of a call c on the words ws with the memory q and m, which left ws′, q′ and m′ and the watched nodes l, and was compared with an answer and

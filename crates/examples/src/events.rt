@@ -14,6 +14,7 @@ use crate::comes::withdrawn;
 use crate::heads::counting;
 use crate::heads::resting;
 use crate::heads::values;
+use counters::counters::Thresholds;
 use head::state::Head;
 use start::start::start;
 use types::nmt::flags::FeatureFlags;
@@ -26,7 +27,9 @@ pub fn sw_reset(head: &mut Head, after: &mut Head, nodes: &mut NodeWords) -> boo
 {
     resting(after, NmtState::NmtNotActive, false, false);
     let od = values(0, 0, 0, 0, 0);
-    let started = is_taken(start(head, nodes, 0, 1, FeatureFlags(0), 5, 1, od));
+    let thresholds = Thresholds::same_for_all(15);
+    let answer = start(head, nodes, 0, 1, FeatureFlags(0), 5, 1, od, thresholds);
+    let started = is_taken(answer);
     started & nmt_comes(head, 5, Stated::Nothing, true, after)
 }
 

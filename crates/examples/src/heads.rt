@@ -15,6 +15,7 @@ ghost use Rattle.examples.specs.Shown.{placed, Stands, restingWords};
 use counters::counters::CnErrorCounters;
 use counters::counters::CounterKind;
 use counters::counters::ThresholdCounter;
+use counters::counters::Thresholds;
 use dll::cs_state_machine::DllCsState;
 use dll::cs_state_machine::DllCsStateMachine;
 use entries::emergency_queue::EmergencyQueue;
@@ -80,7 +81,7 @@ fn write(head: &mut Head, state: NmtState, enabled: bool, ready: bool, od: Dicti
     ensures { λ _. ⌜ now (head .exit) ≡ restingWords state enabled ready od ⌝ }
 {
     let nmt = machine(state, enabled, ready);
-    let errors = CnErrorCounters::new();
+    let errors = CnErrorCounters::new(Thresholds::same_for_all(15));
     clear(head);
     set_nmt(head, nmt);
     set_identity(head, nmt);

@@ -11,6 +11,7 @@ use Rattle.types.specs.declared.refusals.Refusal.the-variants.{WatchedNodes, Ti
 use Rattle.types.specs.declared.nmt.flags.FeatureFlags.{FeatureFlags}
 use Rattle.counters.specs.Counters.{newCounter}
 use Rattle.head.specs.Words.{nmtOf, headOf}
+use Rattle.counters.specs.declared.counters.Thresholds.{Thresholds}
 use Rattle.head.specs.declared.state.Dictionary.{Dictionary}
 use Rattle.watched.specs.declared.nodes.WatchedNode.{WatchedNode}
 use Rattle.watched.specs.Watched.{inTime, allOf, wellFormed}
@@ -54,15 +55,15 @@ module _ (n t : ℕ) (s : Findings) (f : Bool) (p : f ≡ passes (s .tried)) (a 
       (heard-by vs n t f (s .watched) g (seen-watched n 0 (newCounter 0) vs s k) a e _ (left-by vs g a refl)))
 
 -- start, by what its tests say
-module _ (ws : List ℕ) (n : ℕ) (f : FeatureFlags) (t c : ℕ) (o : Dictionary) (s : Findings) (formed : Bool) (p : formed ≡ passes (s .tried)) (a : CallAnswer) (ws′ : List ℕ) (b : BeginsBy ws n f t c o formed a ws′) where
+module _ (ws : List ℕ) (n : ℕ) (f : FeatureFlags) (t c : ℕ) (o : Dictionary) (ts : Thresholds) (s : Findings) (formed : Bool) (p : formed ≡ passes (s .tried)) (a : CallAnswer) (ws′ : List ℕ) (b : BeginsBy ws n f t c o ts formed a ws′) where
   unheard-by : (vs : List WatchedNode) (b : CallAnswer) → map (settled (doneBy b Unheard .setting)) vs ≡ startLeft b vs
   unheard-by vs answer.Taken = refl
   unheard-by vs (answer.Refused r) = settled-none vs
 
-  pub start-done : (r : Done) → r ≡ doneBy a Unheard → Starts ws n f t c o s r ws′
+  pub start-done : (r : Done) → r ≡ doneBy a Unheard → Starts ws n f t c o ts s r ws′
   start-done r d vs k =
       rw d
-      (subst (λ (b : CallAnswer). StartedOn ws vs n f t c o b ws′ (map (settled (doneBy a Unheard .setting)) vs)) (sym (done-answer a Unheard))
+      (subst (λ (b : CallAnswer). StartedOn ws vs n f t c o ts b ws′ (map (settled (doneBy a Unheard .setting)) vs)) (sym (done-answer a Unheard))
       (b .on vs (p ∙ seen-formed 0 0 (newCounter 0) vs s k) _ (unheard-by vs a)))
 
 -- the tick: numbers 3, 5 and 6, and what is taken

@@ -29,7 +29,7 @@ Heard-learnt κs a o x = HeardOn (now (a .0)) (a .1 .0) (a .1 .1 .0) o (now (x .
 
 abbrev pub Start-learnt : (κs : Lfts 2) → Args start.signature κs → CallAnswer → AtExit start.ended κs → Type 0
 Start-learnt κs a o x =
-    StartedOn (now (a .0)) (now (a .1 .0)) (a .1 .1 .0) (a .1 .1 .1 .0) (a .1 .1 .1 .1 .0) (a .1 .1 .1 .1 .1 .0) (a .1 .1 .1 .1 .1 .1 .0) o
+    StartedOn (now (a .0)) (now (a .1 .0)) (a .1 .1 .0) (a .1 .1 .1 .0) (a .1 .1 .1 .1 .0) (a .1 .1 .1 .1 .1 .0) (a .1 .1 .1 .1 .1 .1 .0) (a .1 .1 .1 .1 .1 .1 .1 .0) o
     (now (x .0)) (now (x .1 .0))
 
 abbrev pub Tick-learnt : (κs : Lfts 4) → Args tick.signature κs → TickAnswer → AtExit tick.ended κs → Type 0

@@ -6,6 +6,8 @@ use Rattle.lentlaws.proofs.Lone.{Lone, Pair}
 use Rattle.counters.proofs.counters.ThresholdCounter as ThresholdCounter
 use Rattle.counters.proofs.counters.ThresholdCounter.Laws as ThresholdCounter′
 use Rattle.counters.proofs.counters.ThresholdCheck as ThresholdCheck
+use Rattle.counters.proofs.counters.Thresholds as Thresholds
+use Rattle.counters.proofs.counters.Thresholds.Laws as Thresholds′
 use Rattle.watched.proofs.nodes.WatchedNode as WatchedNode
 use Rattle.watched.proofs.nodes.WatchedNode.Laws as WatchedNode′
 use Rattle.lent.proofs.run.Findings as Findings
@@ -55,6 +57,9 @@ call-answer = record { field = CallAnswer.the-field; ty = CallAnswer′.mir; law
 
 abbrev pub tick-answer : Lone
 tick-answer = record { field = TickAnswer.the-field; ty = TickAnswer′.mir; laws = TickAnswer′.the-field-laws; plain = TickAnswer′.the-field-plain }
+
+abbrev pub thresholds : Lone
+thresholds = record { field = Thresholds.the-field; ty = Thresholds′.mir; laws = Thresholds′.the-field-laws; plain = Thresholds′.the-field-plain }
 
 abbrev pub dictionary : Lone
 dictionary = record { field = Dictionary.the-field; ty = Dictionary′.mir; laws = Dictionary′.the-field-laws; plain = Dictionary′.the-field-plain }

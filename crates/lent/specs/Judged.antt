@@ -7,6 +7,7 @@ use mathlib.Core.Bool.{Bool}
 use mathlib.Core.List.{List, map}
 use Rattle.types.specs.Pick.{pick}
 use Rattle.types.specs.declared.nmt.flags.FeatureFlags.{FeatureFlags}
+use Rattle.counters.specs.declared.counters.Thresholds.{Thresholds}
 use Rattle.head.specs.declared.state.Dictionary.{Dictionary}
 use Rattle.watched.specs.declared.nodes.WatchedNode.{WatchedNode}
 use Rattle.node.specs.declared.calls.CallAnswer.{CallAnswer}
@@ -31,9 +32,9 @@ doneBy (answer.Refused r) s = record { answer = answer.Refused r; setting = Noth
 abbrev pub Hears : ℕ → ℕ → Findings → Done → Type 0
 Hears n t s r = (vs : List WatchedNode) → s ≡ foundAll (forHeard n) vs → HeardOn vs n t (r .answer) (map (settled (r .setting)) vs)
 
-abbrev pub Starts : List ℕ → ℕ → FeatureFlags → ℕ → ℕ → Dictionary → Findings → Done → List ℕ → Type 0
-Starts ws n f t c o s r ws′ =
-    (vs : List WatchedNode) → s ≡ foundAll forStart vs → StartedOn ws vs n f t c o (r .answer) ws′ (map (settled (r .setting)) vs)
+abbrev pub Starts : List ℕ → ℕ → FeatureFlags → ℕ → ℕ → Dictionary → Thresholds → Findings → Done → List ℕ → Type 0
+Starts ws n f t c o ts s r ws′ =
+    (vs : List WatchedNode) → s ≡ foundAll forStart vs → StartedOn ws vs n f t c o ts (r .answer) ws′ (map (settled (r .setting)) vs)
 
 abbrev pub TicksBy : List ℕ → List ℕ → List ℕ → ℕ → Findings → TickDone → List ℕ → List ℕ → List ℕ → Type 0
 TicksBy ws q m t s r ws′ q′ m′ =

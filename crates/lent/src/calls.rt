@@ -10,6 +10,7 @@ use crate::run::for_start;
 use crate::run::passes;
 use crate::run::settle;
 use crate::run::survey;
+use counters::counters::Thresholds;
 use head::state::Dictionary;
 use head::state::Head;
 use node::calls::CallAnswer;
@@ -67,9 +68,10 @@ pub fn start_by(
     basic_ethernet_timeout: u32,
     queue_capacity: u64,
     od: Dictionary,
+    thresholds: Thresholds,
     found: Findings,
 ) -> Done
-    ensures { λ r. ⌜ Starts (now (head .entry)) node «feature_flags» «basic_ethernet_timeout» «queue_capacity» od found r (now (head .exit)) ⌝ }
+    ensures { λ r. ⌜ Starts (now (head .entry)) node «feature_flags» «basic_ethernet_timeout» «queue_capacity» od thresholds found r (now (head .exit)) ⌝ }
 {
     let tried = found.tried;
     let formed = passes(tried);
@@ -80,6 +82,7 @@ pub fn start_by(
         basic_ethernet_timeout,
         queue_capacity,
         od,
+        thresholds,
         formed,
     );
     set_if_taken(answer, Setting::Unheard)
@@ -94,8 +97,9 @@ pub fn start(
     basic_ethernet_timeout: u32,
     queue_capacity: u64,
     od: Dictionary,
+    thresholds: Thresholds,
 ) -> CallAnswer
-    ensures { λ r. ⌜ StartedOn (now (head .entry)) (now (nodes .entry)) node «feature_flags» «basic_ethernet_timeout» «queue_capacity» od r (now (head .exit)) (now (nodes .exit)) ⌝ }
+    ensures { λ r. ⌜ StartedOn (now (head .entry)) (now (nodes .entry)) node «feature_flags» «basic_ethernet_timeout» «queue_capacity» od thresholds r (now (head .exit)) (now (nodes .exit)) ⌝ }
 {
     let found = survey(nodes, for_start());
     let done = start_by(
@@ -105,6 +109,7 @@ pub fn start(
         basic_ethernet_timeout,
         queue_capacity,
         od,
+        thresholds,
         found,
     );
     settle(nodes, done.setting);

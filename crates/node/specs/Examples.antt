@@ -16,7 +16,7 @@ use Rattle.types.specs.declared.frame.error.types.NmtAction.the-variants as act
 use Rattle.nmt.specs.Resets.{Passed, range}
 use Rattle.nmt.specs.declared.cn_state_machine.CnNmtStateMachine.{CnNmtStateMachine}
 use Rattle.dll.specs.declared.cs_state_machine.DllCsState.the-variants.{NonCyclic, WaitSoc}
-use Rattle.counters.specs.Counters.{counterOf, incremented}
+use Rattle.counters.specs.Counters.{counterOf, sameForAll, incremented}
 use Rattle.counters.specs.Marks.{Mark, given, crossed, drained, E}
 use Rattle.counters.specs.declared.counters.CounterKind.the-variants.{LossOfSoc, HeartbeatTimeout}
 use Rattle.counters.specs.declared.counters.CnErrorCounters.{CnErrorCounters}
@@ -143,7 +143,7 @@ nothingPassed = record { states = []; ranges = [] }
 
 -- "Fresh, SwReset: five states entered, NotActive." And not ready any more (document 02, No. 7).
 abbrev pub startsWith : Start
-startsWith = record { node = 1; flags = 0; timeout = 5; capacity = 1; od = values 0 0 0 0 0; watched = [] }
+startsWith = record { node = 1; flags = 0; timeout = 5; capacity = 1; od = values 0 0 0 0 0; thresholds = sameForAll 15; watched = [] }
 
 abbrev pub wholeReset : Passed
 wholeReset =

@@ -11,6 +11,7 @@ use Rattle.nmt.specs.declared.cn_state_machine.CnNmtStateMachine.{CnNmtStateMac
 use Rattle.dll.specs.declared.cs_state_machine.DllCsState.{DllCsState}
 use Rattle.counters.specs.Marks.{Mark}
 use Rattle.counters.specs.declared.counters.CnErrorCounters.{CnErrorCounters}
+use Rattle.counters.specs.declared.counters.Thresholds.{Thresholds}
 use Rattle.entries.specs.declared.status_response.ErrorEntry.{ErrorEntry}
 use Rattle.entries.specs.declared.status_response.FoundEntry.{FoundEntry}
 use Rattle.head.specs.declared.state.SocWatch.{SocWatch}
@@ -61,6 +62,7 @@ pub record Start : Type 0 where
   pub timeout : ℕ
   pub capacity : ℕ
   pub od : Dictionary
+  pub thresholds : Thresholds
   pub watched : List WatchedNode
 
 -- "A declined call returns its number only"; the others, what they answer

@@ -25,7 +25,7 @@ use Rattle.nmt.specs.declared.cn_state_machine.CnNmtStateMachine.{CnNmtStateMac
 use Rattle.dll.specs.Dll as Dll
 use Rattle.dll.specs.declared.cs_state_machine.DllCsState.{DllCsState}
 use Rattle.dll.specs.declared.cs_state_machine.DllCsState.the-variants.{NonCyclic}
-use Rattle.counters.specs.Counters.{newCounters, handled}
+use Rattle.counters.specs.Counters.{newCounters, withinLimit, handled}
 use Rattle.counters.specs.Marks.{Mark, errorMarks}
 use Rattle.counters.specs.declared.counters.CnErrorCounters.{CnErrorCounters}
 use Rattle.counters.specs.declared.counters.HandledError.{HandledError}
@@ -95,18 +95,19 @@ declines p l n = answers p (refused n) l
 
 -- Start. "A fresh head is at GsInitialising, not enabled, ready, DLL NonCyclic, check off, no deadline, last SoC 0, all
 -- nodes last heard 0, levels and counts 0, error_status_changed off, queue empty." "Start gives these values, with an
--- empty history."
+-- empty history." "Each of the seven thresholds becomes part of the head, given at start" (document 02, No. 6)
 unfoldable pub fresh : Start → Plain
 fresh s =
-    plainOf (Nmt.newMachine (node (s .node)) (flags (s .flags)) (s .timeout)) NonCyclic newCounters
+    plainOf (Nmt.newMachine (node (s .node)) (flags (s .flags)) (s .timeout)) NonCyclic (newCounters (s .thresholds))
     (socWatch 0 false Nothing false) (s .od) (s .capacity) [] []
 
--- numbers 1, 2 and 3
+-- numbers 1, 2 and 3; then "14, a threshold above the limit, after number 3 at start" (document 02, No. 6)
 abbrev pub startTests : Start → List (Test ℕ)
 startTests s =
     must (isNode (s .node)) 1 ∷
     must (leb (s .capacity) 32) 2 ∷
     must (wellFormed (s .watched)) 3 ∷
+    must (withinLimit (s .thresholds)) 14 ∷
     []
 
 unfoldable pub started : Start → FirstStep

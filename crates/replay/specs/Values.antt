@@ -1,6 +1,7 @@
 -- The numbers of a line as the values that its call takes, and the values of a head as numbers.
 -- Assumes nothing.
 use Prim.Native.Nat.{ℕ, _%_}
+use mathlib.Core.Bool.{Bool}
 use mathlib.Core.List.{List}
 use lib.Dec.{eqb}
 use lib.ListN.{getD}
@@ -8,6 +9,8 @@ use Rattle.types.specs.Pick.{pick}
 use Rattle.types.specs.Common.{netTime}
 use Rattle.entries.specs.Entry.{modeOf}
 use Rattle.entries.specs.declared.status_response.ErrorEntry.{ErrorEntry}
+use Rattle.counters.specs.Counters.{sameForAll}
+use Rattle.counters.specs.declared.counters.Thresholds.{Thresholds}
 use Rattle.head.specs.declared.state.Deadline.{Deadline}
 use Rattle.head.specs.declared.state.Deadline.the-variants as deadline
 use Rattle.head.specs.declared.state.Dictionary.{Dictionary}
@@ -51,6 +54,23 @@ dictionaryOf ns =
       «counter_3» = wordOf (at ns 9);
       «counter_5» = wordOf (at ns 10);
     }
+
+-- the thresholds that a start names, from the twelfth number on
+abbrev pub namedThresholds : List ℕ → Thresholds
+namedThresholds ns =
+    record {
+      collision = wordOf (at ns 11);
+      «loss_of_soc» = wordOf (at ns 12);
+      «loss_of_soa» = wordOf (at ns 13);
+      «loss_of_preq» = wordOf (at ns 14);
+      «soc_jitter» = wordOf (at ns 15);
+      «crc_errors» = wordOf (at ns 16);
+      «heartbeat_timeout» = wordOf (at ns 17);
+    }
+
+-- left out all together they are 15 each
+abbrev pub thresholdsOf : Bool → List ℕ → Thresholds
+thresholdsOf named ns = pick named (namedThresholds ns) (sameForAll 15)
 
 -- what stands for a value that a load does not name
 abbrev pub kept : ℕ

@@ -4,6 +4,7 @@ use crate::load::KEPT;
 use crate::values::byte;
 use crate::values::dictionary;
 use crate::values::number;
+use crate::values::thresholds;
 use crate::values::updates;
 use crate::values::word;
 use crate::words::Given;
@@ -20,10 +21,12 @@ use types::nmt::states::NmtState;
 use types::nmt::states::NmtStateRead;
 use watched::nodes::NodeWords;
 
+// A start that names thresholds has the key T.
 pub(crate) fn start(
     head: &mut Head,
     nodes: &mut NodeWords,
     count: usize,
+    key: u8,
     given: Given,
     answer: &mut Numbers,
 ) {
@@ -36,6 +39,7 @@ pub(crate) fn start(
         word(number(given, 2)),
         number(given, 3),
         dictionary(given),
+        thresholds(key == b'T', given),
     );
     answers::call(said, answer)
 }

@@ -16,7 +16,7 @@ pub type EntryBuffer = [u8; 6000];
 
 // Reads a value that may be named at a place; the place behind.
 fn read_value(row: &[u8], line: &[u8], at: usize, given: &mut Given, place: usize) -> usize
-    requires { ⌜ place ≤ 10 ⌝ }
+    requires { ⌜ place ≤ 17 ⌝ }
 {
     let end = match_at(row, line, at, given, place);
     if end == UNREADABLE {

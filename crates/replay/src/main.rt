@@ -20,7 +20,7 @@ use session::Session;
 fn main() {
     let mut part = [0u8; 65536];
     let mut text = [0u8; 16384];
-    let mut given = [0u64; 11];
+    let mut given = [0u64; 18];
     let mut bytes = [0u8; 6000];
     let mut head = [0u32; 58];
     let mut queue = [0u8; 640];

@@ -114,8 +114,8 @@ impl Session {
                 hand_out(out, head, queue);
                 return self;
             }
-            b'S' => {
-                start(head, nodes, self.count, given, answer);
+            b'S' | b'T' => {
+                start(head, nodes, self.count, key, given, answer);
                 say_answer(out, key, answer);
                 self.started = self.started | (answer[0] == 0);
                 return self;

@@ -205,6 +205,24 @@ fn show_crossings(out: &mut Buffer, head: &Head) {
     )
 }
 
+// Their thresholds, in the same order.
+fn show_thresholds(out: &mut Buffer, head: &Head) {
+    let counters = errors_of(head);
+    say_form(
+        out,
+        b"(thresholds # # # # # # #)\n",
+        &[
+            wide(counters.collision.threshold),
+            wide(counters.loss_of_soc.threshold),
+            wide(counters.loss_of_soa.threshold),
+            wide(counters.loss_of_preq.threshold),
+            wide(counters.soc_jitter.threshold),
+            wide(counters.crc_errors.threshold),
+            wide(counters.heartbeat_timeout.threshold),
+        ],
+    )
+}
+
 pub(crate) fn show(
     out: &mut Buffer,
     head: &Head,
@@ -224,5 +242,6 @@ pub(crate) fn show(
     show_history(out, head, history);
     show_run(out, nodes, rest, count);
     show_crossings(out, head);
-    show_desk(out, desk, bytes)
+    show_desk(out, desk, bytes);
+    show_thresholds(out, head)
 }

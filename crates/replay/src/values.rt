@@ -1,11 +1,12 @@
 // The numbers of a line as the values that its call takes.
 ghost use mathlib.Core.Path.{_≡_};
 ghost use Prim.Native.Nat.{_≤_};
-ghost use Rattle.replay.specs.Values.{at, byteOf, halfOf, wordOf, objectOf, dictionaryOf, byteUpdate, counterUpdate, objectUpdate, updatesOf, entryOf};
+ghost use Rattle.replay.specs.Values.{at, byteOf, halfOf, wordOf, objectOf, dictionaryOf, namedThresholds, thresholdsOf, byteUpdate, counterUpdate, objectUpdate, updatesOf, entryOf};
 ghost use Rattle.entries.specs.Entry.{modeOf};
 use crate::load::KEPT;
 use crate::words::Given;
 use answers::NOTHING;
+use counters::counters::Thresholds;
 use entries::status_response::EntryType;
 use entries::status_response::ErrorEntry;
 use entries::status_response::ErrorEntryMode;
@@ -18,7 +19,7 @@ use node::load::ObjectUpdate;
 use types::common::NetTime;
 
 pub(crate) fn number(given: Given, place: usize) -> u64
-    requires { ⌜ place ≤ 10 ⌝ }
+    requires { ⌜ place ≤ 17 ⌝ }
     ensures { λ r. ⌜ r ≡ at given place ⌝ }
 {
     given[place]
@@ -69,6 +70,31 @@ pub(crate) fn dictionary(given: Given) -> Dictionary
         counter_3: word(number(given, 9)),
         counter_5: word(number(given, 10)),
     }
+}
+
+// The thresholds that a start names.
+fn named_thresholds(given: Given) -> Thresholds
+    ensures { λ r. ⌜ r ≡ namedThresholds given ⌝ }
+{
+    Thresholds {
+        collision: word(number(given, 11)),
+        loss_of_soc: word(number(given, 12)),
+        loss_of_soa: word(number(given, 13)),
+        loss_of_preq: word(number(given, 14)),
+        soc_jitter: word(number(given, 15)),
+        crc_errors: word(number(given, 16)),
+        heartbeat_timeout: word(number(given, 17)),
+    }
+}
+
+// Those of a start: 15 each where it names none.
+pub(crate) fn thresholds(named: bool, given: Given) -> Thresholds
+    ensures { λ r. ⌜ r ≡ thresholdsOf named given ⌝ }
+{
+    if named {
+        return named_thresholds(given);
+    }
+    Thresholds::same_for_all(15)
 }
 
 fn byte_update(n: u64) -> ByteUpdate

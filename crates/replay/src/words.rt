@@ -6,9 +6,9 @@ ghost use Rattle.replay.specs.Words.{digitOf, radix, grown, digitsAt, is
 ghost use lib.ListN.{length};
 use answers::NOTHING;
 
-// The numbers of a line; as many as a start has. Those of a load are its seven values, and how many bytes the entries of its
+// The numbers of a line; as many as a start with thresholds has. Those of a load are its seven values, and how many bytes the entries of its
 // history have.
-pub type Given = [u64; 11];
+pub type Given = [u64; 18];
 
 pub const UNREADABLE: usize = usize::MAX;
 
@@ -122,7 +122,7 @@ fn read_number(line: &[u8], at: usize, width: u8, given: &mut Given, place: usiz
     if line.len() <= at {
         return UNREADABLE;
     }
-    if 10 < place {
+    if 17 < place {
         return UNREADABLE;
     }
     if width == b'O' {
@@ -171,7 +171,7 @@ pub(crate) fn match_at(
     given: &mut Given,
     first: usize,
 ) -> usize
-    requires { ⌜ first ≤ 10 ⌝ }
+    requires { ⌜ first ≤ 17 ⌝ }
 {
     let mut at = from;
     let mut place = first;

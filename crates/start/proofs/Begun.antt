@@ -16,6 +16,7 @@ use Rattle.nmt.specs.Nmt as Nmt
 use Rattle.nmt.specs.declared.cn_state_machine.CnNmtStateMachine.{CnNmtStateMachine}
 use Rattle.counters.specs.Counters.{newCounters}
 use Rattle.counters.specs.declared.counters.CnErrorCounters.{CnErrorCounters}
+use Rattle.counters.specs.declared.counters.Thresholds.{Thresholds}
 use Rattle.head.specs.declared.state.Dictionary.{Dictionary}
 use Rattle.head.specs.Head.{dictionary}
 use Rattle.head.specs.declared.state.ObjectValue.{ObjectValue}
@@ -35,30 +36,30 @@ use Rattle.watched.proofs.Watching.{places, heard-written}
 
 -- computed: four cases, by the two objects that may be missing
 fresh-read :
-    (n : NodeId) (f : FeatureFlags) (t k r : ℕ) (x y : ObjectValue) (a b c d : ℕ) →
-    headOf (freshWords n f t k (dictionary r x y a b c d)) ≡ freshHead (node (n .0 % 256)) f t (k % 256) (dictionary (r % 256) x y a b c d)
+    (n : NodeId) (f : FeatureFlags) (t k r : ℕ) (x y : ObjectValue) (a b c d : ℕ) (ts : Thresholds) →
+    headOf (freshWords n f t k (dictionary r x y a b c d) ts) ≡ freshHead (node (n .0 % 256)) f t (k % 256) (dictionary (r % 256) x y a b c d) ts
 unfolding headOf freshWords readState
-fresh-read n f t k r (Unsigned32 u) (Unsigned32 v) a b c d = refl
-fresh-read n f t k r (Unsigned32 u) Missing a b c d = refl
-fresh-read n f t k r Missing (Unsigned32 v) a b c d = refl
-fresh-read n f t k r Missing Missing a b c d = refl
+fresh-read n f t k r (Unsigned32 u) (Unsigned32 v) a b c d ts = refl
+fresh-read n f t k r (Unsigned32 u) Missing a b c d ts = refl
+fresh-read n f t k r Missing (Unsigned32 v) a b c d ts = refl
+fresh-read n f t k r Missing Missing a b c d ts = refl
 
 fresh-written :
-    (n : NodeId) (f : FeatureFlags) (t k : ℕ) (o : Dictionary) →
+    (n : NodeId) (f : FeatureFlags) (t k : ℕ) (o : Dictionary) (ts : Thresholds) →
     n .0 ≤ 255 → k ≤ 255 → o .«error_register» ≤ 255 →
-    headOf (freshWords n f t k o) ≡ freshHead n f t k o
-fresh-written n f t k o x y z =
+    headOf (freshWords n f t k o ts) ≡ freshHead n f t k o ts
+fresh-written n f t k o ts x y z =
     let p : n .0 % 256 ≡ n .0 = omega arith in
     let q : k % 256 ≡ k = omega arith in
     let s : o .«error_register» % 256 ≡ o .«error_register» = omega arith in
-    fresh-read n f t k _ (o .«cycle_time») (o .tolerance) _ _ _ _
-    ∙ (λ i. freshHead (node (p i)) f t (q i) (dictionary (s i) (o .«cycle_time») (o .tolerance) (o .«counter_1») (o .«counter_2») (o .«counter_3») (o .«counter_5»)))
+    fresh-read n f t k _ (o .«cycle_time») (o .tolerance) _ _ _ _ ts
+    ∙ (λ i. freshHead (node (p i)) f t (q i) (dictionary (s i) (o .«cycle_time») (o .tolerance) (o .«counter_1») (o .«counter_2») (o .«counter_3») (o .«counter_5»)) ts)
 
 -- the writers in their order
 pub fresh-is :
-    (n : NodeId) (f : FeatureFlags) (t k : ℕ) (o : Dictionary) (m : CnNmtStateMachine) (s : CnErrorCounters) (w₀ w₁ w₂ w₃ w₄ w₅ : List ℕ) →
+    (n : NodeId) (f : FeatureFlags) (t k : ℕ) (o : Dictionary) (ts : Thresholds) (m : CnNmtStateMachine) (s : CnErrorCounters) (w₀ w₁ w₂ w₃ w₄ w₅ : List ℕ) →
     m ≡ Nmt.newMachine n f t →
-    s ≡ newCounters →
+    s ≡ newCounters ts →
     w₀ ≡ replicate 58 0 →
     w₁ ≡ nmtWritten w₀ m →
     w₂ ≡ identityWritten w₁ m →
@@ -66,14 +67,14 @@ pub fresh-is :
     w₄ ≡ odWritten w₃ o →
     w₅ ≡ set w₄ at.capacity k →
     n .0 ≤ 255 → k ≤ 255 → o .«error_register» ≤ 255 →
-    (headOf w₅ ≡ freshHead n f t k o) × (w₅ ≡ freshWords n f t k o)
+    (headOf w₅ ≡ freshHead n f t k o ts) × (w₅ ≡ freshWords n f t k o ts)
 unfolding freshWords
-fresh-is n f t k o m s w₀ w₁ w₂ w₃ w₄ w₅ em es e₀ e₁ e₂ e₃ e₄ e₅ x y z =
+fresh-is n f t k o ts m s w₀ w₁ w₂ w₃ w₄ w₅ em es e₀ e₁ e₂ e₃ e₄ e₅ x y z =
     let a : w₁ ≡ nmtWritten (replicate 58 0) (Nmt.newMachine n f t) = e₁ ∙ (λ i. nmtWritten (e₀ i) (em i)) in
     let b : w₂ ≡ identityWritten (nmtWritten (replicate 58 0) (Nmt.newMachine n f t)) (Nmt.newMachine n f t) = e₂ ∙ (λ i. identityWritten (a i) (em i)) in
     let c = e₃ ∙ (λ i. thresholdsWritten (b i) (es i)) in
-    let d : w₅ ≡ freshWords n f t k o = e₅ ∙ ap (λ (l : List ℕ). set l at.capacity k) (e₄ ∙ ap (λ (l : List ℕ). odWritten l o) c) in
-    (ap headOf d ∙ fresh-written n f t k o x y z, d)
+    let d : w₅ ≡ freshWords n f t k o ts = e₅ ∙ ap (λ (l : List ℕ). set l at.capacity k) (e₄ ∙ ap (λ (l : List ℕ). odWritten l o) c) in
+    (ap headOf d ∙ fresh-written n f t k o ts x y z, d)
 
 -- the nodes
 pub unheard-begins : (ns : List ℕ) → ns ≡ unheardWords 0 ns
@@ -94,25 +95,25 @@ module _ (ns₀ ns : List ℕ) (i : ℕ) (inside : i < 32) (long : length ns ≡
   unheard-long = length-set ns (3 * i + 2) 0 ∙ long
 
 -- the nodes in words
-module _ (ws ns : List ℕ) (k n : ℕ) (f : FeatureFlags) (t c : ℕ) (o : Dictionary) (formed : Bool) (e : formed ≡ wellFormed (watchedOf (nodesOf ns) k)) (r : CallAnswer) (ws′ : List ℕ) (b : BeginsBy ws n f t c o formed r ws′) where
+module _ (ws ns : List ℕ) (k n : ℕ) (f : FeatureFlags) (t c : ℕ) (o : Dictionary) (ts : Thresholds) (formed : Bool) (e : formed ≡ wellFormed (watchedOf (nodesOf ns) k)) (r : CallAnswer) (ws′ : List ℕ) (b : BeginsBy ws n f t c o ts formed r ws′) where
   abbrev vs : List WatchedNode
   vs = watchedOf (nodesOf ns) k
 
-  pub declined : (x : Refusal) → r ≡ answer.Refused x → StartedIn ws ns k n f t c o (answer.Refused x) ws′ ns
-  declined x g = record { on = subst (λ (r : CallAnswer). BeginsBy ws n f t c o formed r ws′) g b .on vs e vs refl; nodes = refl }
+  pub declined : (x : Refusal) → r ≡ answer.Refused x → StartedIn ws ns k n f t c o ts (answer.Refused x) ws′ ns
+  declined x g = record { on = subst (λ (r : CallAnswer). BeginsBy ws n f t c o ts formed r ws′) g b .on vs e vs refl; nodes = refl }
 
   pub below : r ≡ answer.Taken → k ≤ 32
-  below g = few (nodesOf ns) k formed e (taken-formed n c formed (sym (b .answer) ∙ g))
+  below g = few (nodesOf ns) k formed e (taken-formed n c formed ts (sym (b .answer) ∙ g))
 
   pub begun :
       r ≡ answer.Taken →
       (ns′ : List ℕ) →
       (ns′ ≡ unheardWords k ns) × (nodesOf ns′ ≡ unheardFirst k (nodesOf ns)) →
-      StartedIn ws ns k n f t c o answer.Taken ws′ ns′
+      StartedIn ws ns k n f t c o ts answer.Taken ws′ ns′
   begun g ns′ u =
       let listed : watchedOf (nodesOf ns′) k ≡ unheard vs =
       ap (λ (l : List WatchedNode). watchedOf l k) (u .1) ∙ each-nodes (nodesOf ns) k (places ns) (below g) (heardNow 0) in
       record {
-        on = subst (λ (r : CallAnswer). BeginsBy ws n f t c o formed r ws′) g b .on vs e (watchedOf (nodesOf ns′) k) listed;
+        on = subst (λ (r : CallAnswer). BeginsBy ws n f t c o ts formed r ws′) g b .on vs e (watchedOf (nodesOf ns′) k) listed;
         nodes = u .0;
       }

@@ -14,7 +14,7 @@ use Rattle.start.proofs.start.start.Reads as start-reads
 pub start-begins :
     (κs : _) (a : _) (o : CallAnswer) (x : _) → start-reads.Learnt κs a o x →
     Begins
-    (startOf (a .1 .1 .1 .0) (a .1 .1 .1 .1 .0) (a .1 .1 .1 .1 .1 .0) (a .1 .1 .1 .1 .1 .1 .0) (a .1 .1 .1 .1 .1 .1 .1 .0)
+    (startOf (a .1 .1 .1 .0) (a .1 .1 .1 .1 .0) (a .1 .1 .1 .1 .1 .0) (a .1 .1 .1 .1 .1 .1 .0) (a .1 .1 .1 .1 .1 .1 .1 .0) (a .1 .1 .1 .1 .1 .1 .1 .1 .0)
     (watchedOf (nodesOf (now (a .1 .0))) (a .1 .1 .0)))
     o (headOf (now (x .0))) (watchedOf (nodesOf (now (x .1 .0))) (a .1 .1 .0))
 start-begins κs a o x e = e .on .begins

@@ -11,14 +11,15 @@ use Rattle.types.specs.Pick.{pick}
 use Rattle.types.specs.Types.{node, isNode, readNode}
 use Rattle.types.specs.Refusals.{refusalNumber}
 use Rattle.types.specs.declared.refusals.Refusal.{Refusal}
-use Rattle.types.specs.declared.refusals.Refusal.the-variants.{NodeNumber, QueueCapacity, WatchedNodes}
+use Rattle.types.specs.declared.refusals.Refusal.the-variants.{NodeNumber, QueueCapacity, WatchedNodes, ThresholdLimit}
 use Rattle.types.specs.declared.types.NodeId.{NodeId}
 use Rattle.types.specs.declared.types.NodeIdRead.{NodeIdRead}
 use Rattle.types.specs.declared.types.NodeIdRead.the-variants as node-id
 use Rattle.types.specs.declared.nmt.flags.FeatureFlags.{FeatureFlags}
 use Rattle.nmt.specs.Nmt as Nmt
 use Rattle.dll.specs.declared.cs_state_machine.DllCsState.the-variants.{NonCyclic}
-use Rattle.counters.specs.Counters.{newCounters}
+use Rattle.counters.specs.Counters.{newCounters, withinLimit}
+use Rattle.counters.specs.declared.counters.Thresholds.{Thresholds}
 use Rattle.entries.proofs.Lists.{waiting-new, history-new}
 use Rattle.head.specs.declared.state.Deadline.the-variants.{Nothing}
 use Rattle.head.specs.declared.state.Dictionary.{Dictionary}
@@ -42,13 +43,13 @@ read-is n x h = by (isNode n) h
     by true e = cc
     by false e = absurd (let z : _≡_ {A = ℕ} 0 1 = cc in let f : ⊥ = omega arith in f)
 
--- start: number 1 by the reading of the node number, then 2 and 3
-module _ (ws : List ℕ) (vs : List WatchedNode) (n : ℕ) (f : FeatureFlags) (t c : ℕ) (o : Dictionary) where
+-- start: number 1 by the reading of the node number, then 2, 3 and 14
+module _ (ws : List ℕ) (vs : List WatchedNode) (n : ℕ) (f : FeatureFlags) (t c : ℕ) (o : Dictionary) (ts : Thresholds) where
   abbrev s : Start
-  s = startOf n f t c o vs
+  s = startOf n f t c o ts vs
 
   abbrev freshWith : NodeId → Plain
-  freshWith x = plainOf (Nmt.newMachine x f t) NonCyclic newCounters (socWatch 0 false Nothing false) o c [] []
+  freshWith x = plainOf (Nmt.newMachine x f t) NonCyclic (newCounters ts) (socWatch 0 false Nothing false) o c [] []
 
   abbrev no : Refusal → FirstStep
   no r = record { begun = declined (refusalNumber r); lent = vs }
@@ -57,7 +58,7 @@ module _ (ws : List ℕ) (vs : List WatchedNode) (n : ℕ) (f : FeatureFlags) (t
   yes x = record { begun = begins (freshWith x); lent = unheard vs }
 
   abbrev byNode : NodeIdRead → FirstStep
-  byNode (node-id.Taken x) = pick (leb c 32) (pick (wellFormed vs) (yes x) (no WatchedNodes)) (no QueueCapacity)
+  byNode (node-id.Taken x) = pick (leb c 32) (pick (wellFormed vs) (pick (withinLimit ts) (yes x) (no ThresholdLimit)) (no WatchedNodes)) (no QueueCapacity)
   byNode (node-id.Refused r) = no r
 
   started-by : started s ≡ byNode (readNode n)
@@ -66,13 +67,13 @@ module _ (ws : List ℕ) (vs : List WatchedNode) (n : ℕ) (f : FeatureFlags) (t
     where
       by :
           (b : Bool) →
-          pick b (pick (leb c 32) (pick (wellFormed vs) (yes (node n)) (no WatchedNodes)) (no QueueCapacity)) (no NodeNumber)
+          pick b (pick (leb c 32) (pick (wellFormed vs) (pick (withinLimit ts) (yes (node n)) (no ThresholdLimit)) (no WatchedNodes)) (no QueueCapacity)) (no NodeNumber)
           ≡ byNode (pick b (node-id.Taken (node n)) (node-id.Refused NodeNumber))
       by true = refl
       by false = refl
 
   module _ (i : NodeIdRead) (e : i ≡ readNode n) where
-    start-declined : (x : Refusal) → started s ≡ no x → StartedOn ws vs n f t c o (answer.Refused x) ws vs
+    start-declined : (x : Refusal) → started s ≡ no x → StartedOn ws vs n f t c o ts (answer.Refused x) ws vs
     start-declined x g =
         record {
           begins = record {
@@ -83,29 +84,33 @@ module _ (ws : List ℕ) (vs : List WatchedNode) (n : ℕ) (f : FeatureFlags) (t
           words = refl;
         }
 
-    pub start-no-node : (x : Refusal) → i ≡ node-id.Refused x → StartedOn ws vs n f t c o (answer.Refused x) ws vs
+    pub start-no-node : (x : Refusal) → i ≡ node-id.Refused x → StartedOn ws vs n f t c o ts (answer.Refused x) ws vs
     start-no-node x g = start-declined x (started-by ∙ ap byNode (sym e ∙ g))
 
     module _ (x : NodeId) (g : i ≡ node-id.Taken x) where
       after-node : started s ≡ byNode (node-id.Taken x)
       after-node = started-by ∙ ap byNode (sym e ∙ g)
 
-      pub start-no-room : 32 < c → StartedOn ws vs n f t c o (answer.Refused QueueCapacity) ws vs
+      pub start-no-room : 32 < c → StartedOn ws vs n f t c o ts (answer.Refused QueueCapacity) ws vs
       start-no-room z = start-declined QueueCapacity (after-node ∙ rw (lt-leb c 32 z))
 
       module _ (z : c ≤ 32) where
-        pub start-unformed : wellFormed vs ≡ false → StartedOn ws vs n f t c o (answer.Refused WatchedNodes) ws vs
+        pub start-unformed : wellFormed vs ≡ false → StartedOn ws vs n f t c o ts (answer.Refused WatchedNodes) ws vs
         start-unformed a = start-declined WatchedNodes (after-node ∙ rw (le-leb c 32 z, a))
+
+        pub start-unlimited : wellFormed vs ≡ true → withinLimit ts ≡ false → StartedOn ws vs n f t c o ts (answer.Refused ThresholdLimit) ws vs
+        start-unlimited a u = start-declined ThresholdLimit (after-node ∙ rw (le-leb c 32 z, a, u))
 
         pub start-taken :
             wellFormed vs ≡ true →
+            withinLimit ts ≡ true →
             (ws′ : List ℕ) →
-            (headOf ws′ ≡ freshHead x f t c o) × (ws′ ≡ freshWords x f t c o) →
+            (headOf ws′ ≡ freshHead x f t c o ts) × (ws′ ≡ freshWords x f t c o ts) →
             (l : List WatchedNode) →
             l ≡ unheard vs →
-            StartedOn ws vs n f t c o answer.Taken ws′ l
-        start-taken a ws′ r l d =
-            let steps : started s ≡ yes x = after-node ∙ rw (le-leb c 32 z, a) in
+            StartedOn ws vs n f t c o ts answer.Taken ws′ l
+        start-taken a u ws′ r l d =
+            let steps : started s ≡ yes x = after-node ∙ rw (le-leb c 32 z, a, u) in
             let all : min c 32 ≡ c = omega arith in
             let b = r .0 in
             let stands : (q m : List ℕ) → plain (headOf ws′) q m ≡ freshWith x = λ q m. rw (b, all, waiting-new q c, history-new m) in
@@ -115,24 +120,25 @@ module _ (ws : List ℕ) (vs : List WatchedNode) (n : ℕ) (f : FeatureFlags) (t
                 lent = d ∙ sym (ap (λ (b : FirstStep). b .lent) steps);
               };
               places = (ap (λ (h : Head). h .queue) b, ap (λ (h : Head). h .history) b);
-              words = r .1 ∙ ap (λ (x : NodeId). freshWords x f t c o) (sym (read-is n x (sym e ∙ g)));
+              words = r .1 ∙ ap (λ (x : NodeId). freshWords x f t c o ts) (sym (read-is n x (sym e ∙ g)));
             }
 
 -- what the tests say
-abbrev byTests : Bool → Bool → Bool → CallAnswer
-byTests a b f = pick a (pick b (pick f answer.Taken (answer.Refused WatchedNodes)) (answer.Refused QueueCapacity)) (answer.Refused NodeNumber)
+abbrev byTests : Bool → Bool → Bool → Bool → CallAnswer
+byTests a b f l =
+    pick a (pick b (pick f (pick l answer.Taken (answer.Refused ThresholdLimit)) (answer.Refused WatchedNodes)) (answer.Refused QueueCapacity)) (answer.Refused NodeNumber)
 
-pub taken-formed : (n c : ℕ) (f : Bool) → startAnswer n c f ≡ answer.Taken → f ≡ true
-taken-formed n c f e = by (isNode n) (leb c 32) f e
+pub taken-formed : (n c : ℕ) (f : Bool) (ts : Thresholds) → startAnswer n c f ts ≡ answer.Taken → f ≡ true
+taken-formed n c f ts e = by (isNode n) (leb c 32) f e
   where
-    by : (a b f : Bool) → byTests a b f ≡ answer.Taken → f ≡ true
+    by : (a b f : Bool) → byTests a b f (withinLimit ts) ≡ answer.Taken → f ≡ true
     by true true true e = refl
     by true true false e = absurd (let z : _≡_ {A = ℕ} 0 1 = cc in let x : ⊥ = omega arith in x)
     by true false f e = absurd (let z : _≡_ {A = ℕ} 0 1 = cc in let x : ⊥ = omega arith in x)
     by false b f e = absurd (let z : _≡_ {A = ℕ} 0 1 = cc in let x : ⊥ = omega arith in x)
 
 -- start without the nodes, test by test
-module _ (ws : List ℕ) (n : ℕ) (f : FeatureFlags) (t c : ℕ) (o : Dictionary) (formed : Bool) (i : NodeIdRead) (e : i ≡ readNode n) where
+module _ (ws : List ℕ) (n : ℕ) (f : FeatureFlags) (t c : ℕ) (o : Dictionary) (ts : Thresholds) (formed : Bool) (i : NodeIdRead) (e : i ≡ readNode n) where
   abbrev readBy : Bool → NodeIdRead
   readBy b = pick b (node-id.Taken (node n)) (node-id.Refused NodeNumber)
 
@@ -153,39 +159,46 @@ module _ (ws : List ℕ) (n : ℕ) (f : FeatureFlags) (t c : ℕ) (o : Dictionar
       by false h = absurd (let z : _≡_ {A = ℕ} 0 1 = cc in let x : ⊥ = omega arith in x)
 
   declines :
-      (x : Refusal) → answer.Refused x ≡ startAnswer n c formed →
-      ((vs : List WatchedNode) → formed ≡ wellFormed vs → StartedOn ws vs n f t c o (answer.Refused x) ws vs) →
-      BeginsBy ws n f t c o formed (answer.Refused x) ws
+      (x : Refusal) → answer.Refused x ≡ startAnswer n c formed ts →
+      ((vs : List WatchedNode) → formed ≡ wellFormed vs → StartedOn ws vs n f t c o ts (answer.Refused x) ws vs) →
+      BeginsBy ws n f t c o ts formed (answer.Refused x) ws
   declines x a k =
       record {
         answer = a;
-        on = λ vs g l y. subst (StartedOn ws vs n f t c o (answer.Refused x) ws) (sym y) (k vs g);
+        on = λ vs g l y. subst (StartedOn ws vs n f t c o ts (answer.Refused x) ws) (sym y) (k vs g);
       }
 
-  pub begins-no-node : (x : Refusal) → i ≡ node-id.Refused x → BeginsBy ws n f t c o formed (answer.Refused x) ws
+  pub begins-no-node : (x : Refusal) → i ≡ node-id.Refused x → BeginsBy ws n f t c o ts formed (answer.Refused x) ws
   begins-no-node x g =
       let p = no-node x g in
-      declines x (ap answer.Refused (p .1) ∙ sym (ap (λ (b : Bool). byTests b (leb c 32) formed) (p .0)))
-      (λ vs _. start-no-node ws vs n f t c o i e x g)
+      declines x (ap answer.Refused (p .1) ∙ sym (ap (λ (b : Bool). byTests b (leb c 32) formed (withinLimit ts)) (p .0)))
+      (λ vs _. start-no-node ws vs n f t c o ts i e x g)
 
   module _ (x : NodeId) (g : i ≡ node-id.Taken x) where
-    tests : (b : Bool) → leb c 32 ≡ b → byTests true b formed ≡ startAnswer n c formed
-    tests b h = sym (ap₂ (λ (a b : Bool). byTests a b formed) (a-node x g) h)
+    tests : (b : Bool) → leb c 32 ≡ b → byTests true b formed (withinLimit ts) ≡ startAnswer n c formed ts
+    tests b h = sym (ap₂ (λ (a b : Bool). byTests a b formed (withinLimit ts)) (a-node x g) h)
 
-    pub begins-no-room : 32 < c → BeginsBy ws n f t c o formed (answer.Refused QueueCapacity) ws
-    begins-no-room z = declines QueueCapacity (tests false (lt-leb c 32 z)) (λ vs _. start-no-room ws vs n f t c o i e x g z)
+    pub begins-no-room : 32 < c → BeginsBy ws n f t c o ts formed (answer.Refused QueueCapacity) ws
+    begins-no-room z = declines QueueCapacity (tests false (lt-leb c 32 z)) (λ vs _. start-no-room ws vs n f t c o ts i e x g z)
 
     module _ (z : c ≤ 32) where
-      pub begins-unformed : formed ≡ false → BeginsBy ws n f t c o formed (answer.Refused WatchedNodes) ws
+      -- room for the queue: what is left of the tests
+      behind : (d l : Bool) → formed ≡ d → withinLimit ts ≡ l → byTests true true d l ≡ startAnswer n c formed ts
+      behind d l h u = sym (ap₂ (byTests true true) h u) ∙ tests true (le-leb c 32 z)
+
+      pub begins-unformed : formed ≡ false → BeginsBy ws n f t c o ts formed (answer.Refused WatchedNodes) ws
       begins-unformed a =
-          declines WatchedNodes (sym (ap (byTests true true) a) ∙ tests true (le-leb c 32 z))
-          (λ vs h. start-unformed ws vs n f t c o i e x g z (sym h ∙ a))
+          declines WatchedNodes (behind false (withinLimit ts) a refl) (λ vs h. start-unformed ws vs n f t c o ts i e x g z (sym h ∙ a))
+
+      pub begins-unlimited : formed ≡ true → withinLimit ts ≡ false → BeginsBy ws n f t c o ts formed (answer.Refused ThresholdLimit) ws
+      begins-unlimited a u =
+          declines ThresholdLimit (behind true false a u) (λ vs h. start-unlimited ws vs n f t c o ts i e x g z (sym h ∙ a) u)
 
       pub begins-taken :
-          formed ≡ true → (ws′ : List ℕ) → (headOf ws′ ≡ freshHead x f t c o) × (ws′ ≡ freshWords x f t c o) →
-          BeginsBy ws n f t c o formed answer.Taken ws′
-      begins-taken a ws′ r =
+          formed ≡ true → withinLimit ts ≡ true → (ws′ : List ℕ) → (headOf ws′ ≡ freshHead x f t c o ts) × (ws′ ≡ freshWords x f t c o ts) →
+          BeginsBy ws n f t c o ts formed answer.Taken ws′
+      begins-taken a u ws′ r =
           record {
-            answer = sym (ap (byTests true true) a) ∙ tests true (le-leb c 32 z);
-            on = λ vs h l y. start-taken ws vs n f t c o i e x g z (sym h ∙ a) ws′ r l y;
+            answer = behind true true a u;
+            on = λ vs h l y. start-taken ws vs n f t c o ts i e x g z (sym h ∙ a) u ws′ r l y;
           }

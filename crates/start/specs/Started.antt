@@ -9,11 +9,12 @@ use lib.ListN.{set, replicate}
 use Rattle.types.specs.Types.{node, isNode}
 use Rattle.types.specs.Refusals.{refusalNumber}
 use Rattle.types.specs.declared.types.NodeId.{NodeId}
-use Rattle.types.specs.declared.refusals.Refusal.the-variants.{NodeNumber, QueueCapacity, WatchedNodes}
+use Rattle.types.specs.declared.refusals.Refusal.the-variants.{NodeNumber, QueueCapacity, WatchedNodes, ThresholdLimit}
 use Rattle.types.specs.declared.nmt.flags.FeatureFlags.{FeatureFlags}
 use Rattle.nmt.specs.Nmt as Nmt
 use Rattle.dll.specs.Dll.{freshMachine}
-use Rattle.counters.specs.Counters.{newCounters}
+use Rattle.counters.specs.Counters.{newCounters, withinLimit}
+use Rattle.counters.specs.declared.counters.Thresholds.{Thresholds}
 use Rattle.entries.specs.Queue.{queue}
 use Rattle.entries.specs.History.{errorHistory}
 use Rattle.head.specs.declared.state.Deadline.the-variants.{Nothing}
@@ -33,8 +34,8 @@ use Rattle.node.specs.Refines.{plain}
 use Rattle.node.specs.InPlace.{unlessRefused}
 
 -- what start is given, from its arguments
-abbrev pub startOf : ℕ → FeatureFlags → ℕ → ℕ → Dictionary → List WatchedNode → Start
-startOf n f t c o ws = record { node = n; flags = f .0; timeout = t; capacity = c; od = o; watched = ws }
+abbrev pub startOf : ℕ → FeatureFlags → ℕ → ℕ → Dictionary → Thresholds → List WatchedNode → Start
+startOf n f t c o ts ws = record { node = n; flags = f .0; timeout = t; capacity = c; od = o; thresholds = ts; watched = ws }
 
 -- what start answers, with the head that its words stand for
 abbrev pub begunBy : CallAnswer → Head → List ℕ → List ℕ → Begun
@@ -47,12 +48,12 @@ FreshPlaces answer.Taken h c = (h .queue ≡ queue 0 0 c) × (h .history ≡ err
 FreshPlaces (answer.Refused r) h c = Unit
 
 -- the head that start gives
-abbrev pub freshHead : NodeId → FeatureFlags → ℕ → ℕ → Dictionary → Head
-freshHead n f t c o =
+abbrev pub freshHead : NodeId → FeatureFlags → ℕ → ℕ → Dictionary → Thresholds → Head
+freshHead n f t c o ts =
     record {
       nmt = Nmt.newMachine n f t;
       dll = freshMachine;
-      errors = newCounters;
+      errors = newCounters ts;
       soc = socWatch 0 false Nothing false;
       od = o;
       queue = queue 0 0 c;
@@ -65,9 +66,9 @@ pub record Begins (s : Start) (a : CallAnswer) (h : Head) (l : List WatchedNode)
   pub lent : l ≡ started s .lent
 
 -- all 58 words, from the arguments alone: those that no part names are 0
-unfoldable pub freshWords : NodeId → FeatureFlags → ℕ → ℕ → Dictionary → List ℕ
-freshWords n f t c o =
-    set (odWritten (thresholdsWritten (identityWritten (nmtWritten (replicate 58 0) (Nmt.newMachine n f t)) (Nmt.newMachine n f t)) newCounters) o)
+unfoldable pub freshWords : NodeId → FeatureFlags → ℕ → ℕ → Dictionary → Thresholds → List ℕ
+freshWords n f t c o ts =
+    set (odWritten (thresholdsWritten (identityWritten (nmtWritten (replicate 58 0) (Nmt.newMachine n f t)) (Nmt.newMachine n f t)) (newCounters ts)) o)
     at.capacity c
 
 -- the last-heard words of the first so many nodes are 0
@@ -75,10 +76,10 @@ unfoldable pub unheardWords : ℕ → List ℕ → List ℕ
 unheardWords zero ns = ns
 unheardWords (suc i) ns = set (unheardWords i ns) (3 * i + 2) 0
 
--- numbers 1, 2 and 3, where it is known whether the nodes pass number 3
-abbrev pub startAnswer : ℕ → ℕ → Bool → CallAnswer
-startAnswer n c formed =
-    tried (must (isNode n) NodeNumber ∷ must (leb c 32) QueueCapacity ∷ must formed WatchedNodes ∷ []) answer.Refused answer.Taken
+-- numbers 1, 2, 3 and 14, where it is known whether the nodes pass number 3
+abbrev pub startAnswer : ℕ → ℕ → Bool → Thresholds → CallAnswer
+startAnswer n c formed ts =
+    tried (must (isNode n) NodeNumber ∷ must (leb c 32) QueueCapacity ∷ must formed WatchedNodes ∷ must (withinLimit ts) ThresholdLimit ∷ []) answer.Refused answer.Taken
 
 -- the nodes that start leaves
 abbrev pub startLeft : CallAnswer → List WatchedNode → List WatchedNode
@@ -87,17 +88,17 @@ startLeft (answer.Refused r) vs = vs
 
 -- Of start on the words ws and the nodes vs, which answered a and left the words ws′ and the nodes vs′: the plain start's head or number and nodes, and
 -- every word of the head.
-pub record StartedOn (ws : List ℕ) (vs : List WatchedNode) (n : ℕ) (f : FeatureFlags) (t c : ℕ) (o : Dictionary) (a : CallAnswer) (ws′ : List ℕ) (vs′ : List WatchedNode) : Type 0 where
-  pub begins : Begins (startOf n f t c o vs) a (headOf ws′) vs′
+pub record StartedOn (ws : List ℕ) (vs : List WatchedNode) (n : ℕ) (f : FeatureFlags) (t c : ℕ) (o : Dictionary) (ts : Thresholds) (a : CallAnswer) (ws′ : List ℕ) (vs′ : List WatchedNode) : Type 0 where
+  pub begins : Begins (startOf n f t c o ts vs) a (headOf ws′) vs′
   pub places : FreshPlaces a (headOf ws′) c
-  pub words : ws′ ≡ unlessRefused a ws (freshWords (node n) f t c o)
+  pub words : ws′ ≡ unlessRefused a ws (freshWords (node n) f t c o ts)
 
 -- The same of nodes in the words ns, of which the first k are watched; and every word of theirs.
-pub record StartedIn (ws ns : List ℕ) (k n : ℕ) (f : FeatureFlags) (t c : ℕ) (o : Dictionary) (a : CallAnswer) (ws′ ns′ : List ℕ) : Type 0 where
-  pub on : StartedOn ws (watchedOf (nodesOf ns) k) n f t c o a ws′ (watchedOf (nodesOf ns′) k)
+pub record StartedIn (ws ns : List ℕ) (k n : ℕ) (f : FeatureFlags) (t c : ℕ) (o : Dictionary) (ts : Thresholds) (a : CallAnswer) (ws′ ns′ : List ℕ) : Type 0 where
+  pub on : StartedOn ws (watchedOf (nodesOf ns) k) n f t c o ts a ws′ (watchedOf (nodesOf ns′) k)
   pub nodes : ns′ ≡ unlessRefused a ns (unheardWords k ns)
 
 -- Of start without the nodes, whose form it need not know: what it answers, and what start leaves of any nodes that pass number 3 or don't, as was said.
-pub record BeginsBy (ws : List ℕ) (n : ℕ) (f : FeatureFlags) (t c : ℕ) (o : Dictionary) (formed : Bool) (a : CallAnswer) (ws′ : List ℕ) : Type 0 where
-  pub answer : a ≡ startAnswer n c formed
-  pub on : (vs : List WatchedNode) → formed ≡ wellFormed vs → (l : List WatchedNode) → l ≡ startLeft a vs → StartedOn ws vs n f t c o a ws′ l
+pub record BeginsBy (ws : List ℕ) (n : ℕ) (f : FeatureFlags) (t c : ℕ) (o : Dictionary) (ts : Thresholds) (formed : Bool) (a : CallAnswer) (ws′ : List ℕ) : Type 0 where
+  pub answer : a ≡ startAnswer n c formed ts
+  pub on : (vs : List WatchedNode) → formed ≡ wellFormed vs → (l : List WatchedNode) → l ≡ startLeft a vs → StartedOn ws vs n f t c o ts a ws′ l

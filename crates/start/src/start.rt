@@ -6,6 +6,7 @@ ghost use Rattle.start.specs.Started.{freshHead, freshWords, unheardWord
 ghost use Rattle.head.specs.Words.{headOf};
 ghost use Rattle.watched.specs.Nodes.{nodesOf};
 use counters::counters::CnErrorCounters;
+use counters::counters::Thresholds;
 use head::parts::byte;
 use head::parts::clear;
 use head::parts::set_capacity;
@@ -33,14 +34,15 @@ fn fresh_head(
     basic_ethernet_timeout: u32,
     queue_capacity: u8,
     od: Dictionary,
+    thresholds: Thresholds,
 )
-    ensures { λ _. ⌜ (headOf (now (head .exit)) ≡ freshHead «node_id» «feature_flags» «basic_ethernet_timeout» «queue_capacity» od)
-        × (now (head .exit) ≡ freshWords «node_id» «feature_flags» «basic_ethernet_timeout» «queue_capacity» od) ⌝ }
+    ensures { λ _. ⌜ (headOf (now (head .exit)) ≡ freshHead «node_id» «feature_flags» «basic_ethernet_timeout» «queue_capacity» od thresholds)
+        × (now (head .exit) ≡ freshWords «node_id» «feature_flags» «basic_ethernet_timeout» «queue_capacity» od thresholds) ⌝ }
 {
     let number = byte(node_id.0);
     let register = byte(od.error_register);
     let nmt = CnNmtStateMachine::new(node_id, feature_flags, basic_ethernet_timeout);
-    let errors = CnErrorCounters::new();
+    let errors = CnErrorCounters::new(thresholds);
     clear(head);
     set_nmt(head, nmt);
     set_identity(head, nmt);
@@ -62,7 +64,7 @@ fn unheard(nodes: &mut NodeWords, count: usize)
     }
 }
 
-// Numbers 1, 2 and 3, then the fresh head. Of the watched nodes it is told whether they pass number 3, whatever form they have.
+// Numbers 1, 2, 3 and 14, then the fresh head. Of the watched nodes it is told whether they pass number 3, whatever form they have.
 pub fn begin(
     head: &mut Head,
     node: u8,
@@ -70,9 +72,10 @@ pub fn begin(
     basic_ethernet_timeout: u32,
     queue_capacity: u64,
     od: Dictionary,
+    thresholds: Thresholds,
     formed: bool,
 ) -> CallAnswer
-    ensures { λ r. ⌜ BeginsBy (now (head .entry)) node «feature_flags» «basic_ethernet_timeout» «queue_capacity» od formed r (now (head .exit)) ⌝ }
+    ensures { λ r. ⌜ BeginsBy (now (head .entry)) node «feature_flags» «basic_ethernet_timeout» «queue_capacity» od thresholds formed r (now (head .exit)) ⌝ }
 {
     match NodeId::try_from(node) {
         NodeIdRead::Taken(node_id) => {
@@ -82,6 +85,9 @@ pub fn begin(
             if !formed {
                 return CallAnswer::Refused(Refusal::WatchedNodes);
             }
+            if !thresholds.is_within_limit() {
+                return CallAnswer::Refused(Refusal::ThresholdLimit);
+            }
             let capacity = queue_capacity as u8;
             fresh_head(
                 head,
@@ -90,6 +96,7 @@ pub fn begin(
                 basic_ethernet_timeout,
                 capacity,
                 od,
+                thresholds,
             );
             return CallAnswer::Taken;
         }
@@ -109,8 +116,9 @@ pub fn start(
     basic_ethernet_timeout: u32,
     queue_capacity: u64,
     od: Dictionary,
+    thresholds: Thresholds,
 ) -> CallAnswer
-    ensures { λ r. ⌜ StartedIn (now (head .entry)) (now (nodes .entry)) count node «feature_flags» «basic_ethernet_timeout» «queue_capacity» od r (now (head .exit)) (now (nodes .exit)) ⌝ }
+    ensures { λ r. ⌜ StartedIn (now (head .entry)) (now (nodes .entry)) count node «feature_flags» «basic_ethernet_timeout» «queue_capacity» od thresholds r (now (head .exit)) (now (nodes .exit)) ⌝ }
 {
     let formed = well_formed(nodes, count);
     let answer = begin(
@@ -120,6 +128,7 @@ pub fn start(
         basic_ethernet_timeout,
         queue_capacity,
         od,
+        thresholds,
         formed,
     );
     match answer {

@@ -22,7 +22,7 @@ use Rattle.tick.proofs.Links.{process-tick-refines}
 use Rattle.lent.proofs.Links.{Start-learnt}
 use Rattle.trace.specs.Claim.{Claim}
 use Rattle.trace.specs.Driven.{Made, Began, Driven, stop, next}
-use Rattle.trace.proofs.Follows.{Follows, finished, begins-fresh, declined-lent, followed}
+use Rattle.trace.proofs.Follows.{Follows, finished, declined-lent, followed}
 
 -- what a contract in src/ ensures is `Refines`
 pub refines :
@@ -70,7 +70,7 @@ pub demand-3 :
     Driven ws₀ q₀ m₀ cs ss ws q m →
     Claim s cs ss (headOf ws) q m
 demand-3 {s = s} {ws₀ = ws₀} {q₀ = q₀} {m₀ = m₀} b d =
-    followed s (begins-fresh s (plain (headOf ws₀) q₀ m₀) (begins b .begun q₀ m₀)) (follows d)
+    followed s (begins b .begun q₀ m₀) (follows d)
 
 -- a start that is declined has no list: its number is the plain start's, and what was lent is unchanged
 pub start-declined :

@@ -2,13 +2,16 @@
 -- Assumes nothing.
 use Prim.Native.Nat.{ℕ}
 use mathlib.Core.Path.{_≡_, refl, ap, ap₂, _∙_}
+use mathlib.Core.Bool.{Bool, true, false}
 use mathlib.Core.List.{List, [], _∷_}
 use native.Mathlib.Omega.{arith}
+use Rattle.types.specs.Pick.{pick}
+use Rattle.counters.specs.Counters.{withinLimit}
 use Rattle.head.specs.Head.{Head}
 use Rattle.watched.specs.declared.nodes.WatchedNode.{WatchedNode}
 use Rattle.watched.specs.Watched.{unheard}
 use Rattle.node.specs.Plain.{Plain, Call, Answer, Start, begins, declined, FirstStep}
-use Rattle.node.specs.Steps.{fresh, startTests, started}
+use Rattle.node.specs.Steps.{Test, tried, fresh, startTests, started}
 use Rattle.node.specs.Run.{stepAll, Said, saidAll}
 use Rattle.node.specs.Refines.{plain, Left, Refines}
 use Rattle.trace.specs.Claim.{Claim}
@@ -53,6 +56,30 @@ begins-fresh s p =
     (λ r. record { begun = declined r; lent = s .watched }) (record { begun = begins (fresh s); lent = unheard (s .watched) })
     (λ r e. absurd (let z : _≡_ {A = ℕ} 0 1 = cc in let f : ⊥ = omega arith in f)) (λ e. cc)
 
+-- where what was tried comes to something that no refusal gives, every test held
+abbrev AllHold : {R : Type 0} → List (Test R) → Type 0
+AllHold [] = Unit {0}
+AllHold (t ∷ ts) = (t .holds ≡ true) × AllHold ts
+
+all-hold :
+    {R A : Type 0} (P : A → Type 0) (ts : List (Test R)) (refuse : R → A) (accept : A) →
+    ((r : R) → P (refuse r) → ⊥) → P (tried ts refuse accept) → AllHold ts
+all-hold P [] refuse accept never h = tt
+all-hold P (t ∷ ts) refuse accept never h = by (t .holds) refl (all-hold P ts refuse accept never) h
+  where
+    by :
+        (b : Bool) → t .holds ≡ b → (P (tried ts refuse accept) → AllHold ts) →
+        P (pick b (tried ts refuse accept) (refuse (t .otherwise))) → AllHold (t ∷ ts)
+    by true e rest h = (e, rest h)
+    by false e rest h = absurd (never (t .otherwise) h)
+
+pub begins-limited : (s : Start) (p : Plain) → begins p ≡ started s .begun → withinLimit (s .thresholds) ≡ true
+unfolding started
+begins-limited s p e =
+    all-hold (λ (f : FirstStep). begins p ≡ f .begun) (startTests s)
+    (λ r. record { begun = declined r; lent = s .watched }) (record { begun = begins (fresh s); lent = unheard (s .watched) })
+    (λ r e. let z : _≡_ {A = ℕ} 0 1 = cc in omega arith) e .1 .1 .1 .0
+
 -- a plain start that is declined leaves what was lent
 pub declined-lent : (s : Start) (x : ℕ) → declined x ≡ started s .begun → started s .lent ≡ s .watched
 unfolding started
@@ -61,12 +88,13 @@ declined-lent s x =
     (λ r. record { begun = declined r; lent = s .watched }) (record { begun = begins (fresh s); lent = unheard (s .watched) })
     (λ r e. refl) (λ e. absurd (let z : _≡_ {A = ℕ} 0 1 = cc in let f : ⊥ = omega arith in f))
 
--- from a head that stands for the fresh plain head of a start
+-- from a head that stands for the one that the plain start gives
 pub followed :
     {h₀ h : Head} {q₀ m₀ q m : List ℕ} {cs : List Call} {says : List Said} (s : Start) →
-    plain h₀ q₀ m₀ ≡ fresh s →
+    begins (plain h₀ q₀ m₀) ≡ started s .begun →
     Follows h₀ q₀ m₀ cs says h q m →
     Claim s cs says h q m
-followed {h₀} {h} {q₀} {m₀} {q} {m} {cs} {says} s e f =
-    claimed s cs says h q m (follows-run f ∙ ap (λ (p : Plain). stepAll p cs) e)
+followed {h₀} {h} {q₀} {m₀} {q} {m} {cs} {says} s b f =
+    let e : plain h₀ q₀ m₀ ≡ fresh s = begins-fresh s (plain h₀ q₀ m₀) b in
+    claimed s cs says h q m (begins-limited s (plain h₀ q₀ m₀) b) (follows-run f ∙ ap (λ (p : Plain). stepAll p cs) e)
     (follows-said f ∙ ap (λ (p : Plain). saidAll p cs) e)

@@ -5,13 +5,13 @@ use mathlib.Core.Path.{_≡_, refl, sym, ap, ap₂, subst, _∙_}
 use mathlib.Core.Bool.{Bool, true, false}
 use mathlib.Core.List.{List, [], _∷_, _++_}
 use native.Mathlib.Omega.{arith}
-use lib.Dec.{lit<, lit≤}
 use lib.ListN.{length, length-append}
 use Rattle.types.specs.Pick.{either}
-use Rattle.counters.specs.Counters.{counter, newCounter, top}
+use Rattle.counters.specs.Counters.{counter, newCounter, top, thresholdFor, withinLimit}
 use Rattle.counters.specs.Marks.{isCrossing, countOf, level, E, N}
 use Rattle.counters.specs.declared.counters.CounterKind.{CounterKind}
-use Rattle.counters.proofs.ByKind.{counter-new}
+use Rattle.counters.specs.declared.counters.Thresholds.{Thresholds}
+use Rattle.counters.proofs.ByKind.{counter-new, limited}
 use Rattle.counters.proofs.Balance.{Balanced, balanced-none, balanced-then, FromZero, from-zero, count-append}
 use Rattle.head.specs.Head.{Head}
 use Rattle.node.specs.Plain.{Plain, Call, Start, Step}
@@ -26,11 +26,11 @@ use Rattle.trace.proofs.Queues.{merge-queued}
 use Rattle.counters.proofs.Counts.{Rises, rises-none, rises-then, Count, occurrence-count, crossing-count}
 use Rattle.trace.proofs.Shares.{Shares, shares, rule}
 
--- of the head p and what was counted since a start at which counter 3 was lost₀
-pub record Kept (lost₀ : ℕ) (p : Plain) (z : Tally) : Type 0 where
+-- of the head p and what was counted since a start at which counter 3 was lost₀ and the thresholds were ts
+pub record Kept (lost₀ : ℕ) (ts : Thresholds) (p : Plain) (z : Tally) : Type 0 where
   pub told : mode (p .nmt) (z .told) ≡ true
-  pub balance : (k : CounterKind) → Balanced 15 k (newCounter 15) (z .marks) (counter k (p .errors))
-  pub count : (x : Count) (k : CounterKind) → Rises (x .read (newCounter 15)) (countOf (x .of-kind k) (z .marks)) (x .read (counter k (p .errors)))
+  pub balance : (k : CounterKind) → Balanced (thresholdFor k ts) k (newCounter (thresholdFor k ts)) (z .marks) (counter k (p .errors))
+  pub count : (x : Count) (k : CounterKind) → Rises (x .read (newCounter (thresholdFor k ts))) (countOf (x .of-kind k) (z .marks)) (x .read (counter k (p .errors)))
   pub crossings : length (z .crossings) ≡ countOf isCrossing (z .checked)
   pub entries : Merge (z .crossings) (z .handed ++ p .queue) (z .dropped)
   pub lost :
@@ -49,14 +49,14 @@ either-second false b h = h
 
 -- a call that does its share keeps it all
 pub kept-by :
-    (lost₀ : ℕ) (p : Plain) (z : Tally) (c : Call) (t : Step) →
+    (lost₀ : ℕ) (ts : Thresholds) (p : Plain) (z : Tally) (c : Call) (t : Step) →
     Shares p c t →
-    Kept lost₀ p z →
-    Kept lost₀ (t .head) (noted p c t z)
-kept-by lost₀ p z c t s i =
+    Kept lost₀ ts p z →
+    Kept lost₀ ts (t .head) (noted p c t z)
+kept-by lost₀ ts p z c t s i =
     record {
       told = s .told (z .told) (i .told);
-      balance = λ k. balanced-then (i .balance k) (s .counts .balance k (i .balance k .kept));
+      balance = λ k. balanced-then (i .balance k) (s .counts .balance (thresholdFor k ts) k (i .balance k .kept));
       count = λ x k. rw (count-append (x .of-kind k) (z .marks) (t .marks)) (rises-then (i .count x k) (s .counts .count x k));
       crossings =
           length-append (z .crossings) (t .crossings)
@@ -73,20 +73,20 @@ kept-by lost₀ p z c t s i =
 
 -- and so does a list of calls
 pub keeps-all :
-    (lost₀ : ℕ) (p : Plain) (z : Tally) (cs : List Call) → Kept lost₀ p z → Kept lost₀ (stepAll p cs) (tally p cs z)
+    (lost₀ : ℕ) (ts : Thresholds) (p : Plain) (z : Tally) (cs : List Call) → Kept lost₀ ts p z → Kept lost₀ ts (stepAll p cs) (tally p cs z)
 unfolding stepAll tally
-keeps-all lost₀ p z [] i = i
-keeps-all lost₀ p z (c ∷ cs) i =
-    keeps-all lost₀ (step p c .head) (noted p c (step p c) z) cs (kept-by lost₀ p z c (step p c) (shares p c) i)
+keeps-all lost₀ ts p z [] i = i
+keeps-all lost₀ ts p z (c ∷ cs) i =
+    keeps-all lost₀ ts (step p c .head) (noted p c (step p c) z) cs (kept-by lost₀ ts p z c (step p c) (shares p c) i)
 
 -- a fresh head
-pub starts : (s : Start) → Kept (s .od .«counter_3») (fresh s) nothing
+pub starts : (s : Start) → Kept (s .od .«counter_3») (s .thresholds) (fresh s) nothing
 unfolding fresh
 starts s =
     record {
       told = refl;
-      balance = λ k. rw (counter-new k) (balanced-none 15 k (newCounter 15) refl);
-      count = λ x k. rw (counter-new k) (rises-none (x .read (newCounter 15)));
+      balance = λ k. rw (counter-new k (s .thresholds)) (balanced-none (thresholdFor k (s .thresholds)) k (newCounter (thresholdFor k (s .thresholds))) refl);
+      count = λ x k. rw (counter-new k (s .thresholds)) (rises-none (x .read (newCounter (thresholdFor k (s .thresholds)))));
       crossings = refl;
       entries = empty;
       lost = λ l b. omega arith;
@@ -100,14 +100,15 @@ each p (c ∷ cs) = (rule p c, each (step p c .head) cs)
 -- the claim, of a head that is as the plain head's list leaves it, and answers that are the plain head's
 pub claimed :
     (s : Start) (cs : List Call) (says : List Said) (h : Head) (q m : List ℕ) →
+    withinLimit (s .thresholds) ≡ true →
     plain h q m ≡ stepAll (fresh s) cs →
     says ≡ saidAll (fresh s) cs →
     Claim s cs says h q m
 unfolding occurrence-count crossing-count
-claimed s cs says h q m alike answered =
-    let k : Kept (s .od .«counter_3») (plain h q m) (tallied s cs) =
-    subst (λ (p : Plain). Kept (s .od .«counter_3») p (tallied s cs)) (sym alike)
-    (keeps-all (s .od .«counter_3») (fresh s) nothing cs (starts s))
+claimed s cs says h q m limit alike answered =
+    let k : Kept (s .od .«counter_3») (s .thresholds) (plain h q m) (tallied s cs) =
+    subst (λ (p : Plain). Kept (s .od .«counter_3») (s .thresholds) p (tallied s cs)) (sym alike)
+    (keeps-all (s .od .«counter_3») (s .thresholds) (fresh s) nothing cs (starts s))
     in
     record {
       alike = alike;
@@ -122,8 +123,16 @@ claimed s cs says h q m alike answered =
       heeded = mode-word (h .nmt) (tallied s cs .told) (k .told);
       balance =
           λ j.
-          let z : FromZero 15 j (tallied s cs .marks) (level j (h .errors)) = from-zero (lit< tt) (lit≤ tt) refl (k .balance j) in
-          record { low = z .low; high = z .high };
+          let T = thresholdFor j (s .thresholds) in
+          let small = limited (s .thresholds) limit j in
+          let z : FromZero T j (tallied s cs .marks) (level j (h .errors)) = from-zero (omega arith) refl (k .balance j) in
+          record {
+            low = λ p. z .low;
+            high = z .high;
+            none = z .none;
+            most = λ u. omega (arith, z .low);
+            exact = z .exact;
+          };
       crossed = λ j b. let r : counter j (h .errors) .«crossings_cnt» ≡ 0 + N j (tallied s cs .marks) = k .count crossing-count j .risen b in omega arith;
       occurred = λ j b. let r : counter j (h .errors) .«cumulative_cnt» ≡ 0 + E j (tallied s cs .marks) = k .count occurrence-count j .risen b in omega arith;
       crossings = k .crossings;

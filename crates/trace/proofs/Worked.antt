@@ -12,7 +12,7 @@ use Rattle.types.specs.declared.frame.error.types.DllError.the-variants as erro
 use Rattle.nmt.specs.Resets.{isReset, statesEntered}
 use Rattle.nmt.specs.Nmt.{enter, rowOf, applied, resetBy, processed}
 use Rattle.dll.specs.Dll as Dll
-use Rattle.counters.specs.Counters.{replaced, afterError, handled}
+use Rattle.counters.specs.Counters.{sameForAll, replaced, afterError, handled}
 use Rattle.counters.specs.Counters as Counters
 use Rattle.counters.specs.Marks.{E, N, crosses, errorMarks}
 use Rattle.counters.specs.declared.counters.CounterKind.the-variants.{LossOfSoc, HeartbeatTimeout}
@@ -81,6 +81,7 @@ begun n c =
             «counter_3» = c;
             «counter_5» = 0;
           };
+      thresholds = sameForAll 15;
       watched = [];
     }
 

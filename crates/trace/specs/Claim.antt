@@ -6,7 +6,7 @@ use mathlib.Core.Bool.{true, false}
 use mathlib.Core.List.{List, [], _∷_, _++_}
 use lib.ListN.{length}
 use Rattle.types.specs.declared.nmt.states.NmtState.the-variants.{NmtPreOperational2, NmtReadyToOperate}
-use Rattle.counters.specs.Counters.{counter, top}
+use Rattle.counters.specs.Counters.{counter, top, thresholdFor}
 use Rattle.counters.specs.Marks.{Mark, level, isCrossing, countOf, E, N, D}
 use Rattle.counters.specs.declared.counters.CounterKind.{CounterKind}
 use Rattle.entries.specs.declared.status_response.ErrorEntry.{ErrorEntry}
@@ -52,10 +52,14 @@ unfoldable pub Each : Plain → List Call → Type 0
 Each p [] = Unit {0}
 Each p (c ∷ cs) = Rule p c × Each (step p c .head) cs
 
--- a kind's errors, crossings and drained cycles, and its level L
-pub record Balance (k : CounterKind) (ms : List Mark) (L : ℕ) : Type 0 where
-  pub low : 15 * N k ms + L + D k ms ≤ 8 * E k ms
-  pub high : 8 * E k ms ≤ 22 * N k ms + L + D k ms
+-- a kind's errors, crossings and drained cycles, its threshold T and its level L
+pub record Balance (T : ℕ) (k : CounterKind) (ms : List Mark) (L : ℕ) : Type 0 where
+  pub low : 0 < T → T * N k ms + L + D k ms ≤ 8 * E k ms
+  pub high : 0 < T → 8 * E k ms ≤ (T + 7) * N k ms + L + D k ms
+  -- "A threshold of 0 never crosses, as in the Rust, and its level stops at the 32-bit top."
+  pub none : T ≡ 0 → N k ms ≡ 0
+  pub most : T ≡ 0 → L + D k ms ≤ 8 * E k ms
+  pub exact : T ≡ 0 → 8 * E k ms ≤ top → L + D k ms ≡ 8 * E k ms
 
 -- what is counted of the calls cs after a start s
 abbrev pub tallied : Start → List Call → Tally
@@ -76,8 +80,9 @@ pub record Claim (s : Start) (cs : List Call) (says : List Said) (h : Head) (q m
   -- that word is the one that the head keeps, in every state
   pub heeded : h .nmt .«app_ready» ≡ tallied s cs .told .word
   -- "For each kind with a threshold, with E errors counted, N crossings of the threshold, D cycles drained and level L:
-  -- 15N + L + D ≤ 8E ≤ 22N + L + D."
-  pub balance : (k : CounterKind) → Balance k (tallied s cs .marks) (level k (h .errors))
+  -- 15N + L + D ≤ 8E ≤ 22N + L + D." Document 02, No. 6: "With threshold T above 0 a head's levels obey T × N + L + D ≤ 8E ≤ (T + 7) × N + L + D, shown for
+  -- every T alike, and 15 is one case; kinds at 0 are outside this." T is the one given at start.
+  pub balance : (k : CounterKind) → Balance (thresholdFor k (s .thresholds)) k (tallied s cs .marks) (level k (h .errors))
   -- Document 02, No. 3: "A reader of the third demand takes N from the crossings and E from the cumulative count, while neither has reached the 32-bit top."
   pub crossed :
       (k : CounterKind) →

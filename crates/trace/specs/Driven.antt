@@ -104,14 +104,14 @@ pub data Began : Start → CallAnswer → List WatchedNode → List ℕ → Type
       (κs : _) (a : _) (o : CallAnswer) (x : _) →
       start-reads.Learnt κs a o x →
       Began
-      (startOf (a .1 .1 .1 .0) (a .1 .1 .1 .1 .0) (a .1 .1 .1 .1 .1 .0) (a .1 .1 .1 .1 .1 .1 .0) (a .1 .1 .1 .1 .1 .1 .1 .0)
+      (startOf (a .1 .1 .1 .0) (a .1 .1 .1 .1 .0) (a .1 .1 .1 .1 .1 .0) (a .1 .1 .1 .1 .1 .1 .0) (a .1 .1 .1 .1 .1 .1 .1 .0) (a .1 .1 .1 .1 .1 .1 .1 .1 .0)
       (watchedOf (nodesOf (now (a .1 .0))) (a .1 .1 .0)))
       o (watchedOf (nodesOf (now (x .1 .0))) (a .1 .1 .0)) (now (x .0))
   startRun :
       (κs : _) (a : _) (o : CallAnswer) (x : _) →
       Start-learnt κs a o x →
       Began
-      (startOf (a .1 .1 .0) (a .1 .1 .1 .0) (a .1 .1 .1 .1 .0) (a .1 .1 .1 .1 .1 .0) (a .1 .1 .1 .1 .1 .1 .0) (now (a .1 .0)))
+      (startOf (a .1 .1 .0) (a .1 .1 .1 .0) (a .1 .1 .1 .1 .0) (a .1 .1 .1 .1 .1 .0) (a .1 .1 .1 .1 .1 .1 .0) (a .1 .1 .1 .1 .1 .1 .1 .0) (now (a .1 .0)))
       o (now (x .1 .0)) (now (x .0))
 
 -- The head's words, its queue's bytes and its history's bytes before the calls; the calls; what they said; the three after them. Each call is on what the

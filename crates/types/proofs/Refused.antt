@@ -6,13 +6,13 @@ use mathlib.Core.List.{List, [], _∷_}
 use Rattle.types.specs.Pick.{readBy}
 use Rattle.types.specs.Refusals.{refusalNumber}
 use Rattle.types.specs.declared.refusals.Refusal.{Refusal}
-use Rattle.types.specs.declared.refusals.Refusal.the-variants.{NodeNumber, QueueCapacity, WatchedNodes, UnknownNumber, TimeLimit, BeforeHeard, NotWatched, ReadyToOperate, BufferTooShort, ProfileLimit, NoSingleKind}
+use Rattle.types.specs.declared.refusals.Refusal.the-variants.{NodeNumber, QueueCapacity, WatchedNodes, UnknownNumber, TimeLimit, BeforeHeard, NotWatched, ReadyToOperate, BufferTooShort, ProfileLimit, NoSingleKind, ThresholdLimit}
 
 -- the refusal that has a number; where none has it, any
 abbrev named : ℕ → Refusal
 named n =
     readBy refusalNumber (λ (r : Refusal). r) NodeNumber
-    (NodeNumber ∷ QueueCapacity ∷ WatchedNodes ∷ UnknownNumber ∷ TimeLimit ∷ BeforeHeard ∷ NotWatched ∷ ReadyToOperate ∷ BufferTooShort ∷ ProfileLimit ∷ NoSingleKind ∷ []) n
+    (NodeNumber ∷ QueueCapacity ∷ WatchedNodes ∷ UnknownNumber ∷ TimeLimit ∷ BeforeHeard ∷ NotWatched ∷ ReadyToOperate ∷ BufferTooShort ∷ ProfileLimit ∷ NoSingleKind ∷ ThresholdLimit ∷ []) n
 
 back : (r : Refusal) → named (refusalNumber r) ≡ r
 back NodeNumber = refl
@@ -26,6 +26,7 @@ back ReadyToOperate = refl
 back BufferTooShort = refl
 back ProfileLimit = refl
 back NoSingleKind = refl
+back ThresholdLimit = refl
 
 pub number-fixes : {r s : Refusal} → refusalNumber r ≡ refusalNumber s → r ≡ s
 number-fixes {r = r} {s = s} e = sym (back r) ∙ ap named e ∙ back s

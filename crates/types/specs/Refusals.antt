@@ -2,7 +2,7 @@
 -- Assumes nothing.
 use Prim.Native.Nat.{ℕ}
 use Rattle.types.specs.declared.refusals.Refusal.{Refusal}
-use Rattle.types.specs.declared.refusals.Refusal.the-variants.{NodeNumber, QueueCapacity, WatchedNodes, UnknownNumber, TimeLimit, BeforeHeard, NotWatched, ReadyToOperate, BufferTooShort, ProfileLimit, NoSingleKind}
+use Rattle.types.specs.declared.refusals.Refusal.the-variants.{NodeNumber, QueueCapacity, WatchedNodes, UnknownNumber, TimeLimit, BeforeHeard, NotWatched, ReadyToOperate, BufferTooShort, ProfileLimit, NoSingleKind, ThresholdLimit}
 
 abbrev pub refusalNumber : Refusal → ℕ
 refusalNumber NodeNumber = 1
@@ -16,3 +16,4 @@ refusalNumber ReadyToOperate = 8
 refusalNumber BufferTooShort = 11
 refusalNumber ProfileLimit = 12
 refusalNumber NoSingleKind = 13
+refusalNumber ThresholdLimit = 14

@@ -25,6 +25,8 @@ pub enum Refusal {
     ProfileLimit,
     // A code names no single error kind.
     NoSingleKind,
+    // A threshold is above 1,000,000.
+    ThresholdLimit,
 }
 
 impl Refusal {
@@ -43,6 +45,7 @@ impl Refusal {
             Refusal::BufferTooShort => 11,
             Refusal::ProfileLimit => 12,
             Refusal::NoSingleKind => 13,
+            Refusal::ThresholdLimit => 14,
         }
     }
 }

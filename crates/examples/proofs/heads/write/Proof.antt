@@ -18,6 +18,7 @@ write-spec =
     (λ c κs. search needs)
     (λ c κs. search needs)
     (λ c κs. search needs)
+    (λ c κs. search needs)
     (λ c.
     let v2 = c .before .before in
     let v4 = v2 .before .before in
@@ -26,4 +27,5 @@ write-spec =
     let v10 = v8 .before .before in
     let v12 = v10 .before .before in
     let v13 = v12 .before in
-    rw (c .set-capacity .ensures, v2 .set-od .ensures, v4 .set-thresholds .ensures, v6 .set-identity .ensures, v8 .set-nmt .ensures, v10 .clear .ensures, v12 .new .ensures, v13 .machine .ensures)))
+    let v14 = v13 .before in
+    rw (c .set-capacity .ensures, v2 .set-od .ensures, v4 .set-thresholds .ensures, v6 .set-identity .ensures, v8 .set-nmt .ensures, v10 .clear .ensures, v12 .new .ensures, v13 .same-for-all .ensures, v14 .machine .ensures)))

@@ -6,7 +6,7 @@ use Rattle.replay.proofs.words.match_at.Statement.{statement}
 use Rattle.replay.proofs.words.match_at.Tie as tie
 
 abbrev Inv-loop : tie.InvT-loop
-Inv-loop pattern line from given₀ first at₀ place₀ i₀ i-end given at place i = place ≤ i + 10
+Inv-loop pattern line from given₀ first at₀ place₀ i₀ i-end given at place i = place ≤ i + 17
 
 abbrev μ-loop : tie.MeasureT-loop
 μ-loop pattern line from given₀ first at₀ place₀ i₀ i-end given at place i = i-end - i

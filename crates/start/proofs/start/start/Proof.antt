@@ -19,17 +19,17 @@ start-spec =
     let b = m .before .before in
     let w = b .before .before in
     let a = w .before .before .args in
-    omega (arith, below (now (a .head)) (now (a .nodes)) (a .count) (a .node) (a .feature-flags) (a .basic-ethernet-timeout) (a .queue-capacity) (a .od) (w .well-formed .result) (w .well-formed .ensures) (b .begin .result) _ (b .begin .ensures) (m .enum-told .given .1)))
+    omega (arith, below (now (a .head)) (now (a .nodes)) (a .count) (a .node) (a .feature-flags) (a .basic-ethernet-timeout) (a .queue-capacity) (a .od) (a .thresholds) (w .well-formed .result) (w .well-formed .ensures) (b .begin .result) _ (b .begin .ensures) (m .enum-told .given .1)))
     (λ c.
     let m = c .before .before in
     let b = m .before .before in
     let w = b .before .before in
     let a = w .before .before .args in
-    begun (now (a .head)) (now (a .nodes)) (a .count) (a .node) (a .feature-flags) (a .basic-ethernet-timeout) (a .queue-capacity) (a .od) (w .well-formed .result) (w .well-formed .ensures) (b .begin .result) _ (b .begin .ensures) (m .enum-told .given .1) _ (c .unheard .ensures))
+    begun (now (a .head)) (now (a .nodes)) (a .count) (a .node) (a .feature-flags) (a .basic-ethernet-timeout) (a .queue-capacity) (a .od) (a .thresholds) (w .well-formed .result) (w .well-formed .ensures) (b .begin .result) _ (b .begin .ensures) (m .enum-told .given .1) _ (c .unheard .ensures))
     (λ c. search needs)
     (λ c.
     let m = c .before in
     let b = m .before .before in
     let w = b .before .before in
     let a = w .before .before .args in
-    declined (now (a .head)) (now (a .nodes)) (a .count) (a .node) (a .feature-flags) (a .basic-ethernet-timeout) (a .queue-capacity) (a .od) (w .well-formed .result) (w .well-formed .ensures) (b .begin .result) _ (b .begin .ensures) _ (m .answer .given .1)))
+    declined (now (a .head)) (now (a .nodes)) (a .count) (a .node) (a .feature-flags) (a .basic-ethernet-timeout) (a .queue-capacity) (a .od) (a .thresholds) (w .well-formed .result) (w .well-formed .ensures) (b .begin .result) _ (b .begin .ensures) _ (m .answer .given .1)))
