@@ -6,3 +6,4 @@ pub mod Lists
 pub mod Modes
 pub mod DeskLaws
 pub mod RoundTrips
+pub mod Unmoved

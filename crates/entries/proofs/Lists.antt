@@ -1,24 +1,25 @@
 -- What waits in the queue and what the history lists, after each call.
 -- Assumes nothing.
 use Prim.Native.Nat.{ℕ, suc, _+_, _-_, _*_, _/_, _%_, _≤_, _<_, min}
-use mathlib.Core.Path.{_≡_, refl, ap, _∙_}
+use mathlib.Core.Path.{_≡_, refl, sym, ap, _∙_}
 use mathlib.Core.Logic.{⊎-elim}
 use mathlib.Core.Bool.{true, false}
 use mathlib.Core.List.{List, [], _∷_, _++_}
 use native.Mathlib.Omega.{arith}
 use lib.Dec.{ltb}
-use lib.ListN.{length, take, drop, take-append-drop, length-append, length-drop}
-use lib.Seq.{length-take-le}
+use lib.ListN.{length, getD, take, drop, take-append-drop, length-append, length-drop}
+use lib.Seq.{length-take-le, getD-append-add, getD-drop}
 use borrow.Author.Tests.{lt-ltb, le-ltb}
 use Rattle.types.specs.Pick.{pick}
 use Rattle.entries.specs.declared.status_response.ErrorEntry.{ErrorEntry}
+use Rattle.entries.specs.declared.status_response.FoundEntry.the-variants.{Entry}
 use Rattle.entries.specs.declared.emergency_queue.EmergencyQueue.{EmergencyQueue}
 use Rattle.entries.specs.declared.error_history.ErrorHistory.{ErrorHistory}
 use Rattle.entries.specs.Entry.{FitsBytes}
 use Rattle.entries.specs.Ring.{entryAt, listed, ring, nth, rest}
 use Rattle.entries.specs.Queue.{queue, lengthOf, capacityOf, waiting, pushed, pushedBytes, handedOut}
 use Rattle.entries.specs.History.{errorHistory, history, placeBefore, joined, joinedBytes, entriesIn, takenOf, loaded, loadedBytes}
-use Rattle.entries.proofs.Rings.{lt-or-ge, listed-same, listed-take, listed-long, place-before, place-other, put-long, ring-rest, ring-behind, ring-before}
+use Rattle.entries.proofs.Rings.{lt-or-ge, listed-same, listed-take, listed-long, nth-in, place-before, byte-other, put-long, ring-rest, ring-behind, ring-before}
 
 -- the two cases of a test
 decide : {G : Type 0} (i j : ℕ) → (i < j → ltb i j ≡ true → G) → (j ≤ i → ltb i j ≡ false → G) → G
@@ -106,14 +107,21 @@ module _ (m : List ℕ) (h : ErrorHistory) (e : ErrorEntry) (long : length m ≡
       rw (more, listed-take (λ j. entryAt m ((h .newest + j) % 254)) 253 (min (h .count) 254), less)
       (ring-before 254 m long (h .newest) e f n (omega arith))
 
-  -- no other moves, and the memory keeps its length
-  pub others-stay : (i : ℕ) → (i ≡ placeBefore h → ⊥) → entryAt (joinedBytes m h e) i ≡ entryAt m i
+  -- no other moves: each byte of the other 253 places is as it was, the byte k being one of the place k / 20; and the memory keeps its length
+  pub others-stay : (k : ℕ) → (k / 20 ≡ placeBefore h → ⊥) → getD (joinedBytes m h e) k 0 ≡ getD m k 0
   unfolding joinedBytes
-  others-stay = place-other 254 m long (placeBefore h) (omega arith) e
+  others-stay = byte-other 254 m long (placeBefore h) (omega arith) e
 
   pub joined-long : length (joinedBytes m h e) ≡ length m
   unfolding joinedBytes
   joined-long = put-long 254 m long (placeBefore h) (omega arith) e
+
+-- the place before the newest has, in a full history, the oldest entry: the 254th of the list
+pub oldest-there : (m : List ℕ) (h : ErrorHistory) → 254 ≤ h .count → nth (history m h) 253 ≡ Entry (entryAt m (placeBefore h))
+unfolding history
+oldest-there m h full =
+    let all : min (h .count) 254 ≡ 254 = omega arith in
+    rw all (nth-in (λ j. entryAt m ((h .newest + j) % 254)) 254 253 (omega arith))
 
 -- a new history is empty
 pub history-new : (m : List ℕ) → history m (errorHistory 0 0) ≡ []
@@ -145,3 +153,15 @@ module _ (m s : List ℕ) where
   loaded-long long =
       let most : takenOf s ≤ 254 = omega arith in
       simp (length-append, length-drop, taken-long) (omega arith)
+
+  -- the places behind them are as they were
+  pub behind-loaded : (k : ℕ) → takenOf s ≤ k / 20 → getD (loadedBytes m s) k 0 ≡ getD m k 0
+  unfolding loadedBytes
+  behind-loaded k h =
+      let n : ℕ = 20 * takenOf s in
+      let far : n + (k - n) ≡ k = omega arith in
+      let sum : length (take n s) + (k - n) ≡ k = omega (arith, taken-long) in
+      ap (λ (i : ℕ). getD (take n s ++ drop n m) i 0) (sym sum)
+      ∙ getD-append-add (take n s) (drop n m) (k - n) 0
+      ∙ getD-drop n m (k - n) 0
+      ∙ ap (λ (i : ℕ). getD m i 0) far

@@ -1,7 +1,7 @@
 -- The law of a ring of entries, for any number of places: an entry put behind the last or before the first joins there, and
 -- no other changes.
 -- Assumes nothing.
-use Prim.Native.Nat.{ℕ, zero, suc, _+_, _-_, _*_, _%_, _≤_, _<_, min, suc-le-suc}
+use Prim.Native.Nat.{ℕ, zero, suc, _+_, _-_, _*_, _/_, _%_, _≤_, _<_, min, suc-le-suc}
 use mathlib.Core.Path.{_≡_, refl, sym, ap, _∙_}
 use mathlib.Core.Logic.{_⊎_, inl, inr, ⊎-elim}
 use mathlib.Core.Bool.{Bool, true, false}
@@ -9,14 +9,14 @@ use mathlib.Core.List.{List, [], _∷_, _++_}
 use native.Mathlib.Nat.{add-zero, mod-lt, mod-mod, mod-add-mod, mod-eq-of-lt, mod-eq-sub-mod, add-mod-right}
 use native.Mathlib.Omega.{arith}
 use lib.Dec.{ltb}
-use lib.ListN.{length, take, drop, take-append-drop, length-drop}
+use lib.ListN.{length, getD, take, drop, take-append-drop, length-drop}
 use lib.Seq.{drop-drop, drop-append-le, length-take-le}
 use borrow.Author.Tests.{ltb-true, ltb-false}
 use Rattle.entries.specs.declared.status_response.ErrorEntry.{ErrorEntry}
 use Rattle.entries.specs.declared.status_response.FoundEntry.the-variants.{Entry, None}
 use Rattle.entries.specs.Entry.{FitsBytes, entryBytes, entryIn}
 use Rattle.entries.specs.Ring.{written, entryAt, putAt, listed, ring, nth}
-use Rattle.entries.proofs.Written.{kept-behind, written-long}
+use Rattle.entries.proofs.Written.{kept-behind, written-long, byte-before, byte-behind}
 use Rattle.entries.proofs.Entries.{entry-long, entry-same, read-back}
 
 pub lt-or-ge : (i j : ℕ) → (i < j) ⊎ (j ≤ i)
@@ -102,6 +102,15 @@ module _ (p : ℕ) (m : List ℕ) (long : length m ≡ 20 * p) (i : ℕ) (below 
         where
           apart : i ≤ j → 20 * i + length (entryBytes e) + (20 * j - (20 * i + length (entryBytes e))) ≡ 20 * j
           apart r = ⊎-elim (λ s. omega (arith, entry-long e)) (λ s. absurd (ne (omega arith))) (lt-or-ge i j)
+
+  -- byte by byte: the byte k is one of the place k / 20
+  pub byte-other : (k : ℕ) → (k / 20 ≡ i → ⊥) → getD (putAt m i e) k 0 ≡ getD m k 0
+  byte-other k ne =
+      ⊎-elim (byte-before m (20 * i) (entryBytes e) fits k)
+      (λ h.
+      ⊎-elim (λ g. absurd (ne (omega arith))) (λ g. byte-behind m (20 * i) (entryBytes e) fits k (omega (arith, entry-long e)))
+      (lt-or-ge k (20 * i + 20)))
+      (lt-or-ge k (20 * i))
 
 -- two places of a ring, fewer than p steps apart, are not the same
 apart : (p i j k : ℕ) → j < k → k < p → (i + j) % p ≡ (i + k) % p → ⊥

@@ -6,8 +6,8 @@ use mathlib.Core.List.{List, [], _∷_, _++_, append-nil, append-assoc}
 use native.Mathlib.Nat.{add-zero}
 use native.Mathlib.Numerals.{add-one}
 use native.Mathlib.Omega.{arith}
-use lib.ListN.{length, set, take, drop, length-append, length-drop, take-append-drop, drop-of-length-le}
-use lib.Seq.{drop-drop, take-all, take-suc-set, drop-set-lt, length-take-le, append-snoc, take-at, drop-at}
+use lib.ListN.{length, getD, set, take, drop, length-append, length-drop, take-append-drop, drop-of-length-le}
+use lib.Seq.{drop-drop, take-all, take-suc-set, drop-set-lt, length-take-le, append-snoc, take-at, drop-at, getD-take, getD-drop}
 use borrow.Rule.Slice.PartMut.{putMid}
 use Rattle.entries.specs.Ring.{written}
 
@@ -33,6 +33,19 @@ module _ (s : List ℕ) (at : ℕ) (b : List ℕ) (fits : at + length b ≤ leng
   pub written-long : length (written s at b) ≡ length s
   unfolding written
   written-long = simp (length-append, length-drop, head-long) (omega arith)
+
+  -- byte by byte
+  pub byte-before : (k : ℕ) → k < at → getD (written s at b) k 0 ≡ getD s k 0
+  byte-before k h =
+      sym (getD-take at (written s at b) k 0 h) ∙ ap (λ (l : List ℕ). getD l k 0) kept-before ∙ getD-take at s k 0 h
+
+  pub byte-behind : (k : ℕ) → at + length b ≤ k → getD (written s at b) k 0 ≡ getD s k 0
+  byte-behind k h =
+      let n : ℕ = k - (at + length b) in
+      let far : at + length b + n ≡ k = omega arith in
+      let d : (l : List ℕ) → getD (drop (at + length b) l) n 0 ≡ getD l k 0 =
+      λ l. getD-drop (at + length b) l n 0 ∙ ap (λ (i : ℕ). getD l i 0) far in
+      sym (d (written s at b)) ∙ ap (λ (l : List ℕ). getD l n 0) kept-behind ∙ d s
 
 -- what stands at a place, written there again
 pub written-same : (s : List ℕ) (at : ℕ) (b : List ℕ) → b ≡ take (length b) (drop at s) → written s at b ≡ s

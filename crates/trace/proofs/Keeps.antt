@@ -38,11 +38,11 @@ pub record Kept (lost₀ : ℕ) (ts : Thresholds) (p : Plain) (z : Tally) : Type
       lost₀ + length (z .dropped) ≤ top →
       p .od .«counter_3» ≡ lost₀ + length (z .dropped)
 
-either-first : (a b : Bool) → either a b ≡ false → a ≡ false
+pub either-first : (a b : Bool) → either a b ≡ false → a ≡ false
 either-first true b h = h
 either-first false b h = refl
 
-either-second : (a b : Bool) → either a b ≡ false → b ≡ false
+pub either-second : (a b : Bool) → either a b ≡ false → b ≡ false
 either-second true true h = h
 either-second true false h = refl
 either-second false b h = h

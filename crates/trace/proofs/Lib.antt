@@ -9,4 +9,5 @@ pub mod Follows
 pub mod Driven
 pub mod Corollaries
 pub mod Declines
+pub mod Unmoved
 pub mod Worked

@@ -212,7 +212,7 @@ heartbeats-walk p t ws =
     picked (WalkOf p) (checksHeartbeats (p .nmt .«current_state»)) (beat-all-walk p (lateOnes t ws)) (idle p)
 
 -- there is room, or the queue is full
-room-or-full : (n c : ℕ) → ltb n c ≡ not (leb c n)
+pub room-or-full : (n c : ℕ) → ltb n c ≡ not (leb c n)
 room-or-full n c = by (leb c n) refl
   where
     by : (b : Bool) → leb c n ≡ b → ltb n c ≡ not b

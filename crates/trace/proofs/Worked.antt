@@ -18,6 +18,7 @@ use Rattle.counters.specs.Marks.{E, N, crosses, errorMarks}
 use Rattle.counters.specs.declared.counters.CounterKind.the-variants.{LossOfSoc, HeartbeatTimeout}
 use Rattle.entries.specs.Entry.{crossingEntry}
 use Rattle.entries.specs.Ring.{nth}
+use Rattle.entries.specs.History.{errorHistory, joined}
 use Rattle.entries.specs.declared.status_response.ErrorEntry.{ErrorEntry}
 use Rattle.head.specs.declared.state.ObjectValue.the-variants.{Unsigned32}
 use Rattle.watched.specs.Watched.{wellFormed, watchedNode}
@@ -27,6 +28,7 @@ use Rattle.node.specs.Tick.{beat, beatAll, queued, deal, dealAll, socCheck, tic
 use Rattle.node.specs.Run.{stepAll}
 use Rattle.trace.specs.Tally.{Told, told, Tally, tally}
 use Rattle.trace.specs.Claim.{tallied}
+use Rattle.trace.specs.Unmoved.{writtenAtAll}
 
 -- SwReset, and two SoCs: in PreOperational2
 abbrev booted : List Call → List Call
@@ -124,6 +126,14 @@ dropped-full :
     × (after 0 4294967295 [] .od .«counter_3» ≡ 0)
 unfolding after countedOf stepAll tally fresh readEvent readCsEvent processed resetBy applied enter rowOf isReset statesEntered Dll.csProcessed armed wellFormed tickTaken beatAll socCheck dealAll deal queued handled Counters.countedError afterError replaced errorMarks crosses
 dropped-full = (refl, refl, refl, refl)
+
+-- the kept one writes the place before the newest, in a full history the oldest's; the dropped one none
+written-at :
+    (writtenAtAll (fresh (begun 1 0)) (errorHistory 0 0) (twoLosses []) ≡ 253 ∷ [])
+    × (writtenAtAll (fresh (begun 1 0)) (errorHistory 253 254) (twoLosses []) ≡ 252 ∷ [])
+    × (writtenAtAll (fresh (begun 0 0)) (errorHistory 0 0) (twoLosses []) ≡ [])
+unfolding writtenAtAll fresh readEvent readCsEvent processed resetBy applied enter rowOf isReset statesEntered Dll.csProcessed armed wellFormed tickTaken beatAll socCheck dealAll deal queued handled Counters.countedError afterError replaced errorMarks crosses joined
+written-at = (refl, refl, refl)
 
 -- a node with timeout 50, heard at 100, is late at two ticks: a crossing of its kind, without an entry
 abbrev lateTwice : List Call

@@ -3,3 +3,4 @@ pub mod Visits
 pub mod Claim
 pub mod Driven
 pub mod Declined
+pub mod Unmoved
