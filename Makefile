@@ -34,7 +34,7 @@ test:
 	@cmp docs/TRANSITIONS.md crates/chart/stdout
 	@echo "Checking the script that replay is run on."
 	@compare/joined.sh --check
-	@echo "Proving every crate, trying the must-fail edits, running the programs (about 22 minutes on two cores)."
+	@echo "Proving every crate, trying the must-fail edits, running the programs (half an hour and more on two cores)."
 	@rt ci
 
 compare:
