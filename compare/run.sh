@@ -25,7 +25,7 @@ hold() {
 
 mode=${1:-}
 "$here/build.sh"
-for driver in readings transitions counting entry_bytes; do
+for driver in readings transitions positions counting entry_bytes; do
     printed="$root/target/compare/$driver.out"
     "$programs/$driver" >"$printed"
     hold "$driver" "$printed" "crates/$driver/stdout"

@@ -11,6 +11,9 @@
 //! the last index of each block of 0x1000, since the areas of the dictionary begin and end there; a
 //! range is printed as the first and the last marker that it restored.
 
+// Each driver uses a part of it.
+#![allow(dead_code)]
+
 use powerlink_rs::frame::DllError;
 use powerlink_rs::hal::ObjectDictionaryStorage;
 use powerlink_rs::nmt::NmtStateMachine;

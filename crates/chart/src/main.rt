@@ -1,13 +1,21 @@
-// The page docs/TRANSITIONS.md, written from the NMT table: a chart for each state, and a picture of the moves.
+// The page docs/TRANSITIONS.md, written from the NMT table: a chart for each state, and a picture of the moves; and a picture of the positions that a head can reach.
+use head::parts::nmt_of;
+use head::parts::set_nmt;
 use libc::STDOUT_FILENO;
+use nmt::cn_state_machine::CnNmtStateMachine;
 use nmt::state_machine::EnteredStates;
 use nmt::state_machine::is_reset;
 use nmt::state_machine::reset_sequence;
 use nmt::table::chosen;
 use nmt::table::state_at;
+use node::calls::nmt_event;
+use node::calls::withdraw;
+use reach::Line;
 use types::nmt::events::NmtEvent;
 use types::nmt::events::NmtEventRead;
+use types::nmt::flags::FeatureFlags;
 use types::nmt::states::NmtState;
+use types::types::NodeId;
 
 fn say(text: &[u8]) {
     io::write_all(STDOUT_FILENO, text);
@@ -289,6 +297,127 @@ fn print_moves() {
     }
 }
 
+// An NMT machine in the position of a line.
+fn machine_at(line: Line) -> CnNmtStateMachine {
+    let state = line.0;
+    CnNmtStateMachine {
+        current_state: state,
+        node_id: NodeId(1),
+        feature_flags: FeatureFlags(0),
+        basic_ethernet_timeout: 0,
+        ready_to_operate_enabled: line.1,
+        app_ready: line.2,
+    }
+}
+
+// The machine after a step of a head: the event k, or a withdrawal for 19, which is asked of the node itself.
+fn after_step(machine: CnNmtStateMachine, k: usize) -> CnNmtStateMachine {
+    let mut head = [0u32; 58];
+    set_nmt(&mut head, machine);
+    if k < 19 {
+        nmt_event(&mut head, k as u64);
+    } else {
+        withdraw(&mut head);
+    }
+    nmt_of(&head)
+}
+
+fn is_same_position(a: CnNmtStateMachine, b: CnNmtStateMachine) -> bool {
+    let before = a.current_state;
+    let after = b.current_state;
+    is_same(before, after)
+        & (a.ready_to_operate_enabled == b.ready_to_operate_enabled)
+        & (a.app_ready == b.app_ready)
+}
+
+fn say_if(on: bool, text: &[u8]) {
+    if on {
+        say(text);
+    }
+}
+
+// A position's key in the picture.
+fn say_key(machine: CnNmtStateMachine) {
+    let state = machine.current_state;
+    say_state(state);
+    say_if(machine.ready_to_operate_enabled, b"_E");
+    say_if(machine.app_ready, b"_R");
+}
+
+// A position of the picture, with its least number of steps.
+fn say_position(line: Line) {
+    let state = line.0;
+    say(b"    state \"");
+    io::print_decimal(STDOUT_FILENO, line.3 as u64);
+    say(b": ");
+    say_state(state);
+    say_if(line.1, b", enabled");
+    say_if(line.2, b", ready");
+    say(b"\" as ");
+    say_key(machine_at(line));
+    say(b"\n");
+}
+
+fn print_positions() {
+    let lines = reach::lines();
+    for k in 0..14usize {
+        say_position(lines[k]);
+    }
+}
+
+fn say_step_name(k: usize) {
+    if k < 19 {
+        return say_event(event_at(k));
+    }
+    say(b"withdrawal");
+}
+
+// An arrow of the picture, where a step leads to another position.
+fn say_step(machine: CnNmtStateMachine, k: usize) {
+    let after = after_step(machine, k);
+    if is_same_position(machine, after) {
+        return;
+    }
+    say(b"    ");
+    say_key(machine);
+    say(b" --> ");
+    say_key(after);
+    say(b" : ");
+    say_step_name(k);
+    say(b"\n");
+}
+
+// The resets have an arrow of their own.
+fn is_drawn(k: usize) -> bool {
+    if k < 19 {
+        return !is_reset(event_at(k));
+    }
+    true
+}
+
+fn print_steps() {
+    let lines = reach::lines();
+    for k in 0..280usize {
+        if is_drawn(k % 20) {
+            say_step(machine_at(lines[k / 20]), k % 20);
+        }
+    }
+}
+
+fn print_reachable() {
+    say(
+        b"\n## Every position\n\nA position is an NMT state, whether enabled and whether ready. A fresh head reaches these by NMT events and withdrawals, and no others; before each stands the least number of steps to it. That is proved ([the lines](../crates/reach/src/lib.rt), which the program `positions` prints).\n",
+    );
+    say(
+        b"A step is one withdrawal or one whole event: the states that a reset passes are no positions. At ReadyToOperate a withdrawal is refused (number 8), which is no step. The arrows are what the node's own calls do; a step that leads to where it starts has none.\n",
+    );
+    say(b"\n```mermaid\nstateDiagram-v2\n    state \"every position\" as Every\n");
+    print_positions();
+    say(b"    [*] --> GsInitialising_R\n    Every --> NotActive : a reset event\n");
+    print_steps();
+    say(b"```\n");
+}
+
 // What the page says before its picture and charts.
 fn print_head() {
     say(
@@ -317,8 +446,10 @@ fn main() {
         b"\n## The moves\n\n```mermaid\nstateDiagram-v2\n    state \"every state\" as Every\n    Every --> NotActive : a reset event (NMT_CT1)\n",
     );
     print_moves();
+    say(b"```\n");
+    print_reachable();
     say(
-        b"```\n\n## Resets\n\nA reset event enters these states one after the other, the last by NMT_CT1.\n\n| event | states |\n|---|---|\n",
+        b"\n## Resets\n\nA reset event enters these states one after the other, the last by NMT_CT1.\n\n| event | states |\n|---|---|\n",
     );
     print_resets();
     print_states();

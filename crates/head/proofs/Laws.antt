@@ -7,7 +7,8 @@ use mathlib.Core.Bool.{Bool, true, false}
 use mathlib.Core.List.{List}
 use native.Mathlib.Omega.{arith}
 use lib.ListN.{length, set}
-use Rattle.types.specs.States.{stateNumber, readState}
+use borrow.Author.Tests.{eqb-true}
+use Rattle.types.specs.States.{stateNumber, readState, sameState}
 use Rattle.types.specs.declared.nmt.states.NmtState.{NmtState}
 use Rattle.types.proofs.Cases.{everywhere, NmtStates}
 use Rattle.nmt.specs.Nmt as Nmt
@@ -45,6 +46,10 @@ yes-one false = refl
 pub state-back : (s : NmtState) → stateOf (stateNumber s) ≡ s
 unfolding readState
 state-back = everywhere NmtStates (λ (s : NmtState). stateOf (stateNumber s)) (λ (s : NmtState). s) refl refl
+
+-- a test of two states that holds
+pub state-is : (s t : NmtState) → sameState s t ≡ true → s ≡ t
+state-is s t h = sym (state-back s) ∙ ap stateOf (eqb-true (stateNumber s) (stateNumber t) h) ∙ state-back t
 
 pub dll-back : (s : DllCsState) → dllState (csStateNumber s) ≡ s
 dll-back NonCyclic = refl

@@ -10,6 +10,7 @@ use Rattle.types.specs.States.{sameState}
 use Rattle.types.specs.declared.nmt.states.NmtState.the-variants.{NmtPreOperational2, NmtReadyToOperate}
 use Rattle.types.specs.declared.nmt.events.NmtEvent.{NmtEvent}
 use Rattle.types.proofs.Cases.{Enum, NmtStates, NmtEvents}
+use Rattle.types.proofs.Tests.{both-first, both-second}
 use Rattle.nmt.specs.Resets.{isReset, statesEntered}
 use Rattle.nmt.specs.Nmt.{with, enter, rowOf, applied, resetBy, processed}
 use Rattle.nmt.specs.declared.cn_state_machine.CnNmtStateMachine.{CnNmtStateMachine}
@@ -42,15 +43,6 @@ always E f = both (f (E .first)) (all f (E .items))
 
 abbrev all-flags : (Bool → Bool) → Bool
 all-flags f = both (f true) (f false)
-
-pub both-first : (a b : Bool) → both a b ≡ true → a ≡ true
-both-first true b h = refl
-both-first false b h = h
-
-pub both-second : (a b : Bool) → both a b ≡ true → b ≡ true
-both-second true b h = h
-both-second false true h = refl
-both-second false false h = h
 
 all-at : {A : Type 0} (f : A → Bool) (xs : List A) (k : ℕ) (d : A) → f d ≡ true → all f xs ≡ true → f (getD xs k d) ≡ true
 all-at f [] k d h e = h

@@ -10,6 +10,7 @@ use borrow.Author.Tests.{leb-true, leb-false, lt-ltb, le-ltb}
 use Rattle.types.specs.Pick.{pick, both}
 use Rattle.types.specs.declared.nmt.events.NmtEvent.the-variants.{Error, Timeout}
 use Rattle.types.specs.declared.frame.error.types.DllError.{DllError}
+use Rattle.types.proofs.Tests.{both-first, both-second}
 use Rattle.nmt.specs.Nmt as Nmt
 use Rattle.nmt.specs.declared.cn_state_machine.CnNmtStateMachine.{CnNmtStateMachine}
 use Rattle.dll.specs.Dll.{goes, cyclic, isCyclic, csProcessed}
@@ -33,7 +34,7 @@ use Rattle.node.specs.Tick.{Ticked, goesOn, behind, checksHeartbeats, acts, one
 use Rattle.heartbeats.specs.Parts.{isQuiet}
 use Rattle.heartbeats.proofs.PartLaws.{handled-quiet, quiet-crosses}
 use Rattle.trace.specs.Tally.{Told, toldMade}
-use Rattle.trace.proofs.Modes.{mode, mode-event, both-first, both-second}
+use Rattle.trace.proofs.Modes.{mode, mode-event}
 use Rattle.counters.proofs.Balance.{count-append}
 use Rattle.counters.proofs.Counts.{Counting, counting-none, counting-then, counting-handled}
 

@@ -16,30 +16,22 @@ use Rattle.types.specs.declared.nmt.events.NmtEvent.the-variants.{Error, Timeou
 use Rattle.types.specs.declared.nmt.events.NmtEventRead.the-variants as event
 use Rattle.types.proofs.Cases.{NmtEvents}
 use Rattle.types.proofs.RoundTrips.{events-faithful}
+use Rattle.types.proofs.Tests.{both-first, both-second, either-cases}
 use Rattle.nmt.specs.Resets.{isReset, statesEntered}
 use Rattle.nmt.specs.Nmt.{enter, rowOf, applied, resetBy, processed}
 use Rattle.nmt.specs.declared.cn_state_machine.CnNmtStateMachine.{CnNmtStateMachine}
-use Rattle.head.specs.Words as words
-use Rattle.head.proofs.Laws.{state-back}
+use Rattle.head.proofs.Laws.{state-is}
 use Rattle.node.specs.Plain.{Plain, Call, nmtEvent, dllEvent, error, cycleComplete, withdraw, heard, handOut, load, arm, tick, Start, taken, EventMade}
 use Rattle.node.specs.Steps.{answers, declines, withNmt, withdrawn, fresh}
 use Rattle.node.specs.Run.{step, stepAll}
 use Rattle.trace.specs.Tally.{Told, told, asks}
 use Rattle.trace.specs.Visits.{nmtState, Stays, InVisit, Asking, Asked, visiting, Enabled, at-once, later, isWithdraw, isTaken, NoneWithdrawn, resets, NoReset, afterReset, ReadyWord, since}
-use Rattle.trace.proofs.Modes.{implies, always, every, always-at, every-at, follows, both-first, both-second}
+use Rattle.trace.proofs.Modes.{implies, always, every, always-at, every-at, follows}
 use Rattle.trace.proofs.Ticking.{InTick}
 use Rattle.trace.proofs.Moves.{Moves, moves}
 
--- a test of two states that holds
-pub state-is : (s t : NmtState) → sameState s t ≡ true → s ≡ t
-state-is s t h = sym (state-back s) ∙ ap words.stateOf (eqb-true (stateNumber s) (stateNumber t) h) ∙ state-back t
-
 pub is-state : (s t : NmtState) → s ≡ t → sameState s t ≡ true
 is-state s t e = eq-eqb (stateNumber s) (stateNumber t) (ap stateNumber e)
-
-either-cases : (a b : Bool) → either a b ≡ true → (a ≡ true) ⊎ (b ≡ true)
-either-cases true b h = inl refl
-either-cases false b h = inr h
 
 -- one call more, at the end of a list
 pub again : (xs ys zs : List Call) → (xs ++ ys) ++ zs ≡ xs ++ (ys ++ zs)

@@ -7,3 +7,4 @@ pub mod Reported
 pub mod RoundTrips
 pub mod Searching
 pub mod Times
+pub mod Tests
