@@ -6,11 +6,12 @@
 #               calls, some minutes (needs cargo and the Rust source; 'make compare SEEDS="1 2" CALLS=200000' makes fewer);
 #               before that it drives the lent forms of nodes and counter beside the other ones (compare/lent.sh, which needs the kit alone)
 # make compare-oracle  replays and generates call scripts on the original Rust (the same needs)
+# make shift    proves the program of shift totals, runs it on stored and generated inputs and measures it on a gigabyte of entries
 # make wireshark  compares the bytes of entries, and the numbers of NMT states and commands, with what Wireshark reads (needs tshark)
 
 SHELL := bash
 .SHELLFLAGS := -euo pipefail -c
-.PHONY: run incident replay test compare compare-oracle wireshark
+.PHONY: run incident replay shift test compare compare-oracle wireshark
 
 replay:
 	@mkdir -p target
@@ -22,6 +23,12 @@ run: replay
 
 incident: replay
 	@scripts/incident.sh
+
+shift:
+	@mkdir -p target
+	@rt check shiftreport 2>&1 | tee target/shift.log | grep '^rt: shiftreport' || { cat target/shift.log; exit 1; }
+	@tests/shiftreport.py
+	@tests/shiftreport.py --speed
 
 test:
 	@echo "Checking the layout of every .rt and .antt file."
