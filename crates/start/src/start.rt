@@ -82,10 +82,11 @@ pub fn begin(
             if 32 < queue_capacity {
                 return CallAnswer::Refused(Refusal::QueueCapacity);
             }
+            let limited = thresholds.is_within_limit();
             if !formed {
                 return CallAnswer::Refused(Refusal::WatchedNodes);
             }
-            if !thresholds.is_within_limit() {
+            if !limited {
                 return CallAnswer::Refused(Refusal::ThresholdLimit);
             }
             let capacity = queue_capacity as u8;

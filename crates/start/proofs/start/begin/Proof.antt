@@ -19,17 +19,17 @@ begin-spec =
     let t = k .before .before in
     let a = t .before .args in
     begins-no-room (now (a .head)) (a .node) (a .feature-flags) (a .basic-ethernet-timeout) (a .queue-capacity) (a .od) (a .thresholds) (a .formed) (t .try-from .result) (t .try-from .ensures) _ (k .node-id .given .1) (c .if1 .taken))
+    (λ c κs. search needs)
     (λ c.
-    let u = c .before in
+    let u = c .before .before in
     let k = u .before .before in
     let t = k .before .before in
     let a = t .before .args in
     begins-unformed (now (a .head)) (a .node) (a .feature-flags) (a .basic-ethernet-timeout) (a .queue-capacity) (a .od) (a .thresholds) (a .formed) (t .try-from .result) (t .try-from .ensures) _ (k .node-id .given .1) (u .if1 .left) (not-true (a .formed) (c .if2 .taken)))
-    (λ c κs. search needs)
     (λ c.
-    let l = c .before in
-    let e = l .before in
-    let u = e .before in
+    let e = c .before in
+    let l = e .before in
+    let u = l .before in
     let k = u .before .before in
     let t = k .before .before in
     let a = t .before .args in
@@ -38,9 +38,9 @@ begin-spec =
     (λ c κs. search needs)
     (λ c.
     let m = c .before .before in
-    let l = m .before in
-    let e = l .before in
-    let u = e .before in
+    let e = m .before in
+    let l = e .before in
+    let u = l .before in
     let k = u .before .before in
     let t = k .before .before in
     let a = t .before .args in
