@@ -1,7 +1,7 @@
 // The error history, object 0x1003: a ring of 254 places in lent memory, read newest first from the newest's place on.
 ghost use mathlib.Core.Path.{_≡_};
 ghost use Rattle.entries.specs.Ring.{nth};
-ghost use Rattle.entries.specs.History.{errorHistory, history, joined, joinedBytes, loaded, loadedBytes};
+ghost use Rattle.entries.specs.History.{errorHistory, history, placeBefore, joined, joinedBytes, loaded, loadedBytes};
 use crate::place;
 use crate::status_response::ErrorEntry;
 use crate::status_response::FoundEntry;
@@ -44,7 +44,14 @@ impl ErrorHistory {
     }
 }
 
-// An entry joins at the place before the newest, and no other moves: in a full history that is the oldest's place.
+// The place before the newest: in a full history the oldest's.
+fn place_before(history: ErrorHistory) -> usize
+    ensures { λ r. ⌜ r ≡ placeBefore history ⌝ }
+{
+    (history.newest as usize + 253) % 254
+}
+
+// An entry joins at the place before the newest, and no other moves.
 pub fn write_error_to_history(
     memory: &mut [u8; 5080],
     history: ErrorHistory,
@@ -52,7 +59,7 @@ pub fn write_error_to_history(
 ) -> ErrorHistory
     ensures { λ r. ⌜ (r ≡ joined history) × (now (memory .exit) ≡ joinedBytes (now (memory .entry)) history entry) ⌝ }
 {
-    let newest = (history.newest as usize + 253) % 254;
+    let newest = place_before(history);
     place::put_entry(memory, 20 * newest, entry);
     let count = place::at_most(history.count as usize + 1, 254);
     ErrorHistory {

@@ -15,4 +15,4 @@ has-room-spec =
     (tie.spec
     (λ c. let a = c .before .args in sym (lt-leb (a .place + 20) (a .length) (omega arith)))
     (λ c. search needs)
-    (λ c. let a = c .before .args in room-left (a .length) (a .place) (c .if1 .left)))
+    (λ c. search (room-left, arith)))

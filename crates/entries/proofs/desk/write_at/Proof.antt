@@ -1,7 +1,8 @@
 -- `entries::desk::write_at` meets its contract: the tests in their order, then one write.
 -- Assumes nothing.
-use Prim.Native.Nat.{_+_}
+use Prim.Native.Nat.{_+_, _≤_}
 use mathlib.Core.Path.{sym, _∙_}
+use native.Mathlib.Omega.{arith}
 use borrow.Author.Needs.{needs}
 use borrow.Author.Tests.{leb-true, not-true, not-false}
 use lib.ListN.{length}
@@ -28,8 +29,9 @@ write-at-spec =
     (λ c κs.
     let p = c .before .before .before .before in
     let a = p .before .before .args in
-    leb-true (a .place + 20) (length (now (a .buffer)))
-    (sym (p .has-room .ensures) ∙ not-false _ (c .before .before .if1 .left)))
+    let room : a .place + 20 ≤ length (now (a .buffer)) =
+    leb-true (a .place + 20) (length (now (a .buffer))) (sym (p .has-room .ensures) ∙ not-false _ (c .before .before .if1 .left)) in
+    omega (arith, room))
     (λ c. search needs)
     (λ c.
     let d = c .before .before .before .before in

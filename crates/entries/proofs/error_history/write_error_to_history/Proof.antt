@@ -10,8 +10,7 @@ unfolding joined joinedBytes
 write-error-to-history-spec =
     tie.close
     (tie.spec
-    (λ c. search needs)
-    (λ c. search needs)
+    (λ c κs. search needs)
     (λ c. search needs)
     (λ c κs. search needs)
     (λ c. search needs)
@@ -19,4 +18,6 @@ write-error-to-history-spec =
     (λ c κs. search needs)
     (λ c. search needs)
     (λ c. search needs)
-    (λ c. (rw (c .at-most .ensures), c .before .before .put-entry .ensures)))
+    (λ c.
+    let place = c .before .before .before .before .place-before .ensures in
+    (rw (c .at-most .ensures, place), rw (← place) (c .before .before .put-entry .ensures))))
