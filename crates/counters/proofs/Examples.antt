@@ -1,10 +1,10 @@
 -- The worked examples of document 01 that concern the counters alone, computed.
 -- Assumes nothing.
 use mathlib.Core.Path.{_≡_, refl}
-use mathlib.Core.Bool.{true}
+use mathlib.Core.Bool.{true, false}
 use mathlib.Core.List.{List, [], _∷_}
 use Rattle.types.specs.declared.frame.error.types.DllError.the-variants as error
-use Rattle.counters.specs.Counters.{counter, counterOf, replaced, newCounters, sameForAll, incremented, crossedAnswer, unsignalled, afterError, countedError, handled, lowered, completed}
+use Rattle.counters.specs.Counters.{counter, counterOf, replaced, newCounters, sameForAll, incremented, decremented, crossedAnswer, unsignalled, afterError, countedError, handled, lowered, completed}
 use Rattle.counters.specs.Marks.{CounterCall, handleError, onCycleComplete, after}
 use Rattle.counters.specs.declared.counters.CounterKind.the-variants.{LossOfSoc}
 use Rattle.counters.specs.declared.counters.CnErrorCounters.{CnErrorCounters}
@@ -43,3 +43,11 @@ near-the-top = refl
 at-the-top : afterError (counterOf 4294967295 8 15 4294967295) ≡ record { counter = counterOf 4294967295 0 15 4294967295; reached = true }
 unfolding afterError
 at-the-top = refl
+
+-- document 02, No. 6: "A threshold of 0 never crosses, .. and its level stops at the 32-bit top": a level of 4294967290 after an error, and then after a cycle
+at-zero : afterError (counterOf 0 4294967290 0 0) ≡ record { counter = counterOf 1 4294967295 0 0; reached = false }
+unfolding afterError
+at-zero = refl
+
+at-zero-drained : decremented (counterOf 1 4294967295 0 0) ≡ counterOf 1 4294967294 0 0
+at-zero-drained = refl
