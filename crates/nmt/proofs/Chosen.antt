@@ -1,5 +1,5 @@
--- The table: the entry that it gives of every state, event, enabled and ready (its rows are computed in the proof of `row`), and that reading the entry is
--- what the rule makes of the event.
+-- What `chosen` needs of the rows that the rule asks for: the entry in the row of a pair is the rule's, of every state, event, enabled and ready, and reading
+-- the entry is what the rule makes of the event. That the table has these rows is the contract of `row`, whose proof computes them.
 -- Assumes nothing.
 use Prim.Native.Nat.{ℕ, zero, suc, _+_, _*_, _/_, _%_, _≤_, _<_, zero-le}
 use native.Mathlib.Omega.{arith}
@@ -146,7 +146,7 @@ unfolding rowAt
 of-pair s e =
     rw (state-part (place s) (eventNumber e) (place-small s) (event-small e), event-part (place s) (eventNumber e) (place-small s) (event-small e), place-back s, number-back e)
 
--- in the row of a pair stands what the rule asks for, of every state, event, enabled and ready
+-- in the row that the rule asks for of a pair stands the entry that it asks for
 pub each-entry : (s : NmtState) (e : NmtEvent) (on up : Bool) → unpacked (entryIn (rowAt (pair s e)) on up) ≡ ruled s e on up
 unfolding ruledRow
 each-entry s e on up =
