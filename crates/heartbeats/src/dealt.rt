@@ -1,6 +1,7 @@
 // What the handling of an error in a tick leaves: a signal with the error register, and, where an action is asked for, the event
 // that ends the tick.
 ghost use mathlib.Core.Path.{_≡_};
+ghost use Rattle.types.specs.declared.nmt.events.NmtEvent.the-variants.{Timeout};
 ghost use Rattle.node.specs.Tick.{acts, signalled, eventInTick};
 ghost use Rattle.heartbeats.specs.PartWords.{signalWords, eventWords};
 ghost use Rattle.heartbeats.specs.PartsIn.{Turns, FinishesIn};
@@ -50,8 +51,9 @@ pub fn signal(head: &mut Head)
     set_changed(head);
 }
 
-// An NMT event in a tick; the check goes off.
-pub fn event_in_tick(head: &mut Head, event: NmtEvent)
+// An NMT event in a tick; the check goes off. Not public, since it forgets nothing where the event is a reset: a tick has Error (`finish`) and
+// Timeout.
+fn event_in_tick(head: &mut Head, event: NmtEvent)
     ensures { λ _. ⌜ Turns (now (head .entry)) (λ p. eventInTick p event) (now (head .exit)) (eventWords (now (head .entry)) event) ⌝ }
 {
     whole(head);
@@ -59,6 +61,13 @@ pub fn event_in_tick(head: &mut Head, event: NmtEvent)
     let machine = answer.machine;
     set_nmt(head, machine);
     check_off(head);
+}
+
+// The basic timeout is over.
+pub fn timeout_in_tick(head: &mut Head)
+    ensures { λ _. ⌜ Turns (now (head .entry)) (λ p. eventInTick p Timeout) (now (head .exit)) (eventWords (now (head .entry)) Timeout) ⌝ }
+{
+    event_in_tick(head, NmtEvent::Timeout);
 }
 
 // What a part of the tick leaves beside the words: what was logged, and whether the tick has ended.

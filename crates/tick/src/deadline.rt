@@ -25,7 +25,7 @@ use head::parts::whole;
 use head::state::Deadline;
 use head::state::Head;
 use heartbeats::dealt::Dealt;
-use heartbeats::dealt::event_in_tick;
+use heartbeats::dealt::timeout_in_tick;
 use node::timing::cycle;
 use node::timing::last_soc;
 use node::timing::limit;
@@ -33,7 +33,6 @@ use node::timing::time_since;
 use node::timing::tolerance_us;
 use types::frame::cs_state_machine::DllCsEvent;
 use types::frame::error::types::DllErrors;
-use types::nmt::events::NmtEvent;
 use types::nmt::states::NmtState;
 
 fn with_deadline(head: &mut Head, deadline: Deadline)
@@ -168,7 +167,7 @@ fn time_out(head: &mut Head)
     ensures { λ _. ⌜ Turns (now (head .entry)) timesOut (now (head .exit)) (timeoutWords (now (head .entry))) ⌝ }
 {
     if 0 < timeout_of(head) {
-        event_in_tick(head, NmtEvent::Timeout);
+        timeout_in_tick(head);
         return;
     }
 }

@@ -16,7 +16,7 @@ time-out-spec =
     let v2 = c .before .before in
     let v3 = v2 .before in
     let v5 = v3 .before .before in
-    out (now (v5 .args .head)) 0 (v3 .timeout-of .result) (v3 .timeout-of .ensures) (v2 .if1 .taken) _ (c .event-in-tick .ensures))
+    out (now (v5 .args .head)) 0 (v3 .timeout-of .result) (v3 .timeout-of .ensures) (v2 .if1 .taken) _ (c .timeout-in-tick .ensures))
     (λ c.
     let v1 = c .before in
     let v3 = v1 .before .before in
