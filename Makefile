@@ -11,7 +11,7 @@
 
 SHELL := bash
 .SHELLFLAGS := -euo pipefail -c
-.PHONY: run incident replay shift test compare compare-oracle wireshark
+.PHONY: run incident replay shiftreport shift test compare compare-oracle wireshark
 
 replay:
 	@mkdir -p target
@@ -24,10 +24,12 @@ run: replay
 incident: replay
 	@scripts/incident.sh
 
-shift:
+shiftreport:
 	@mkdir -p target
 	@rt check shiftreport 2>&1 | tee target/shift.log | grep '^rt: shiftreport' || { cat target/shift.log; exit 1; }
 	@tests/shiftreport.py
+
+shift: shiftreport
 	@tests/shiftreport.py --speed
 
 test:
@@ -41,6 +43,8 @@ test:
 	@cmp docs/TRANSITIONS.md crates/chart/stdout
 	@echo "Checking the script that replay is run on."
 	@compare/joined.sh --check
+	@echo "Proving the program of shift totals and running it on stored and generated inputs ('rt ci' runs it on document 02's example alone)."
+	@$(MAKE) --no-print-directory shiftreport
 	@echo "Proving every crate, trying the must-fail edits, running the programs (half an hour and more on two cores)."
 	@rt ci
 

@@ -5,7 +5,7 @@ tests/shiftreport.py            the stored cases, then 400 generated inputs besi
 tests/shiftreport.py SEED N     other generated inputs
 tests/shiftreport.py --speed    a gigabyte of entries through a pipe, beside wc -c: times and the largest memory
 A stored case is tests/shift/NAME.txt, what has to be printed for the input that NAME makes below."""
-import os, random, struct, subprocess, sys, time
+import fcntl, os, random, struct, subprocess, sys, termios, time
 from collections import Counter
 
 TOP = os.path.dirname(os.path.dirname(os.path.abspath(__file__)))
@@ -46,8 +46,14 @@ CASES = {
 }
 
 
-def run(data, parts=None):
-    """What is printed for data, which arrives whole or in parts of the sizes given."""
+def taken(child):
+    """Waits until the pipe is empty: what was written has been read, by itself."""
+    while child.poll() is None and struct.unpack("i", fcntl.ioctl(child.stdin, termios.FIONREAD, bytes(4)))[0]:
+        time.sleep(0)
+
+
+def run(data, parts=None, each_read=False):
+    """What is printed for data, which arrives whole or in parts of the sizes given; if each is to be read by itself, the next one waits."""
     if parts is None:
         done = subprocess.run([PROGRAM], input=data, capture_output=True)
         return done.stdout, done.stderr
@@ -56,6 +62,7 @@ def run(data, parts=None):
     for size in parts:
         child.stdin.write(data[at : at + size])
         at += size
+        taken(child) if each_read else None
     child.stdin.write(data[at:]) if at < len(data) else None
     out, err = child.communicate()
     return out, err
@@ -72,9 +79,9 @@ def stored():
         expect(name, run(data), (wanted, b""))
         expect(name + ", second implementation", page(data), wanted)
     for name in ("example", "nineteen"):
-        expect(name + ", byte by byte", run(CASES[name], [1] * len(CASES[name])), (page(CASES[name]), b""))
+        expect(name + ", byte by byte", run(CASES[name], [1] * len(CASES[name]), True), (page(CASES[name]), b""))
     some = CASES["mixture"][:20013]
-    expect("mixture, byte by byte", run(some, [1] * len(some)), (page(some), b""))
+    expect("mixture, byte by byte", run(some, [1] * len(some), True), (page(some), b""))
 
 
 def generated(seed, number):
