@@ -69,7 +69,7 @@ fn event_at(i: usize) -> NmtEvent {
     }
 }
 
-// The number of the transition NMT_CT in DS 301's chart; 0 where the chart has none.
+// The number of the transition, NMT_CT, by the comments of the original; 0 where they name none.
 fn transition(state: NmtState, event: NmtEvent) -> u64 {
     match event {
         NmtEvent::SoAReceived => 2,
@@ -103,7 +103,7 @@ fn transition(state: NmtState, event: NmtEvent) -> u64 {
 
 fn say_transition(number: u64) {
     if number == 0 {
-        return say(b"none in DS 301");
+        return say(b"no NMT_CT");
     }
     say(b"NMT_CT");
     io::print_decimal(STDOUT_FILENO, number);
