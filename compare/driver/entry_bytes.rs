@@ -1,6 +1,7 @@
-//! Prints what the original Rust reads in patterns of 20 bytes and writes of that, and the error
-//! history while entries join it, one form a line. Every answer is computed by calling the original
-//! code.
+//! Prints what the original Rust reads in patterns of 20 bytes and writes of that, what it reads at
+//! places of a longer one, and the error history while entries join it, one form a line. Every answer
+//! is computed by calling the original code; what stands from a place on, and that nothing does past
+//! the end, is taken from document 02.
 
 mod generator;
 
@@ -22,20 +23,46 @@ fn main() {
         print_entry(&pattern);
     }
     print_entry(&[0x00; 19]);
+    let buffer: [u8; 60] = std::array::from_fn(|i| (4 * i + 3) as u8);
+    for place in [0, 1, 40, 41, 60, 61, u64::MAX] {
+        print_read(&buffer, place);
+    }
     print_histories();
 }
 
 fn print_entry(pattern: &[u8]) {
-    let entry = match ErrorEntry::deserialize(pattern) {
-        Ok(entry) => entry,
-        Err(PowerlinkError::BufferTooShort) => return println!("(entry short)"),
+    match read(pattern) {
+        Some(entry) => println!(
+            "(entry {} {} (bytes {}))",
+            digits(pattern),
+            fields(&entry),
+            digits(&entry.serialize()),
+        ),
+        None => println!("(entry short)"),
+    }
+}
+
+fn print_read(buffer: &[u8], place: u64) {
+    let part = usize::try_from(place).ok().and_then(|place| buffer.get(place..));
+    match read(part.unwrap_or(&[])) {
+        Some(entry) => println!("(read {place} {})", fields(&entry)),
+        None => println!("(read {place} short)"),
+    }
+}
+
+fn read(bytes: &[u8]) -> Option<ErrorEntry> {
+    match ErrorEntry::deserialize(bytes) {
+        Ok(entry) => Some(entry),
+        Err(PowerlinkError::BufferTooShort) => None,
         Err(other) => panic!("every pattern of 20 bytes is an entry: {other:?}"),
-    };
+    }
+}
+
+fn fields(entry: &ErrorEntry) -> String {
     let entry_type = entry.entry_type;
-    println!(
-        "(entry {} (status {}) (queue {}) (mode {}) (profile {}) (code 0x{:04X}) (seconds {}) \
-         (nanoseconds {}) (information {}) (bytes {}))",
-        digits(pattern),
+    format!(
+        "(status {}) (queue {}) (mode {}) (profile {}) (code 0x{:04X}) (seconds {}) \
+         (nanoseconds {}) (information {})",
         entry_type.is_status_entry as u8,
         entry_type.send_to_queue as u8,
         entry_type.mode as u8,
@@ -44,8 +71,7 @@ fn print_entry(pattern: &[u8]) {
         entry.timestamp.seconds,
         entry.timestamp.nanoseconds,
         entry.additional_information,
-        digits(&entry.serialize()),
-    );
+    )
 }
 
 /// Two hexadecimal digits for each byte.

@@ -1,5 +1,5 @@
-// What is read in patterns of 20 bytes and written of that, and the error history while entries join it, one form a line. The
-// stored output was printed by the Rust (compare/), so a run shows that both agree.
+// What is read in patterns of 20 bytes and written of that, what is read at places of a longer one, and the error history while entries join it, one
+// form a line. The stored output was printed by the Rust (compare/), so a run shows that both agree.
 ghost use mathlib.Core.Path.{_≡_};
 ghost use Rattle.entry_bytes.specs.Patterns.{drawn, last, filled, numbered};
 use entries::desk;
@@ -121,6 +121,29 @@ fn print_patterns() {
     }
 }
 
+fn print_read(buffer: &[u8], place: u64) {
+    say(b"(read ");
+    say_number(place);
+    match desk::read_at(buffer, place) {
+        ErrorEntryRead::Taken(entry) => say_entry(entry),
+        ErrorEntryRead::Refused(_) => say(b" short"),
+    }
+    say(b")\n");
+}
+
+// At the front, behind it, at the last place that has 20 bytes, behind that, at the end and past it.
+fn print_reads() {
+    let buffer =
+        b"\x03\x07\x0B\x0F\x13\x17\x1B\x1F\x23\x27\x2B\x2F\x33\x37\x3B\x3F\x43\x47\x4B\x4F\x53\x57\x5B\x5F\x63\x67\x6B\x6F\x73\x77\x7B\x7F\x83\x87\x8B\x8F\x93\x97\x9B\x9F\xA3\xA7\xAB\xAF\xB3\xB7\xBB\xBF\xC3\xC7\xCB\xCF\xD3\xD7\xDB\xDF\xE3\xE7\xEB\xEF";
+    print_read(buffer, 0);
+    print_read(buffer, 1);
+    print_read(buffer, 40);
+    print_read(buffer, 41);
+    print_read(buffer, 60);
+    print_read(buffer, 61);
+    print_read(buffer, 18446744073709551615);
+}
+
 // An entry like that of a crossing, with a number in its code and its seconds.
 fn numbered_entry(number: u16) -> ErrorEntry
     ensures { λ r. ⌜ r ≡ numbered number ⌝ }
@@ -181,6 +204,7 @@ fn main() {
     print_entry(&[0xFF; 20]);
     print_patterns();
     print_entry(&[0x00; 19]);
+    print_reads();
     let mut memory = [0u8; 5080];
     print_histories(&mut memory);
 }
