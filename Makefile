@@ -6,12 +6,13 @@
 #               calls, some minutes (needs cargo and the Rust source; 'make compare SEEDS="1 2" CALLS=200000' makes fewer);
 #               before that it drives the lent forms of nodes and counter beside the other ones (compare/lent.sh, which needs the kit alone)
 # make compare-oracle  replays and generates call scripts on the original Rust (the same needs)
+# make watch    plays the example of docs/WATCH.md and holds that page to what replay prints
 # make shift    proves the program of shift totals, runs it on stored and generated inputs and measures it on a gigabyte of entries
 # make wireshark  compares the bytes of entries, and the numbers of NMT states and commands, with what Wireshark reads (needs tshark)
 
 SHELL := bash
 .SHELLFLAGS := -euo pipefail -c
-.PHONY: run incident replay shiftreport shift test compare compare-oracle wireshark
+.PHONY: run incident replay watch shift test compare compare-oracle wireshark
 
 replay:
 	@mkdir -p target
@@ -24,12 +25,13 @@ run: replay
 incident: replay
 	@scripts/incident.sh
 
-shiftreport:
+watch: replay
+	@tests/watch.py
+
+shift:
 	@mkdir -p target
 	@rt check shiftreport 2>&1 | tee target/shift.log | grep '^rt: shiftreport' || { cat target/shift.log; exit 1; }
 	@tests/shiftreport.py
-
-shift: shiftreport
 	@tests/shiftreport.py --speed
 
 test:
@@ -43,10 +45,11 @@ test:
 	@cmp docs/TRANSITIONS.md crates/chart/stdout
 	@echo "Checking the script that replay is run on."
 	@compare/joined.sh --check
-	@echo "Proving the program of shift totals and running it on stored and generated inputs ('rt ci' runs it on document 02's example alone)."
-	@$(MAKE) --no-print-directory shiftreport
-	@echo "Proving every crate, trying the must-fail edits, running the programs (half an hour and more on two cores)."
+	@echo "Proving every crate, trying the must-fail edits, running the programs (half an hour and more on two cores); behind it, silent where all is"
+	@echo "as expected, the program of shift totals on stored and generated inputs, and the page on the watch beside what replay prints."
 	@rt ci
+	@tests/shiftreport.py >target/shift.log || { cat target/shift.log; exit 1; }
+	@tests/watch.py --quiet
 
 compare:
 	@compare/lent.sh

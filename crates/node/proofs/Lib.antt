@@ -1,5 +1,6 @@
 pub mod Laws
 pub mod Refining
+pub mod Watch
 pub mod Hearing
 pub mod Loading
 pub mod Links

@@ -1,6 +1,7 @@
 pub mod Plain
 pub mod Steps
 pub mod Tick
+pub mod Watch
 pub mod Run
 pub mod Examples
 pub mod Refines

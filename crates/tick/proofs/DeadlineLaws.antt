@@ -4,8 +4,6 @@ use Prim.Native.Nat.{ℕ, _+_, _-_, _*_, _/_, _<_, _≤_, min}
 use mathlib.Core.Path.{_≡_, refl, sym, ap, ap₂, _∙_}
 use mathlib.Core.Bool.{Bool, true, false}
 use mathlib.Core.List.{List, [], append-nil}
-use native.Mathlib.Nat.{div-mul-le-self, add-mul}
-use native.Mathlib.Omega.{arith}
 use lib.Dec.{ltb}
 use borrow.Author.Tests.{lt-ltb, le-ltb, le-leb, lt-leb}
 use Rattle.types.specs.Pick.{pick, both}
@@ -30,10 +28,6 @@ use Rattle.node.specs.Tick.{Ticked, goesOn, behind, checkOff, withDeadline, nex
 use Rattle.node.specs.Refines.{plain, Becomes, rings, joinsAll}
 use Rattle.heartbeats.specs.Parts.{PartLeft, Ticks, isQuiet}
 use Rattle.tick.specs.Ticks.{Loses}
-
--- the cycles that have begun end at most one cycle after now
-pub ahead : (e k : ℕ) → (e / k + 1) * k ≤ e + k
-ahead e k = omega (arith, div-mul-le-self e k, add-mul (e / k) 1 k)
 
 abbrev latest : ℕ
 latest = 4611686018427387903

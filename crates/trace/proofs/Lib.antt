@@ -10,4 +10,5 @@ pub mod Driven
 pub mod Corollaries
 pub mod Declines
 pub mod Unmoved
+pub mod Watch
 pub mod Worked

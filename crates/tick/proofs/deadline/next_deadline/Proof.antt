@@ -9,7 +9,8 @@ use Rattle.head.specs.declared.state.Dictionary.{Dictionary}
 use Rattle.head.specs.declared.state.SocWatch.{SocWatch}
 use Prim.Native.Nat.{_/_, min}
 use Rattle.node.specs.Steps.{cycleOf, toleranceOf}
-use Rattle.tick.proofs.DeadlineLaws.{ahead, next-is}
+use Rattle.node.proofs.Watch.{ahead}
+use Rattle.tick.proofs.DeadlineLaws.{next-is}
 use Rattle.head.specs.Words.{headOf}
 use Rattle.tick.proofs.deadline.next_deadline.Statement.{statement}
 use Rattle.tick.proofs.deadline.next_deadline.Tie as tie
