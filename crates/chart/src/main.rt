@@ -1,4 +1,11 @@
 // The page docs/TRANSITIONS.md, written from the NMT table: a chart for each state, and a picture of the moves; and a picture of the positions that a head can reach.
+ghost use mathlib.Core.Path.{_≡_};
+ghost use mathlib.Core.Bool.{true, false, not};
+ghost use lib.Dec.{ltb};
+ghost use Rattle.types.specs.Pick.{pick};
+ghost use Rattle.types.specs.States.{sameState};
+ghost use Rattle.nmt.specs.Resets.{isReset};
+ghost use Rattle.nmt.specs.Table.{eventAt, standing, ruled};
 use head::parts::nmt_of;
 use head::parts::set_nmt;
 use libc::STDOUT_FILENO;
@@ -62,7 +69,9 @@ fn say_event(event: NmtEvent) {
     }
 }
 
-fn event_at(i: usize) -> NmtEvent {
+fn event_at(i: usize) -> NmtEvent
+    ensures { λ r. ⌜ r ≡ eventAt i ⌝ }
+{
     match NmtEvent::try_from(i as u64) {
         NmtEventRead::Taken(event) => event,
         NmtEventRead::Refused(_) => NmtEvent::StartNode,
@@ -109,7 +118,9 @@ fn say_transition(number: u64) {
     io::print_decimal(STDOUT_FILENO, number);
 }
 
-fn is_same(a: NmtState, b: NmtState) -> bool {
+fn is_same(a: NmtState, b: NmtState) -> bool
+    ensures { λ r. ⌜ r ≡ sameState a b ⌝ }
+{
     a.as_u8() == b.as_u8()
 }
 
@@ -164,7 +175,9 @@ fn say_row(state: NmtState, event: NmtEvent) {
 }
 
 // Whether the pair has no row.
-fn is_unexpected(state: NmtState, event: NmtEvent) -> bool {
+fn is_unexpected(state: NmtState, event: NmtEvent) -> bool
+    ensures { λ r. ⌜ r ≡ ruled state event false false .unexpected ⌝ }
+{
     let entry = chosen(state, event, false, false);
     entry.unexpected
 }
@@ -298,11 +311,13 @@ fn print_moves() {
 }
 
 // An NMT machine in the position of a line.
-fn machine_at(line: Line) -> CnNmtStateMachine {
+fn machine_at(line: Line) -> CnNmtStateMachine
+    ensures { λ r. ⌜ r ≡ standing (line .0) (line .1) (line .2) ⌝ }
+{
     let state = line.0;
     CnNmtStateMachine {
         current_state: state,
-        node_id: NodeId(1),
+        node_id: NodeId(0),
         feature_flags: FeatureFlags(0),
         basic_ethernet_timeout: 0,
         ready_to_operate_enabled: line.1,
@@ -388,7 +403,9 @@ fn say_step(machine: CnNmtStateMachine, k: usize) {
 }
 
 // The resets have an arrow of their own.
-fn is_drawn(k: usize) -> bool {
+fn is_drawn(k: usize) -> bool
+    ensures { λ r. ⌜ r ≡ pick (ltb k 19) (not (isReset (eventAt k))) true ⌝ }
+{
     if k < 19 {
         return !is_reset(event_at(k));
     }

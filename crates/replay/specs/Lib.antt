@@ -1,3 +1,4 @@
 pub mod Values
 pub mod Words
 pub mod Forms
+pub mod Keys

@@ -2,6 +2,8 @@
 // run, the desk's buffer, the numbers of an answer.
 //
 // The check of a function costs by its statements, and most by what it lends.
+ghost use mathlib.Core.Path.{_≡_};
+ghost use Rattle.replay.specs.Keys.{keyAfter};
 use crate::calls::make;
 use crate::calls::start;
 use crate::desk::Desk;
@@ -33,7 +35,9 @@ pub struct Session {
 
 // A line that can't be: one that needs a head before the first accepted start (these have small letters for keys), and a watch
 // where there is no more room.
-pub(crate) fn key_after(session: Session, key: u8) -> u8 {
+pub(crate) fn key_after(session: Session, key: u8) -> u8
+    ensures { λ r. ⌜ r ≡ keyAfter session key ⌝ }
+{
     match key {
         b'a'..=b'z' => {
             if session.started {

@@ -36,35 +36,45 @@ use Rattle.trace.proofs.Ticking.{picked, tick-part}
 use Rattle.trace.proofs.Shares.{tried-by}
 use Rattle.trace.proofs.Driven.{demand-3}
 
--- AFTER EACH: of a list that was driven, what its first calls left, and the claim of them
-pub record Until (s : Start) (ws q m : List ℕ) (cs : List Call) : Type 0 where
+-- AFTER EACH. Of the calls cs and then ds, which were driven, said ss and left ws′, q′ and m′: what cs said and left; from there on ds was driven, to the same
+-- end, and what both said is ss.
+pub record Stopped (ws q m : List ℕ) (cs ds : List Call) (ss : List Said) (ws′ q′ m′ : List ℕ) : Type 0 where
   pub said : List Said
   pub words : List ℕ
   pub queue : List ℕ
   pub history : List ℕ
   pub driven : Driven ws q m cs said words queue history
-  pub claim : Claim s cs said (headOf words) queue history
+  pub later : List Said
+  pub on : Driven words queue history ds later ws′ q′ m′
+  pub all : ss ≡ said ++ later
 
-record Stopped (ws q m : List ℕ) (cs : List Call) : Type 0 where
-  said : List Said
-  words : List ℕ
-  queue : List ℕ
-  history : List ℕ
-  driven : Driven ws q m cs said words queue history
+-- and the claim of cs there
+pub record Until (s : Start) (ws q m : List ℕ) (cs ds : List Call) (ss : List Said) (ws′ q′ m′ : List ℕ) : Type 0 where
+  pub after : Stopped ws q m cs ds ss ws′ q′ m′
+  pub claim : Claim s cs (after .said) (headOf (after .words)) (after .queue) (after .history)
 
-stopped : {ws q m ws′ q′ m′ : List ℕ} {ss : List Said} (cs ds : List Call) → Driven ws q m (cs ++ ds) ss ws′ q′ m′ → Stopped ws q m cs
-stopped {ws = ws} {q = q} {m = m} [] ds d = record { said = []; words = ws; queue = q; history = m; driven = stop }
+stopped : {ws q m ws′ q′ m′ : List ℕ} {ss : List Said} (cs ds : List Call) → Driven ws q m (cs ++ ds) ss ws′ q′ m′ → Stopped ws q m cs ds ss ws′ q′ m′
+stopped {ws = ws} {q = q} {m = m} {ss = ss} [] ds d =
+    record { said = []; words = ws; queue = q; history = m; driven = stop; later = ss; on = d; all = refl }
 stopped (c ∷ cs) ds (next {s = s} r d) =
-    let k = stopped cs ds d in record { said = s ∷ k .said; words = k .words; queue = k .queue; history = k .history; driven = next r (k .driven) }
+    let k = stopped cs ds d in
+    record {
+      said = s ∷ k .said;
+      words = k .words;
+      queue = k .queue;
+      history = k .history;
+      driven = next r (k .driven);
+      later = k .later;
+      on = k .on;
+      all = ap (λ (l : List Said). s ∷ l) (k .all);
+    }
 
 pub demand-3-after-each :
     {s : Start} {l : List WatchedNode} {ws₀ ws q₀ m₀ q m : List ℕ} {ss : List Said} (cs ds : List Call) →
     Began s answer.Taken l ws₀ →
     Driven ws₀ q₀ m₀ (cs ++ ds) ss ws q m →
-    Until s ws₀ q₀ m₀ cs
-demand-3-after-each cs ds b d =
-    let k = stopped cs ds d in
-    record { said = k .said; words = k .words; queue = k .queue; history = k .history; driven = k .driven; claim = demand-3 b (k .driven) }
+    Until s ws₀ q₀ m₀ cs ds ss ws q m
+demand-3-after-each cs ds b d = let k = stopped cs ds d in record { after = k; claim = demand-3 b (k .driven) }
 
 -- the last SoC time: an arm that is taken has a time up to the latest, and no other call sets it
 abbrev last : Plain → ℕ
@@ -129,3 +139,11 @@ last-soc-in-time s cs = timed-all (fresh s) cs (lit≤ tt)
 
 pub last-soc-as-it-is : (s : Start) (cs : List Call) → lastSoc (stepAll (fresh s) cs) ≡ last (stepAll (fresh s) cs)
 last-soc-as-it-is s cs = let h = last-soc-in-time s cs in omega arith
+
+-- nor is it later in the real head
+pub real-last-soc-in-time :
+    {s : Start} {l : List WatchedNode} {ws₀ ws q₀ m₀ q m : List ℕ} {cs : List Call} {ss : List Said} →
+    Began s answer.Taken l ws₀ →
+    Driven ws₀ q₀ m₀ cs ss ws q m →
+    headOf ws .soc .«last_soc_reception_time_us» ≤ latest
+real-last-soc-in-time {s = s} {cs = cs} b d = subst (λ (p : Plain). last p ≤ latest) (sym (demand-3 b d .alike)) (last-soc-in-time s cs)

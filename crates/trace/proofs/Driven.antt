@@ -6,6 +6,9 @@ use mathlib.Core.List.{List, [], _∷_, _++_}
 use denote.Ref.{now}
 use Rattle.types.specs.Refusals.{refusalNumber}
 use Rattle.types.specs.declared.refusals.Refusal.{Refusal}
+use Rattle.types.specs.declared.nmt.flags.FeatureFlags.{FeatureFlags}
+use Rattle.counters.specs.declared.counters.Thresholds.{Thresholds}
+use Rattle.head.specs.declared.state.Dictionary.{Dictionary}
 use Rattle.head.specs.Words.{headOf}
 use Rattle.watched.specs.declared.nodes.WatchedNode.{WatchedNode}
 use Rattle.node.specs.declared.calls.CallAnswer.{CallAnswer}
@@ -15,11 +18,10 @@ use Rattle.node.specs.Steps.{started}
 use Rattle.node.specs.Run.{Said}
 use Rattle.node.specs.Refines.{plain, Refines, left}
 use Rattle.node.proofs.Links as Links
-use Rattle.start.specs.Started.{Begins}
+use Rattle.start.specs.Started.{Begins, StartedOn}
 use Rattle.start.proofs.start.start.Reads as start-reads
 use Rattle.start.proofs.Links.{start-begins, start-leaves}
 use Rattle.tick.proofs.Links.{process-tick-refines}
-use Rattle.lent.proofs.Links.{Start-learnt}
 use Rattle.trace.specs.Claim.{Claim}
 use Rattle.trace.specs.Driven.{Made, Began, Driven, stop, next}
 use Rattle.trace.proofs.Follows.{Follows, finished, declined-lent, followed}
@@ -35,12 +37,12 @@ refines {q = q} {m = m} (Made.error κs a o x e) = Links.handle-error-refines κ
 refines {q = q} {m = m} (Made.cycleComplete κs a o x e) = Links.on-cycle-complete-refines κs a o x e q m
 refines {q = q} {m = m} (Made.withdraw κs a o x e) = Links.withdraw-refines κs a o x e q m
 refines {ws = ws} {q = q} {m = m} (Made.heard κs a o x e) = Links.heard-refines κs a o x e (headOf ws) q m
-refines {ws = ws} {q = q} {m = m} (Made.heardRun κs a o x e) = e (headOf ws) q m
+refines {ws = ws} {q = q} {m = m} (Made.heardRun vs n t o vs′ e) = e (headOf ws) q m
 refines {m = m} (Made.handOut κs a o x e) = Links.hand-out-refines κs a o x e m
 refines {q = q} (Made.load κs a o x e) = Links.load-refines κs a o x e q
 refines {q = q} {m = m} (Made.arm κs a o x e) = Links.arm-refines κs a o x e q m
 refines (Made.tick κs a o x e) = process-tick-refines κs a o x e
-refines (Made.tickRun κs a o x e) = e .refines
+refines (Made.tickRun vs t o vs′ e) = e .refines
 
 pub follows :
     {ws ws′ q m q′ m′ : List ℕ} {cs : List Call} {ss : List Said} →
@@ -61,7 +63,7 @@ and-then (next f d) r = next f (and-then d r)
 -- what start's contract in src/ ensures is `Begins`
 pub begins : {s : Start} {o : CallAnswer} {l : List WatchedNode} {ws : List ℕ} → Began s o l ws → Begins s o (headOf ws) l
 begins (Began.start κs a o x e) = start-begins κs a o x e
-begins (Began.startRun κs a o x e) = e .begins
+begins (Began.startRun vs n f t c od ts o vs′ e) = e .begins
 
 -- from the words that start wrote, over any list of the calls
 pub demand-3 :
@@ -85,8 +87,10 @@ pub start-declined-words :
     (κs : _) (a : _) (r : Refusal) (x : _) → start-reads.Learnt κs a (answer.Refused r) x → (now (x .0) ≡ now (a .0)) × (now (x .1 .0) ≡ now (a .1 .0))
 start-declined-words κs a r x e = (e .on .words, start-leaves κs a (answer.Refused r) x e)
 
-pub start-declined-run : (κs : _) (a : _) (r : Refusal) (x : _) → Start-learnt κs a (answer.Refused r) x → now (x .0) ≡ now (a .0)
-start-declined-run κs a r x e = e .words
+pub start-declined-run :
+    {ws ws′ : List ℕ} {vs vs′ : List WatchedNode} {n t c : ℕ} {f : FeatureFlags} {od : Dictionary} {ts : Thresholds} {r : Refusal} →
+    StartedOn ws vs n f t c od ts (answer.Refused r) ws′ vs′ → ws′ ≡ ws
+start-declined-run e = e .words
 
 -- what was lent to start is left as the plain start leaves it
 pub start-lent : {s : Start} {o : CallAnswer} {l : List WatchedNode} {ws : List ℕ} → Began s o l ws → l ≡ started s .lent

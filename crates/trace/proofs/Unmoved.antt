@@ -207,13 +207,13 @@ brings long (Made.error κs a o x e) = brings-none (e .places .history) refl
 brings long (Made.cycleComplete κs a o x e) = brings-none (e .places .history) refl
 brings long (Made.withdraw κs a o x e) = brings-none (e .places .history) refl
 brings long (Made.heard κs a o x e) = brings-none refl refl
-brings long (Made.heardRun κs a o x e) = brings-none refl refl
+brings long (Made.heardRun vs n t o vs′ e) = brings-none refl refl
 brings long (Made.handOut κs a o x e) =
     brings-none (ap (λ (ws : List ℕ). headOf ws .history) (e .1) ∙ queue-apart (now (a .0)) (handedOut (now (a .1 .0)) _ .queue)) refl
 brings long (Made.load κs a o x e) = brings-loaded (a .1 .1 .1 .0) (now (a .1 .1 .1 .1 .0)) long (e .history) (e .memory)
 brings long (Made.arm κs a o x e) = brings-none (e .places .history) refl
 brings long (Made.tick κs a o x e) = brings-ticked long (e .on)
-brings long (Made.tickRun κs a o x e) = brings-ticked long e
+brings long (Made.tickRun vs t o vs′ e) = brings-ticked long e
 
 -- and a list of them, between any two moments
 brings-all :

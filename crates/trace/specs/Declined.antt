@@ -26,6 +26,10 @@ refusalsOf (load v h) = []
 refusalsOf (arm t) = 5 ∷ []
 refusalsOf (tick t ws) = 3 ∷ 5 ∷ 6 ∷ []
 
+-- and start, 14 by document 02, No. 6
+abbrev pub startRefusals : List ℕ
+startRefusals = 1 ∷ 2 ∷ 3 ∷ 14 ∷ []
+
 abbrev pub isAmong : ℕ → List ℕ → Bool
 isAmong n ns = someOf (eqb n) ns
 

@@ -1,9 +1,14 @@
 -- A start, one call of a real function, and a list of them: at each, what that function's contract in src/ ensures, and nothing else. The watched nodes are
--- lent in either form, as words or as a run of records, mixed as one likes. It stands in specs/ so that the contract of `drive` can cite it.
+-- lent in either form, as words or as a run of records, mixed as one likes. A function over a run has no generated reading (`Learnt`) of its contract, so that is
+-- written here: `HeardOn`, `TickedOn` and `StartedOn`, to which crates/lent/proofs/Links.antt holds the contracts of `lent`. It stands in specs/ so that the
+-- contract of `drive` can cite it.
 -- Assumes nothing.
 use Prim.Native.Nat.{ℕ}
 use mathlib.Core.List.{List, [], _∷_}
 use denote.Ref.{now}
+use Rattle.types.specs.declared.nmt.flags.FeatureFlags.{FeatureFlags}
+use Rattle.counters.specs.declared.counters.Thresholds.{Thresholds}
+use Rattle.head.specs.declared.state.Dictionary.{Dictionary}
 use Rattle.entries.specs.declared.status_response.FoundEntry.{FoundEntry}
 use Rattle.watched.specs.declared.nodes.WatchedNode.{WatchedNode}
 use Rattle.node.specs.declared.calls.CallAnswer.{CallAnswer}
@@ -13,11 +18,12 @@ use Rattle.node.specs.Run.{Said}
 use Rattle.node.specs.Refines.{historyUpdate}
 use Rattle.watched.specs.Nodes.{nodesOf}
 use Rattle.node.specs.InPlace.{said, nmtSaid, dllSaid, errorSaid}
+use Rattle.node.specs.Heard.{HeardOn}
 use Rattle.node.specs.declared.calls.NmtEventAnswer.{NmtEventAnswer}
 use Rattle.node.specs.declared.calls.DllEventAnswer.{DllEventAnswer}
 use Rattle.node.specs.declared.calls.ErrorAnswer.{ErrorAnswer}
 use Rattle.tick.specs.declared.tick.TickAnswer.{TickAnswer}
-use Rattle.tick.specs.TickIn.{tickSaid}
+use Rattle.tick.specs.TickIn.{tickSaid, TickedOn}
 use Rattle.node.proofs.calls.nmt_event.Reads as nmt-event-reads
 use Rattle.node.proofs.calls.dll_event.Reads as dll-event-reads
 use Rattle.node.proofs.calls.handle_error.Reads as handle-error-reads
@@ -28,9 +34,8 @@ use Rattle.node.proofs.calls.arm.Reads as arm-reads
 use Rattle.node.proofs.heard.heard.Reads as heard-reads
 use Rattle.tick.proofs.tick.process_tick.Reads as process-tick-reads
 use Rattle.node.proofs.load.load.Reads as load-reads
-use Rattle.start.specs.Started.{startOf}
+use Rattle.start.specs.Started.{startOf, StartedOn}
 use Rattle.start.proofs.start.start.Reads as start-reads
-use Rattle.lent.proofs.Links.{Heard-learnt, Start-learnt, Tick-learnt}
 
 abbrev pub says : Answer → List WatchedNode → Said
 says a l = record { answer = a; lent = l }
@@ -69,9 +74,9 @@ pub data Made : List ℕ → List ℕ → List ℕ → List ℕ → ℕ → Call
       (says (said o) (watchedOf (nodesOf (now (x .0))) (a .1 .0))) ws q m (now (x .0))
   -- on a run of records: the words of nodes are not lent
   heardRun :
-      {ws q m ns : List ℕ} {k : ℕ} (κs : _) (a : _) (o : CallAnswer) (x : _) →
-      Heard-learnt κs a o x →
-      Made ws q m ns k (Call.heard (a .1 .0) (a .1 .1 .0) (now (a .0))) (says (said o) (now (x .0))) ws q m ns
+      {ws q m ns : List ℕ} {k : ℕ} (vs : List WatchedNode) (n t : ℕ) (o : CallAnswer) (vs′ : List WatchedNode) →
+      HeardOn vs n t o vs′ →
+      Made ws q m ns k (Call.heard n t vs) (says (said o) vs′) ws q m ns
   handOut :
       {m ns : List ℕ} {k : ℕ} (κs : _) (a : _) (o : FoundEntry) (x : _) →
       hand-out-reads.Learnt κs a o x →
@@ -93,10 +98,9 @@ pub data Made : List ℕ → List ℕ → List ℕ → List ℕ → ℕ → Call
       (says (tickSaid o) (watchedOf (nodesOf (now (x .1 .1 .1 .0))) (a .1 .1 .1 .1 .0)))
       (now (x .0)) (now (x .1 .0)) (now (x .1 .1 .0)) (now (x .1 .1 .1 .0))
   tickRun :
-      {ns : List ℕ} {k : ℕ} (κs : _) (a : _) (o : TickAnswer) (x : _) →
-      Tick-learnt κs a o x →
-      Made (now (a .0)) (now (a .1 .0)) (now (a .1 .1 .0)) ns k (Call.tick (a .1 .1 .1 .1 .0) (now (a .1 .1 .1 .0)))
-      (says (tickSaid o) (now (x .1 .1 .1 .0))) (now (x .0)) (now (x .1 .0)) (now (x .1 .1 .0)) ns
+      {ws q m ns ws′ q′ m′ : List ℕ} {k : ℕ} (vs : List WatchedNode) (t : ℕ) (o : TickAnswer) (vs′ : List WatchedNode) →
+      TickedOn ws q m vs t o ws′ q′ m′ vs′ →
+      Made ws q m ns k (Call.tick t vs) (says (tickSaid o) vs′) ws′ q′ m′ ns
 
 -- Of a start: what it was given, what it answered, the watched nodes as it left them, and the words that it left.
 pub data Began : Start → CallAnswer → List WatchedNode → List ℕ → Type 0 where
@@ -108,11 +112,9 @@ pub data Began : Start → CallAnswer → List WatchedNode → List ℕ → Type
       (watchedOf (nodesOf (now (a .1 .0))) (a .1 .1 .0)))
       o (watchedOf (nodesOf (now (x .1 .0))) (a .1 .1 .0)) (now (x .0))
   startRun :
-      (κs : _) (a : _) (o : CallAnswer) (x : _) →
-      Start-learnt κs a o x →
-      Began
-      (startOf (a .1 .1 .0) (a .1 .1 .1 .0) (a .1 .1 .1 .1 .0) (a .1 .1 .1 .1 .1 .0) (a .1 .1 .1 .1 .1 .1 .0) (a .1 .1 .1 .1 .1 .1 .1 .0) (now (a .1 .0)))
-      o (now (x .1 .0)) (now (x .0))
+      {ws ws′ : List ℕ} (vs : List WatchedNode) (n : ℕ) (f : FeatureFlags) (t c : ℕ) (od : Dictionary) (ts : Thresholds) (o : CallAnswer) (vs′ : List WatchedNode) →
+      StartedOn ws vs n f t c od ts o ws′ vs′ →
+      Began (startOf n f t c od ts vs) o vs′ ws′
 
 -- The head's words, its queue's bytes and its history's bytes before the calls; the calls; what they said; the three after them. Each call is on what the
 -- last one left: "Nobody else writes head, queue or history meanwhile". The watched nodes are lent with each call, whatever they are.
