@@ -5,8 +5,8 @@
   scripts/lent_laws.py           writes them (then: rt fmt)
   scripts/lent_laws.py --check   says whether they are what it writes, but for the layout
 
-A law is a line of LAWS: its name, the parameters in the order of the signature (P Q T: &mut of any type; run: the run; A B F G I N: by value),
-and what `ask` takes: parameters by value, or P, lent as a view, and one by value."""
+A law is a line of LAWS: its name, the parameters in the order of the signature (P Q T: &mut of any type; run: the run, anywhere among them;
+A B F G I N U: by value, after them), and what `ask` takes: one of P Q T, lent as a view, or none; then parameters by value."""
 import os
 import re
 import sys
@@ -15,9 +15,14 @@ LAWS = {
     'JudgedHeard': ('run A B', 'A'),
     'JudgedStart': ('P run A B F G I N', ''),
     'JudgedTick': ('P Q T run A', 'P A'),
+    'JudgedHear': ('P run A B F', 'A B'),
+    'JudgedBegin': ('P run A B F G I N U', 'A'),
+    'JudgedWatch': ('P Q T run A B', 'P A B'),
+    'JudgedAdd': ('P Q run A B', 'Q A'),
+    'JudgedRemove': ('P Q run A', 'Q A'),
 }
 FOLDER = os.path.join(os.path.dirname(os.path.dirname(os.path.abspath(__file__))), 'crates', 'lentlaws', 'proofs')
-VALUE = {'A': 'a', 'B': 'a′', 'F': 'a″', 'G': 'a‴', 'I': 'a⁗', 'N': 'c', 'P': 'p', 'Q': 'p′', 'T': 'p″'}
+VALUE = {'A': 'a', 'B': 'a′', 'F': 'a″', 'G': 'a‴', 'I': 'a⁗', 'N': 'c', 'U': 'c′', 'P': 'p', 'Q': 'p′', 'T': 'p″'}
 LAST = {'P': 'z', 'Q': 'z′', 'T': 'z″'}
 LOW = '₀₁₂₃₄₅₆₇₈₉'
 
@@ -44,21 +49,23 @@ def moved(*places):
 
 def law(name, params, ask):
     params, ask = params.split(), ask.split()
-    values = [p for p in params if p in 'ABFGIN']
+    values = [p for p in params if p in 'ABFGINU']
     refs = [p for p in params if p in 'PQT']
     judged = [p for p in params if p != 'run']
-    viewed = 'P' in ask
+    order = [p for p in params if p not in values]  # the lifetimes, in the order of the signature
+    assert params == order + values
+    viewed = [p for p in ask if p in refs]
+    ask_values = [p for p in ask if p in values]
+    assert ask == viewed + ask_values and len(viewed) < 2
     r, n = len(refs), len(params)
-    order = refs + ['run']                          # the lifetimes, in the order of the signature
-    assert [p for p in params if p not in values] == order
     life = {p: i for i, p in enumerate(order)}
     # the locals: the result, the parameters, what was seen, what was judged, and the temporaries
     at = {p: 1 + i for i, p in enumerate(params)}
     run = at['run']
     seen, done, addr, lent, first = range(n + 1, n + 6)
     view = n + 6
-    again = {p: n + 6 + viewed + i for i, p in enumerate(refs)}
-    unit = n + 6 + viewed + r
+    again = {p: n + 6 + len(viewed) + i for i, p in enumerate(refs)}
+    unit = n + 6 + len(viewed) + r
     addr2, lent2 = unit + 1, unit + 2
     count = lent2 + 1
 
@@ -81,14 +88,15 @@ def law(name, params, ask):
     k_of = f'K {k_args}' if ask else 'K'
     k_ty = ''.join(f'{denot(p)} → ' for p in ask) + 'Of S'
     j_ty = ''.join(f'{denot(p)} → ' for p in judged) + 'Of S → D .D → ' + ''.join(f'{p} .Denot → ' for p in refs) + 'Type 0'
-    r_ty = ''.join(f'{denot(p)} → ' for p in params) + 'Of X → ' + ''.join(f'{p} .Denot → ' for p in refs) + 'List (Of E) → Type 0'
+    r_ty = ''.join(f'{denot(p)} → ' for p in params) + 'Of X → ' + ''.join(f'{denot(p)} → ' for p in order) + 'Type 0'
     j_in = ' '.join(VALUE[p] for p in judged)
 
     def j_app(s, d, zs):
         return ' '.join(['J', j_in, s, d] + zs)
 
     def r_app(x, zs, l):
-        return ' '.join(['R'] + ['xs' if p == 'run' else VALUE[p] for p in params] + [x] + zs + [l])
+        last = dict(zip(refs, zs), run=l)
+        return ' '.join(['R'] + ['xs' if p == 'run' else VALUE[p] for p in params] + [x] + [last[p] for p in order])
 
     def source(p):
         return 'xs: &mut [E]' if p == 'run' else f'{VALUE[p]}: {p}' if p in values else f'{VALUE[p]}: &mut {p}'
@@ -100,7 +108,7 @@ def law(name, params, ask):
 
     run_ref = 'tyRef erased mut (pointee (row-of E .written))'
     locals_ = ['X .ty'] + [ty(p) for p in params] + ['S .ty', 'pair-ty D', run_ref, 'slice-at E erased', 'S .ty']
-    locals_ += ['tyRef erased imm (pointee (P .written))'] * viewed
+    locals_ += [f'tyRef erased imm (pointee ({p} .written))' for p in viewed]
     locals_ += [f'tyRef erased mut (pointee ({p} .written))' for p in refs] + ['tyUnit', run_ref, 'slice-at E erased']
 
     def copy(i, *fields):
@@ -111,9 +119,8 @@ def law(name, params, ask):
                 f'assign (place {s} []) (aggregate ({copy(a)} ∷ {copy(run, "field 1")} ∷ []))']
 
     body = lends(addr, lent)
-    if viewed:
-        body.append(f'assign (place {view} []) (addrOf (place {at["P"]} (deref τP ∷ [])))')
-    body += [f'call ask ({listed(copy(view if p == "P" else at[p]) for p in ask)}) (place {first} [])',
+    body += [f'assign (place {view} []) (addrOf (place {at[p]} (deref τ{p} ∷ [])))' for p in viewed]
+    body += [f'call ask ({listed(copy(view if p in viewed else at[p]) for p in ask)}) (place {first} [])',
              f'call survey ({copy(lent)} ∷ {copy(first)} ∷ []) (place {seen} [])']
     body += [f'assign (place {again[p]} []) (addrOf (place {at[p]} (deref τ{p} ∷ [])))' for p in refs]
     body += [f'call judge ({listed([copy(again.get(p, at[p])) for p in judged] + [copy(seen)])}) (place {done} [])']
@@ -185,7 +192,7 @@ module _ {lones} where
 
   module _ (R : {r_ty}) {{M : Type 1}} (𝓤 : URA M) where
     abbrev pub says-lent : Clauses 𝓤 lent
-    says-lent κs a = record {{ ghost = Unit {{0}}; requires = λ g. emp 𝓤; ensures = λ g r e. fact 𝓤 (R {" ".join(f"({path('a', i)})" if p in values else f"(now ({path('a', i)}))" for i, p in enumerate(params))} r {"".join(f"(now ({path('e', at[p] - 1)})) " for p in refs)}(now ({path("e", run - 1)}))) }}
+    says-lent κs a = record {{ ghost = Unit {{0}}; requires = λ g. emp 𝓤; ensures = λ g r e. fact 𝓤 (R {" ".join(f"({path('a', i)})" if p in values else f"(now ({path('a', i)}))" for i, p in enumerate(params))} r {" ".join(f"(now ({path('e', at[p] - 1)}))" for p in order)}) }}
 ''')
     if refs:
         w(f'''
@@ -202,12 +209,8 @@ module _ {lones} where
 ''')
     sees = '(λ s xs zs r. (zs ≡ xs) × (r ≡ L s xs))'
     sets = '(λ y xs zs r. zs ≡ O y xs)'
-    if viewed:
-        asked = '(λ p a r. r ≡ K p a)'
-        ask_contract = f'View P A S {asked} 𝓤 H At'
-    else:
-        asked = f'(λ a r. r ≡ {" ".join(["K"] + [f"({path(chr(97), i)})" for i in range(len(ask))])})'
-        ask_contract = f'Value ({listed(ask)}) (lone S) {asked} 𝓤 H At'
+    asked = ' '.join([f'(λ{" p" * len(viewed)} a r. r ≡ K'] + ['p'] * len(viewed) + [f'({path("a", i)})' for i in range(len(ask_values))]) + ')'
+    ask_contract = f'View {viewed[0]} ({listed(ask_values)}) S {asked} 𝓤 H At' if viewed else f'Value ({listed(ask_values)}) (lone S) {asked} 𝓤 H At'
     judges = f'(λ a r. J {" ".join(f"({path(chr(97), i)})" for i in range(len(jp)))} r)'
     judge_contract = f'Judge {ctx} J 𝓤 H At' if refs else f'Value ({listed(jp)}) (parts D) {judges} 𝓤 H At'
     settle_contract = f'Run E Y nothing-at-all {sets} 𝓤 H At'
@@ -246,7 +249,11 @@ module _ {lones} (K : {k_ty}) (L : Of S → List (Of E) → Of S) (J : {j_ty}) (
     left += [f'({tokens})'] * bool(refs) + [f'‵ (fres γ{p} ({p} .coded .code {LAST[p]}))' for p in refs]
     left = listed(left)
     script = moved(2) + 'split ! $ move ! (1 ∷ []) $ ' * r if refs else 'nothing ! $ '
-    script += moved(r + 2, 0) + 'join ! $ ' + 'move ! (1 ∷ 0 ∷ []) $ join ! $ ' * r + 'frame ! $ nothing ! $ '
+    names = ['t-' + p for p in reversed(refs)] + ['run', 't-run']
+    for p in reversed(order):
+        script += moved(names.index('t-' + p) + 1, 0) + 'join ! $ '
+        names.remove('t-' + p)
+    script += 'frame ! $ nothing ! $ '
     here = ['run'] + refs
     for p in reversed(params):
         if p in values:
@@ -293,7 +300,7 @@ module _ {lones} (K : {k_ty}) (L : Of S → List (Of E) → Of S) (J : {j_ty}) (
     types = listed(f'MutSlice (named {life["run"]}) {kr} (row-of E)' if p == 'run' else f'row-of {p}' if p in values else f'MutRef (named {life[p]}) {ks[p]} {p}' for p in params)
     entry = ' ⊛ '.join([f'‵ (flft {ks[p]} {qs[p]})' for p in order] + ['‵ ftrue'])
     script = 'split ! $ move ! (1 ∷ []) $ ' * r + 'split ! $ ' + moved(r + 2)
-    names = ['owns', 't-run', 'true'] + ['t-' + p for p in reversed(refs)]
+    names = ['owns', 't-' + order[-1], 'true'] + ['t-' + p for p in reversed(order[:-1])]
     for p in params:
         script += 'fsplit ! $ move ! (1 ∷ []) $ '
         names = ['owns', p] + names[1:]
@@ -308,12 +315,13 @@ module _ {lones} (K : {k_ty}) (L : Of S → List (Of E) → Of S) (J : {j_ty}) (
           -- [the run; its token;{" each reference and its token;" if refs else ""} the locals, of which _i stands at {pos(0)} - 2 i]
           {lends_again(addr, lent)}
 ''')
-    if viewed:
-        w(f'''          {points(view, "P")}
-          {moved(2, 3)}views ! fm P A S {asked} known-ask p a is-A (λ i j. {operands([load(view), load(at["A"])])}) (λ i j. from ! (stop !)) {pos(first)} (λ i j. refl) (λ s₀ is₀ e₀. {moved(2, 3)}
+    for p in viewed:
+        k = refs.index(p)
+        w(f'''          {points(view, p)}
+          {moved(2 + 2 * k, 3 + 2 * k)}views ! fm {p} ({listed(ask_values)}) S {asked} known-ask {VALUE[p]} {tup([VALUE[q] for q in ask_values])} {tup(["is-" + q for q in ask_values])} (λ i j. {operands([load(view)] + [load(at[q]) for q in ask_values])}) (λ i j. from ! (stop !)) {pos(first)} (λ i j. refl) (λ s₀ is₀ e₀. {moved(*range(2, 4 + 2 * k))}
 ''')
-    else:
-        w(f'''          asks ! fm ({listed(ask)}) (lone S) {asked} known-ask {tup([VALUE[p] for p in ask])} {tup(["is-" + p for p in ask])} ({operands([load(at[p]) for p in ask])}) (from ! (stop !)) {pos(first)} refl (λ s₀ is₀ e₀.
+    if not viewed:
+        w(f'''          asks ! fm ({listed(ask_values)}) (lone S) {asked} known-ask {tup([VALUE[p] for p in ask_values])} {tup(["is-" + p for p in ask_values])} ({operands([load(at[p]) for p in ask_values])}) (from ! (stop !)) {pos(first)} refl (λ s₀ is₀ e₀.
 ''')
     w(f'''          walks ! fm E S S {sees} known-survey xs s₀ room is₀ (λ i j. {operands([load(lent), load(first)])}) (λ i j. from ! (stop !)) {pos(seen)} (λ i j. refl) (λ ws s₁ _ is₁ e₁.
           rewrite ! 0 (λ (l : List (Of E)). ‵ (the-run E b o {kr} γ (length xs) l)) (e₁ .0) refl $

@@ -10,9 +10,9 @@ use native.Mathlib.Numerals.{add-one}
 use lib.Dec.{eqb, leb, ltb}
 use lib.ListN.{length, getD, set, take, drop, length-set, take-append-drop}
 use lib.Seq.{getD-take, length-take-le}
-use borrow.Author.Tests.{ltb-true, leb-true, leb-false, eqb-true, eqb-false, lt-ltb, le-ltb, lt-leb, eq-eqb, ne-eqb}
+use borrow.Author.Tests.{ltb-true, leb-true, eqb-true, eqb-false, lt-ltb, le-ltb, eq-eqb, ne-eqb}
 use Rattle.types.specs.Pick.{pick, both, either}
-use Rattle.types.specs.Types.{node, isNode}
+use Rattle.types.specs.Types.{node}
 use Rattle.types.specs.declared.frame.error.types.DllError.the-variants.{HeartbeatTimeout}
 use Rattle.types.specs.declared.frame.error.types.DllErrors.{DllErrors}
 use Rattle.types.specs.declared.frame.error.types.DllErrors.the-variants as errors
@@ -20,7 +20,7 @@ use Rattle.counters.specs.Counters.{effect, handled}
 use Rattle.counters.specs.declared.counters.HandledError.{HandledError}
 use Rattle.head.specs.Head.{Head, with-errors}
 use Rattle.watched.specs.declared.nodes.WatchedNode.{WatchedNode}
-use Rattle.watched.specs.Watched.{allOf, ascending, fits, wellFormed, noNode, heardNow, watchedNode, watchedOf}
+use Rattle.watched.specs.Watched.{allOf, noNode, heardNow, watchedNode, watchedOf}
 use Rattle.node.specs.Tick.{notBefore, isLate, looked, lateOnes, acts, signalled, timeoutOf, beat, beatAll}
 use Rattle.node.specs.Refines.{plain, Becomes}
 use Rattle.watched.proofs.Lists.{each-turn, from-here, at-end, whole}
@@ -31,6 +31,7 @@ use Rattle.watched.specs.Nodes.{nodeAt, nodesOf, rests}
 use Rattle.node.specs.InPlace.{replied, effectWords}
 use Rattle.node.specs.declared.calls.ErrorTaken.{ErrorTaken}
 use Rattle.node.proofs.Refining.{effect-written}
+use Rattle.watched.proofs.Limits.{all-at}
 use Rattle.watched.proofs.Watching.{places, node-at, heard-written}
 use Rattle.heartbeats.specs.declared.dealt.Dealt.{Dealt}
 use Rattle.heartbeats.specs.PartWords.{signalWords, lookedTime, lookWords, lookedWords, finishedWords, endsBy, beatWords, beatAllWords}
@@ -91,11 +92,6 @@ both-right false b h = absurd (false≢true h)
 pub both-left : (a b : Bool) → both a b ≡ true → a ≡ true
 both-left true b h = refl
 both-left false b h = h
-
-all-at : (p : WatchedNode → Bool) (ws : List WatchedNode) (i : ℕ) (d : WatchedNode) → i < length ws → allOf p ws ≡ true → p (getD ws i d) ≡ true
-all-at p [] i d h a = absurd (omega arith)
-all-at p (w ∷ ws) Prim.Native.Nat.zero d h a = both-left (p w) (allOf p ws) a
-all-at p (w ∷ ws) (suc i) d h a = all-at p ws i d (omega arith) (both-right (p w) (allOf p ws) a)
 
 -- a node that rests
 module _ (t : ℕ) (w : WatchedNode) where
@@ -180,34 +176,6 @@ module _ (t : ℕ) where
       ap (λ (l : List WatchedNode). l ++ drop k (nodesOf ns))
       (map-same (take k (nodesOf ns)) (sym (ap (allOf (rests t)) (whole (nodesOf ns) k (places ns) few)) ∙ h))
       ∙ take-append-drop k (nodesOf ns)
-
--- the number of a node that passed number 3 is a byte
-small : (n : ℕ) → isNode n ≡ true → n ≤ 255
-small n h = by (leb n 255) refl
-  where
-    gone : (a b : Bool) → either (both a false) (both b false) ≡ false
-    gone true true = refl
-    gone true false = refl
-    gone false true = refl
-    gone false false = refl
-
-    by : (b : Bool) → leb n 255 ≡ b → n ≤ 255
-    by true e = leb-true n 255 e
-    by false e =
-        let u : leb n 240 ≡ false = lt-leb n 240 (omega (arith, leb-false n 255 e)) in
-        absurd (false≢true (sym (ap₂ (λ (a b : Bool). either (both (leb 1 n) a) (both (leb 253 n) b)) u e ∙ gone (leb 1 n) (leb 253 n)) ∙ h))
-
-pub number-small : (ns : List ℕ) (k : ℕ) → k ≤ 32 → wellFormed (watchedOf (nodesOf ns) k) ≡ true → (i : ℕ) → i < k → getD ns (3 * i) 0 ≤ 255
-unfolding wellFormed
-number-small ns k few h i inside =
-    let vs : List WatchedNode = nodesOf ns in
-    let a : allOf fits (watchedOf vs k) ≡ true =
-    both-right (ascending (watchedOf vs k)) _ (both-right (leb (length (watchedOf vs k)) 32) _ h) in
-    let b : allOf fits (take k vs) ≡ true = sym (ap (allOf fits) (whole vs k (places ns) few)) ∙ a in
-    let l : length (take k vs) ≡ k = length-take-le k vs (rw (places ns) few) in
-    let f : fits (getD (take k vs) i noNode) ≡ true = all-at fits (take k vs) i noNode (rw l inside) b in
-    let w : getD (take k vs) i noNode ≡ nodeAt ns i = getD-take k vs i noNode inside ∙ node-at ns i (omega arith) in
-    small (getD ns (3 * i) 0) (both-left (isNode (getD ns (3 * i) 0)) _ (sym (ap fits w) ∙ f))
 
 -- the error of one late node
 module _ (ws : List ℕ) (long : length ws ≡ 58) (n : ℕ) (r : ErrorTaken) (e : r ≡ replied (handled (errorsOf ws) (HeartbeatTimeout (node n)))) (ws₁ : List ℕ) (e₁ : ws₁ ≡ effectWords ws (effect (HeartbeatTimeout (node n)))) (a : Bool) (z : a ≡ acts (r .action)) (f : Dealt) (ws′ : List ℕ) where

@@ -104,7 +104,7 @@ module _ (E S Y X A : Lone) (D : Pair X Y) (P Q T : RattleType) (τP τQ τT : T
         move ! (2 ∷ []) $ split ! $ move ! (1 ∷ []) $ split ! $ move ! (1 ∷ []) $ split ! $ move ! (1 ∷ []) $ move ! (5 ∷ 0 ∷ []) $ join ! $ move ! (1 ∷ 0 ∷ []) $ join ! $ move ! (1 ∷ 0 ∷ []) $ join ! $ move ! (1 ∷ 0 ∷ []) $ join ! $ frame ! $ nothing ! $ owned ! (row-of A) (Is (row-of A)) (makes A 𝓤 H At) a (vals A a) is-A $ fjoin ! $ move ! (1 ∷ 0 ∷ []) $ fjoin ! $ move ! (3 ∷ 0 ∷ []) $ fjoin ! $ move ! (2 ∷ 0 ∷ []) $ fjoin ! $ move ! (1 ∷ 0 ∷ []) $ fjoin ! $ frame ! $
         owned ! (row-of X) (Is (row-of X)) (makes X 𝓤 H At) (D .fst r) (vals X (D .fst r)) isX $ done !
 
-    module _ (C : Calls 𝓤 H) (Λ : Loops 𝓤 H) (fm : FmC 𝓤 H (W .laws) C) (known-ask : Triple 𝓤 (C ga) (View P A S (λ p a r. r ≡ K p a) 𝓤 H At)) (known-survey : Triple 𝓤 (C gs) (Run E S S (λ s xs zs r. (zs ≡ xs) × (r ≡ L s xs)) 𝓤 H At))
+    module _ (C : Calls 𝓤 H) (Λ : Loops 𝓤 H) (fm : FmC 𝓤 H (W .laws) C) (known-ask : Triple 𝓤 (C ga) (View P (A ∷ []) S (λ p a r. r ≡ K p (a .0)) 𝓤 H At)) (known-survey : Triple 𝓤 (C gs) (Run E S S (λ s xs zs r. (zs ≡ xs) × (r ≡ L s xs)) 𝓤 H At))
         (known-judge : Triple 𝓤 (C gj) (Judge E S Y X A D P Q T τP τQ τT J 𝓤 H At)) (known-settle : Triple 𝓤 (C gt) (Run E Y nothing-at-all (λ y xs zs r. zs ≡ O y xs) 𝓤 H At)) where
       walk : ent 𝓤 (onEntry 𝓤 H At (lent E S Y X A D P Q T τP τQ τT .signature) (κ₀, (κ₁, (κ₂, (κ₃, tt)))) (q₀, (q₁, (q₂, (q₃, tt)))) (record { ptr = (bP, oP); name = γP; now = p }, (record { ptr = (bQ, oQ); name = γQ; now = p′ }, (record { ptr = (bT, oT); name = γT; now = p″ }, (ref E b o γ xs, (a, tt))))) (vptr bP oP ∷ [], (vptr bQ oQ ∷ [], (vptr bT oT ∷ [], (s ∷ [], (vals A a, tt)))))) (WpFn 𝓤 H C Λ (thin E S Y X A D P Q T τP τQ τT ga gs gj gt) (vptr bP oP ∷ vptr bQ oQ ∷ vptr bT oT ∷ s ∷ val A a ∷ []) Post)
       walk =
@@ -115,7 +115,7 @@ module _ (E S Y X A : Lone) (D : Pair X Y) (P Q T : RattleType) (τP τQ τT : T
           assigns ! (addr ! (from ! (fld ! refl (hop ! (look-in ! 34 (sub ! 0 refl (whole !))) (stop !))))) (from ! (stop !)) (init ! 26 refl (tt, tt)) $
           assigns ! (agg ! (and-then ! (load ! (from ! (stop !)) (look ! 26 refl)) (and-then ! (load ! (from ! (fld ! refl (stop !))) (look-in ! 34 (sub ! 1 refl (whole !)))) (no-more !)))) (from ! (stop !)) (init ! 24 refl (tt, (tt, (record { fits = room .0 }, tt)))) $
           assigns ! (addr ! (from ! (hop ! (look ! 40 refl) (stop !)))) (from ! (stop !)) (init ! 20 refl (tt, tt)) $
-          move ! (2 ∷ 3 ∷ []) $ views ! fm P A S (λ p a r. r ≡ K p a) known-ask p a is-A (λ i j. and-then ! (load ! (from ! (stop !)) (look ! 20 refl)) (and-then ! (load ! (from ! (stop !)) (look ! 32 refl)) (no-more !))) (λ i j. from ! (stop !)) 22 (λ i j. refl) (λ s₀ is₀ e₀. move ! (2 ∷ 3 ∷ []) $
+          move ! (2 ∷ 3 ∷ []) $ views ! fm P (A ∷ []) S (λ p a r. r ≡ K p (a .0)) known-ask p (a, tt) (is-A, tt) (λ i j. and-then ! (load ! (from ! (stop !)) (look ! 20 refl)) (and-then ! (load ! (from ! (stop !)) (look ! 32 refl)) (no-more !))) (λ i j. from ! (stop !)) 22 (λ i j. refl) (λ s₀ is₀ e₀. move ! (2 ∷ 3 ∷ []) $
           walks ! fm E S S (λ s xs zs r. (zs ≡ xs) × (r ≡ L s xs)) known-survey xs s₀ room is₀ (λ i j. and-then ! (load ! (from ! (stop !)) (look ! 24 refl)) (and-then ! (load ! (from ! (stop !)) (look ! 22 refl)) (no-more !))) (λ i j. from ! (stop !)) 30 (λ i j. refl) (λ ws s₁ _ is₁ e₁.
           rewrite ! 0 (λ (l : List (Of E)). ‵ (the-run E b o κ₃ γ (length xs) l)) (e₁ .0) refl $
           assigns ! (addr ! (from ! (hop ! (look ! 40 refl) (stop !)))) (from ! (stop !)) (init ! 18 refl (tt, tt)) $
@@ -141,7 +141,7 @@ module _ (E S Y X A : Lone) (D : Pair X Y) (P Q T : RattleType) (τP τQ τT : T
           to-judge : Of S → Judge E S Y X A D P Q T τP τQ τT J 𝓤 H At .Ghost
           to-judge s₁ = (((κ₀, (κ₁, (κ₂, tt))), (q₀, (q₁, (q₂, tt))), tt, (record { ptr = (bP, oP); name = γP; now = p }, (record { ptr = (bQ, oQ); name = γQ; now = p′ }, (record { ptr = (bT, oT); name = γT; now = p″ }, (a, (s₁, tt))))), (vptr bP oP ∷ [], (vptr bQ oQ ∷ [], (vptr bT oT ∷ [], (vals A a, (vals S s₁, tt)))))), tt)
 
-  pub meets : (𝓣 : Tables 𝓤 H) → Triple 𝓤 (𝓣 .C ga) (View P A S (λ p a r. r ≡ K p a) 𝓤 H At) → Triple 𝓤 (𝓣 .C gs) (Run E S S (λ s xs zs r. (zs ≡ xs) × (r ≡ L s xs)) 𝓤 H At)
+  pub meets : (𝓣 : Tables 𝓤 H) → Triple 𝓤 (𝓣 .C ga) (View P (A ∷ []) S (λ p a r. r ≡ K p (a .0)) 𝓤 H At) → Triple 𝓤 (𝓣 .C gs) (Run E S S (λ s xs zs r. (zs ≡ xs) × (r ≡ L s xs)) 𝓤 H At)
       → Triple 𝓤 (𝓣 .C gj) (Judge E S Y X A D P Q T τP τQ τT J 𝓤 H At) → Triple 𝓤 (𝓣 .C gt) (Run E Y nothing-at-all (λ y xs zs r. zs ≡ O y xs) 𝓤 H At)
       → Meets 𝓤 H At (lent E S Y X A D P Q T τP τQ τT .signature) (WpFn 𝓤 H (𝓣 .C) (𝓣 .Λ) (thin E S Y X A D P Q T τP τQ τT ga gs gj gt)) (closing 𝓤 H At (lent E S Y X A D P Q T τP τQ τT) (says-lent E S Y X A D P Q T τP τQ τT R 𝓤))
   meets 𝓣 known-ask known-survey known-judge known-settle =

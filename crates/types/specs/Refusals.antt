@@ -2,7 +2,7 @@
 -- Assumes nothing.
 use Prim.Native.Nat.{ℕ}
 use Rattle.types.specs.declared.refusals.Refusal.{Refusal}
-use Rattle.types.specs.declared.refusals.Refusal.the-variants.{NodeNumber, QueueCapacity, WatchedNodes, UnknownNumber, TimeLimit, BeforeHeard, NotWatched, ReadyToOperate, BufferTooShort, ProfileLimit, NoSingleKind, ThresholdLimit}
+use Rattle.types.specs.declared.refusals.Refusal.the-variants.{NodeNumber, QueueCapacity, WatchedNodes, UnknownNumber, TimeLimit, BeforeHeard, NotWatched, ReadyToOperate, AllWatched, AlreadyWatched, BufferTooShort, ProfileLimit, NoSingleKind, ThresholdLimit}
 
 abbrev pub refusalNumber : Refusal → ℕ
 refusalNumber NodeNumber = 1
@@ -13,6 +13,8 @@ refusalNumber TimeLimit = 5
 refusalNumber BeforeHeard = 6
 refusalNumber NotWatched = 7
 refusalNumber ReadyToOperate = 8
+refusalNumber AllWatched = 9
+refusalNumber AlreadyWatched = 10
 refusalNumber BufferTooShort = 11
 refusalNumber ProfileLimit = 12
 refusalNumber NoSingleKind = 13

@@ -19,6 +19,10 @@ pub enum Refusal {
     NotWatched,
     // The head is at ReadyToOperate.
     ReadyToOperate,
+    // A node is to be added where 32 are watched.
+    AllWatched,
+    // A node is to be added that is watched already.
+    AlreadyWatched,
     // Fewer than 20 bytes are left from the place on, or the place is past the end.
     BufferTooShort,
     // The profile of an entry is above 4095.
@@ -42,6 +46,8 @@ impl Refusal {
             Refusal::BeforeHeard => 6,
             Refusal::NotWatched => 7,
             Refusal::ReadyToOperate => 8,
+            Refusal::AllWatched => 9,
+            Refusal::AlreadyWatched => 10,
             Refusal::BufferTooShort => 11,
             Refusal::ProfileLimit => 12,
             Refusal::NoSingleKind => 13,

@@ -24,14 +24,14 @@ use Rattle.watched.specs.declared.nodes.Seen.the-variants as seen
 use Rattle.watched.specs.Nodes.{nodeAt, nodesOf, rising, rests, foundOf, seenOf}
 
 -- the item at an index of a list that is given by index
-listed-at : {A : Type 0} (f : ℕ → A) (n i : ℕ) (d : A) → i < n → getD (listed f n) i d ≡ f i
+pub listed-at : {A : Type 0} (f : ℕ → A) (n i : ℕ) (d : A) → i < n → getD (listed f n) i d ≡ f i
 unfolding listed
 listed-at f zero i d h = absurd (omega arith)
 listed-at f (suc n) zero d h = refl
 listed-at f (suc n) (suc i) d h = listed-at (λ (j : ℕ). f (suc j)) n i d (omega arith)
 
 -- where two lists differ at one index
-listed-set : {A : Type 0} (f g : ℕ → A) (n i : ℕ) → i < n → ((j : ℕ) → (j ≡ i → ⊥) → g j ≡ f j) → listed g n ≡ set (listed f n) i (g i)
+pub listed-set : {A : Type 0} (f g : ℕ → A) (n i : ℕ) → i < n → ((j : ℕ) → (j ≡ i → ⊥) → g j ≡ f j) → listed g n ≡ set (listed f n) i (g i)
 unfolding listed
 listed-set f g zero i h same = absurd (omega arith)
 listed-set f g (suc n) zero h same =

@@ -8,9 +8,10 @@ use mathlib.Core.Path.{_≡_, refl, sym}
 use mathlib.Core.Bool.{true}
 use lib.ListN.{take, drop}
 use Rattle.watched.specs.Watched.{wellFormed, watchedOf}
+use Rattle.watched.proofs.Limits.{number-small}
 use Rattle.watched.proofs.Lists.{few}
 use Rattle.watched.specs.Nodes.{nodesOf}
-use Rattle.heartbeats.proofs.Beatings.{BeatingIn, number-small, walk-begins, walk-over, walk-passes, walk-stops, walk-goes-on}
+use Rattle.heartbeats.proofs.Beatings.{BeatingIn, walk-begins, walk-over, walk-passes, walk-stops, walk-goes-on}
 use Rattle.heartbeats.proofs.heartbeats.beat_all.Statement.{statement}
 use Rattle.heartbeats.proofs.heartbeats.beat_all.Tie as tie
 

@@ -1,0 +1,5 @@
+pub mod Places
+pub mod Carrying
+pub mod Closing
+pub mod Told
+pub mod Fixed

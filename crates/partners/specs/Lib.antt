@@ -1,0 +1,2 @@
+pub mod Partners
+pub mod Walks
