@@ -48,9 +48,9 @@ const DLL_EVENTS: [&str; 6] = ["Soc", "Preq", "Pres", "Soa", "Asnd", "SocTimeout
 const NMT_EVENTS: usize = 19;
 const ERROR_KINDS: usize = 22;
 
-const CALLS: [&str; 14] = [
+const CALLS: [&str; 16] = [
     "start", "nmt", "dll", "error", "cycle", "tick", "withdraw", "heard", "handout", "arm", "load",
-    "state", "command", "kind",
+    "state", "command", "kind", "range", "margin",
 ];
 
 /// Those that a tick can count: loss_of_soc, loss_of_soa, heartbeat_timeout.
@@ -58,7 +58,7 @@ const TICK_KINDS: [usize; 3] = [1, 2, HEARTBEAT];
 const COUNTERS: [&str; 4] = ["c1", "c2", "c3", "c5"];
 
 /// Each call with the refusals that it can give.
-const REFUSALS: [(&str, u8); 19] = [
+const REFUSALS: [(&str, u8); 22] = [
     ("start", 1),
     ("error", 1),
     ("start", 2),
@@ -78,6 +78,9 @@ const REFUSALS: [(&str, u8); 19] = [
     ("withdraw", 8),
     ("kind", 13),
     ("start", 14),
+    ("range", 5),
+    ("margin", 5),
+    ("range", 21),
 ];
 
 /// The thresholds whose starts, errors and crossings are counted, with those between them as one.
@@ -98,8 +101,8 @@ const LEVELS_ELSEWHERE: [&str; 3] = [
 ];
 
 /// The numbers of the refusals, and the highest of them.
-const NUMBERS: [usize; 10] = [1, 2, 3, 4, 5, 6, 7, 8, 13, 14];
-const HIGHEST: usize = 14;
+const NUMBERS: [usize; 11] = [1, 2, 3, 4, 5, 6, 7, 8, 13, 14, 21];
+const HIGHEST: usize = 21;
 
 /// Codes that name no single kind.
 const NO_KIND: [&str; 3] = ["0x8000, of five kinds", "above 16 bits", "of no kind"];
@@ -140,6 +143,23 @@ const BOUNDS: [&str; 13] = [
     "armed deadline at NotActive passed",
 ];
 
+/// Readings of a clock, and what a wrong end, order or sign would show.
+const READINGS: [&str; 13] = [
+    "range lost",
+    "range kept",
+    "range open",
+    "range of one reading, lost",
+    "range of one reading, kept",
+    "range open by its last reading alone",
+    "range open by its first reading alone",
+    "range refused 5, the wrong way round too",
+    "range refused 5, for the latest reading alone",
+    "margin 0",
+    "margin -1",
+    "margin before the last SoC",
+    "loss with the check off",
+];
+
 /// The NMT events at which there may be something to forget: the five resets, and Error, which forgets nothing.
 const FORGETTING: [(usize, &str); 6] = [
     (4, "Reset"),
@@ -170,6 +190,7 @@ struct Minima {
     wrap: u64,
     history_past: u64,
     bound: u64,
+    reading: u64,
     forgotten: u64,
     level: u64,
     threshold: u64,
@@ -195,6 +216,7 @@ const MINIMA: Minima = Minima {
     wrap: 1,
     history_past: 10,
     bound: 20,
+    reading: 20,
     forgotten: 20,
     level: 20,
     threshold: 5,
@@ -209,9 +231,9 @@ const MINIMA: Minima = Minima {
 #[derive(Debug, Clone, Default)]
 pub struct Coverage {
     script: Ticks,
-    calls: [u64; 14],
+    calls: [u64; 16],
     /// By the number of the refusal, from 1; place 0 counts accepted calls.
-    refusals: [[u64; HIGHEST + 1]; 14],
+    refusals: [[u64; HIGHEST + 1]; 16],
     states: [u64; 12],
     /// By state, then ready, enabled and event.
     nmt: [[[[u64; NMT_EVENTS]; 2]; 2]; 12],
@@ -247,6 +269,7 @@ pub struct Coverage {
     wraps: [u64; 4],
     history_past: u64,
     bounds: [u64; 13],
+    readings: [u64; 13],
     /// By event of `FORGETTING` and what of `FORGOTTEN` stood before it.
     to_forget: [[u64; 4]; 6],
     /// Whether a reset forgot a ready word and neither a word nor a withdrawal came behind it.
@@ -433,6 +456,11 @@ impl Coverage {
             "handout" => self.handed_out += 1,
             "cycle" => self.count_cycle(before, after, answer == "(taken (cleared 1))"),
             "kind" => self.count_code(number(words.next()).unwrap_or(0), answer),
+            "range" => {
+                let (a, b) = (number(words.next()), number(words.next()));
+                self.count_range(a.unwrap_or(0), b.unwrap_or(0), before, answer);
+            }
+            "margin" => self.count_margin(number(words.next()).unwrap_or(0), before, answer),
             _ => (),
         }
     }
@@ -446,6 +474,44 @@ impl Coverage {
             None if code == 0x8000 => self.no_kind[0] += 1,
             None if code > u64::from(u16::MAX) => self.no_kind[1] += 1,
             None => self.no_kind[2] += 1,
+        }
+    }
+
+    fn count_range(&mut self, a: u64, b: u64, before: &View, answer: &str) {
+        let last_kept = before.last_soc + limit(before);
+        let (lost, kept, open) = (
+            answer == "(taken lost)",
+            answer == "(taken kept)",
+            answer == "(taken open)",
+        );
+        let late = answer == "(refused 5)";
+        let cases = [
+            lost,
+            kept,
+            open,
+            lost && a == b,
+            kept && a == b,
+            open && b == last_kept + 1,
+            open && a == last_kept,
+            late && a > b,
+            late && a < 1 << 62,
+        ];
+        for (count, case) in self.readings.iter_mut().zip(cases) {
+            *count += u64::from(case);
+        }
+        self.readings[12] += u64::from(lost && !before.check);
+    }
+
+    fn count_margin(&mut self, time: u64, before: &View, answer: &str) {
+        let taken = !answer.starts_with("(refused");
+        let cases = [
+            answer == "(taken 0)",
+            answer == "(taken -1)",
+            taken && time < before.last_soc,
+            answer.starts_with("(taken -") && !before.check,
+        ];
+        for (count, case) in self.readings[9..].iter_mut().zip(cases) {
+            *count += u64::from(case);
         }
     }
 
@@ -690,6 +756,10 @@ impl Coverage {
                 "Bounds in ticks",
                 by_tick(named(&BOUNDS, &self.bounds, MINIMA.bound)),
             ),
+            (
+                "Readings of a clock",
+                named(&READINGS, &self.readings, MINIMA.reading),
+            ),
             ("Watched nodes in ticks", by_tick(self.heartbeat_counts())),
             ("Entries", self.entry_counts()),
             (
@@ -827,7 +897,7 @@ impl Coverage {
             self.starts_without,
             MINIMA.refusal,
         )];
-        for number in [1, 2, 3, HIGHEST] {
+        for number in [1, 2, 3, 14] {
             counts.push(counted(
                 format!("start with one above the limit, refused {number}"),
                 self.above_the_limit[number],

@@ -528,7 +528,7 @@ impl Script<'_> {
 // Scenarios.
 impl Script<'_> {
     fn scenario(&mut self) -> io::Result<()> {
-        match self.random.below(109) {
+        match self.random.below(112) {
             0..14 => self.nmt_events(),
             14..28 => self.dll_pairs(),
             28..36 => self.error_levels(),
@@ -551,6 +551,7 @@ impl Script<'_> {
             96 | 97 => self.reset_between(),
             98 => self.kinds(),
             99..107 => self.up_to_the_threshold(),
+            107..110 => self.clock_readings(),
             _ => self.plain_calls(),
         }
     }
@@ -999,6 +1000,48 @@ impl Script<'_> {
         Ok(())
     }
 
+    /// Readings of a clock around the first that is a loss, in any state, with the check on or off; some the wrong way round
+    /// or above what is taken.
+    fn clock_readings(&mut self) -> io::Result<()> {
+        if self.random.one_in(2) {
+            let state = self.random.pick(&ALL_STATES);
+            self.go_to(state)?;
+        }
+        if self.random.one_in(2) {
+            let now = self.later();
+            self.call1("arm", now)?;
+        }
+        for _ in 0..4 + self.random.below(12) {
+            let (a, b) = (self.reading(), self.reading());
+            match self.random.below(8) {
+                0..3 => self.call1("margin", a)?,
+                3 => self.call2("range", a, a)?,
+                4 => self.call2("range", a.max(b), a.min(b))?,
+                _ => self.call2("range", a.min(b), a.max(b))?,
+            }
+        }
+        Ok(())
+    }
+
+    fn reading(&mut self) -> u64 {
+        let later = self.later();
+        let Some(view) = self.head.view() else {
+            return later;
+        };
+        let last_kept = view.last_soc + limit(&view);
+        match self.random.below(14) {
+            0..3 => last_kept,
+            3..6 => last_kept + 1,
+            6 => last_kept.saturating_sub(1),
+            7 => last_kept + self.random.below(5000),
+            8 => view.last_soc,
+            9 => view.last_soc.saturating_sub(1 + self.random.below(3)),
+            10 => self.random.pick(&[0, 1, TOP - 1, TOP, TOP]),
+            11 | 12 => self.random.pick(&[TOP + 1, 1 << 63, u64::MAX]),
+            _ => later,
+        }
+    }
+
     /// Withdrawals where they count, and at ReadyToOperate, where they are declined.
     fn withdrawals(&mut self) -> io::Result<()> {
         let state = self
@@ -1116,6 +1159,8 @@ impl Script<'_> {
             "state 28",
             "command 33",
             "kind 0x8245",
+            "range 0 5",
+            "margin 5",
             "nmt 99",
             "unwatch",
             "unknown",
@@ -1180,7 +1225,7 @@ impl Script<'_> {
     }
 }
 
-const UNREADABLE: [&str; 69] = [
+const UNREADABLE: [&str; 76] = [
     "unknown",
     "Nmt 3",
     "nmt",
@@ -1246,6 +1291,13 @@ const UNREADABLE: [&str; 69] = [
     "kind",
     "kind 0x8245 0",
     "kind 18446744073709551616",
+    "range",
+    "range 5",
+    "range 5 6 7",
+    "range 5 18446744073709551616",
+    "margin",
+    "margin 5 6",
+    "margin -1",
     "watch 256 50 0",
     "watch 17 50",
     "unwatch 1",

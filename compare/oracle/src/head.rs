@@ -1,6 +1,7 @@
 //! A head on top of the original `CnContext`, and its calls. Document 01's refusals stand in front
 //! of the original code, in their order: a call that is declined does not reach it.
 
+use crate::clock::Watch;
 use crate::dictionary::{self, Defaults, Dictionary};
 use crate::occurrences::Occurrences;
 use crate::places::{self, DLL_EVENTS, NMT_EVENTS};
@@ -257,6 +258,32 @@ impl Head {
         self.context.soc_timeout_check_active = cycle > 0;
         self.context.next_tick_us = (cycle > 0).then_some(deadline);
         Ok(forms::taken(&[]))
+    }
+
+    fn watch(&self) -> Watch {
+        let od = &self.context.core.od;
+        let cycle = u64::from(dictionary::cycle(od).unwrap_or(0));
+        let tolerance = u64::from(dictionary::tolerance(od).unwrap_or(TOLERANCE_IF_MISSING));
+        Watch {
+            last_soc: self.context.last_soc_reception_time_us,
+            limit: cycle + tolerance / 1000,
+        }
+    }
+
+    /// Number 5 for each reading, then number 21.
+    pub fn range(&self, earliest: u64, latest: u64) -> Answer {
+        try_time(earliest)?;
+        try_time(latest)?;
+        if earliest > latest {
+            return Err(21);
+        }
+        let verdict = self.watch().verdict(earliest, latest);
+        Ok(forms::taken(&[verdict.to_string()]))
+    }
+
+    pub fn margin(&self, time: u64) -> Answer {
+        try_time(time)?;
+        Ok(forms::taken(&[self.watch().margin(time).to_string()]))
     }
 
     pub fn load(&mut self, load: &Load) -> Answer {

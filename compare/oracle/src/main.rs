@@ -14,6 +14,7 @@
 //!     oracle top                   how many errors take a level of the original at threshold 0 to the 32-bit top
 //!     oracle shortest              the shortest ways of the original to ReadyToOperate with an old ready word
 
+mod clock;
 mod coverage;
 mod desk;
 mod desk_generator;

@@ -89,6 +89,8 @@ impl Oracle {
             Call::EntryWrite(write) => desk::entry_write(&mut self.desk, &write),
             Call::EntryRead(bytes) => desk::entry_read(&bytes),
             Call::Kind(code) => head::read_kind(code),
+            Call::Range { earliest, latest } => head.range(earliest, latest),
+            Call::Margin(time) => head.margin(time),
         })
     }
 

@@ -62,6 +62,8 @@ pub enum Call {
     EntryWrite(EntryWrite),
     EntryRead([u8; 20]),
     Kind(u64),
+    Range { earliest: u64, latest: u64 },
+    Margin(u64),
 }
 
 pub enum Line {
@@ -125,6 +127,11 @@ fn read_call(name: &[u8], words: &mut Words) -> Option<Call> {
         b"entrywrite" => Call::EntryWrite(read_entry_write(words)?),
         b"entryread" => Call::EntryRead(entry(words.next()?)?),
         b"kind" => Call::Kind(words.number()?),
+        b"range" => Call::Range {
+            earliest: words.number()?,
+            latest: words.number()?,
+        },
+        b"margin" => Call::Margin(words.number()?),
         _ => return None,
     })
 }

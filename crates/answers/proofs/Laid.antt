@@ -1,10 +1,11 @@
 -- The parts of an answer, written one after the other, are its numbers.
 -- Assumes nothing.
-use Prim.Native.Nat.{ℕ}
-use mathlib.Core.Path.{_≡_, refl, ap, _∙_}
+use Prim.Native.Nat.{ℕ, suc}
+use mathlib.Core.Path.{_≡_, refl, ap, subst, _∙_}
 use mathlib.Core.Bool.{Bool}
 use mathlib.Core.List.{List, [], map}
 use lib.ListN.{set}
+use lib.IntN.{ℤ, pos, negsuc}
 use Rattle.types.specs.States.{stateNumber}
 use Rattle.types.specs.Errors.{reported}
 use Rattle.types.specs.declared.frame.error.types.DllErrors.{DllErrors}
@@ -16,9 +17,11 @@ use Rattle.nmt.specs.declared.state_machine.ResetSequence.{ResetSequence}
 use Rattle.nmt.specs.declared.state_machine.RestoredRanges.{RestoredRanges}
 use Rattle.nmt.specs.declared.state_machine.RestoredRanges.the-variants as restored
 use Rattle.head.specs.Words.{one}
-use Rattle.node.specs.Plain.{taken, nmtAnswer, errorAnswer}
+use Rattle.node.specs.declared.range.SocVerdict.{SocVerdict}
+use Rattle.node.specs.declared.range.SocVerdict.the-variants as verdict
+use Rattle.node.specs.Plain.{taken, nmtAnswer, errorAnswer, rangeAnswer, marginAnswer}
 use Rattle.answers.specs.Numbers.{nothing, errorsNumbers, rangesNumbers, actionNumber, nodeAsked, laid, numbersOf}
-use Rattle.answers.specs.Put.{errorPut, errorsPut, statesOf, statesPut, rangesPut, resetPut}
+use Rattle.answers.specs.Put.{errorPut, errorsPut, statesOf, statesPut, rangesPut, resetPut, verdictPut, marginPut}
 
 errors-laid :
     (node action said : ℕ) (es : DllErrors) →
@@ -81,3 +84,20 @@ reset-taken es r p q s =
 pub said-taken : (v : ℕ) {ns : List ℕ} {said : ℕ} → ns ≡ numbersOf taken → said ≡ v → set ns 3 said ≡ laid 0 nothing nothing v [] [] []
 unfolding numbersOf
 said-taken v p q = (λ i. set (p i) 3 (q i))
+
+-- an answer of a verdict, or of a margin
+pub verdict-taken : (v : SocVerdict) {ns ms : List ℕ} → ns ≡ numbersOf taken → ms ≡ verdictPut ns v → ms ≡ numbersOf (rangeAnswer v)
+unfolding numbersOf
+verdict-taken verdict.Lost p q = q ∙ ap (λ (l : List ℕ). set l 4 1) p
+verdict-taken verdict.Kept p q = q ∙ ap (λ (l : List ℕ). set l 5 1) p
+verdict-taken verdict.Open p q = q ∙ ap (λ (l : List ℕ). set l 6 1) p
+
+margin-laid : (z : ℤ) {ns ms : List ℕ} → ns ≡ numbersOf taken → ms ≡ marginPut ns z → ms ≡ numbersOf (marginAnswer z)
+unfolding numbersOf
+margin-laid (pos n) p q = q ∙ ap (λ (l : List ℕ). set l 4 n) p
+margin-laid (negsuc n) p q = q ∙ ap (λ (l : List ℕ). set l 5 (suc n)) p
+
+-- where it was read back as itself
+pub margin-taken :
+    {y z : ℤ} {ns ms : List ℕ} → y ≡ z → ns ≡ numbersOf taken → ms ≡ marginPut ns y → ms ≡ numbersOf (marginAnswer z)
+margin-taken {y = y} {z = z} {ns = ns} {ms = ms} e p q = margin-laid z p (subst (λ (y : ℤ). ms ≡ marginPut ns y) e q)

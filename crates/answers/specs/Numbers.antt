@@ -4,16 +4,18 @@
 --   1         the node that is asked to reset
 --   2         what NMT is asked for: 0 nothing, 1 to reset the communication, 2 to reset a node
 --   3         yes or no, 1 or 0: an error signals, a cycle cleared the last level, an entry was handed out
---   4 to 8    the states entered
+--   4 to 8    the states entered; of a range 1 at 4 where the SoC is lost, at 5 where it is kept, at 6 where it is open; of a
+--             margin at 4 how much is left of the limit, or at 5 how much it is passed by
 --   9 to 14   the ranges to restore, the first and the last index of each
 --   15 to 17  the first error that is reported or logged: its kind, the state that it met, its node or event
 --   18 to 20  the second one
 --
 -- A place of which the answer says nothing holds `nothing`. An entry that is handed out stands in 20 bytes beside the numbers.
 -- Assumes nothing.
-use Prim.Native.Nat.{ℕ}
+use Prim.Native.Nat.{ℕ, suc}
 use mathlib.Core.List.{List, [], _∷_, _++_, map}
 use lib.ListN.{getD, replicate}
+use lib.IntN.{ℤ, pos, negsuc}
 use Rattle.types.specs.States.{stateNumber}
 use Rattle.types.specs.Errors.{errorKind}
 use Rattle.types.specs.declared.types.NodeId.{NodeId}
@@ -26,7 +28,9 @@ use Rattle.entries.specs.Entry.{entryBytes}
 use Rattle.entries.specs.declared.status_response.FoundEntry.{FoundEntry}
 use Rattle.entries.specs.declared.status_response.FoundEntry.the-variants as found
 use Rattle.head.specs.Words.{one}
-use Rattle.node.specs.Plain.{Answer, refused, taken, nmtAnswer, dllAnswer, errorAnswer, cycleAnswer, handOutAnswer, tickAnswer}
+use Rattle.node.specs.Plain.{Answer, refused, taken, nmtAnswer, dllAnswer, errorAnswer, cycleAnswer, handOutAnswer, tickAnswer, rangeAnswer, marginAnswer}
+use Rattle.node.specs.declared.range.SocVerdict.{SocVerdict}
+use Rattle.node.specs.declared.range.SocVerdict.the-variants as verdict
 use Rattle.answers.specs.declared.Carried.{Carried}
 
 abbrev pub nothing : ℕ
@@ -85,6 +89,15 @@ abbrev pub isFound : FoundEntry → ℕ
 isFound (found.Entry e) = 1
 isFound found.None = 0
 
+abbrev pub verdictNumbers : SocVerdict → List ℕ
+verdictNumbers verdict.Lost = 1 ∷ []
+verdictNumbers verdict.Kept = nothing ∷ 1 ∷ []
+verdictNumbers verdict.Open = nothing ∷ nothing ∷ 1 ∷ []
+
+abbrev pub marginNumbers : ℤ → List ℕ
+marginNumbers (pos n) = n ∷ []
+marginNumbers (negsuc n) = nothing ∷ suc n ∷ []
+
 -- the numbers at some places of a list
 abbrev pub filled : List ℕ → List ℕ → List ℕ
 filled [] xs = []
@@ -109,6 +122,8 @@ numbersOf (errorAnswer a s es) = laid 0 (nodeAsked a) (actionNumber a) (one s) [
 numbersOf (cycleAnswer c) = laid 0 nothing nothing (one c) [] [] []
 numbersOf (handOutAnswer f) = laid 0 nothing nothing (isFound f) [] [] []
 numbersOf (tickAnswer es) = laid 0 nothing nothing nothing [] [] (errorsNumbers es)
+numbersOf (rangeAnswer v) = laid 0 nothing nothing nothing (verdictNumbers v) [] []
+numbersOf (marginAnswer z) = laid 0 nothing nothing nothing (marginNumbers z) [] []
 
 -- the bytes of an entry; where there is none, 0
 abbrev pub bytesOf : FoundEntry → List ℕ

@@ -1,8 +1,9 @@
 -- The numbers after a part of an answer is written: all others stay.
 -- Assumes nothing.
-use Prim.Native.Nat.{ℕ, _+_}
+use Prim.Native.Nat.{ℕ, suc, _+_}
 use mathlib.Core.List.{List, map}
 use lib.ListN.{getD, set}
+use lib.IntN.{ℤ, pos, negsuc}
 use Rattle.types.specs.States.{stateNumber}
 use Rattle.types.specs.Errors.{errorKind}
 use Rattle.types.specs.declared.frame.error.types.DllError.{DllError}
@@ -14,6 +15,8 @@ use Rattle.nmt.specs.declared.state_machine.EnteredStates.{EnteredStates}
 use Rattle.nmt.specs.declared.state_machine.RestoredRanges.{RestoredRanges}
 use Rattle.nmt.specs.declared.state_machine.RestoredRanges.the-variants as restored
 use Rattle.nmt.specs.declared.state_machine.ResetSequence.{ResetSequence}
+use Rattle.node.specs.declared.range.SocVerdict.{SocVerdict}
+use Rattle.node.specs.declared.range.SocVerdict.the-variants as verdict
 use Rattle.answers.specs.Numbers.{carries, five}
 
 unfoldable pub errorPut : List ℕ → ℕ → DllError → List ℕ
@@ -42,3 +45,12 @@ rangesPut ns (restored.Three a b c) = rangePut (rangePut (rangePut ns 9 a) 11 b)
 
 unfoldable pub resetPut : List ℕ → ResetSequence → List ℕ
 resetPut ns r = rangesPut (statesPut ns (statesOf (r .entered))) (r .restored)
+
+abbrev pub verdictPut : List ℕ → SocVerdict → List ℕ
+verdictPut ns verdict.Lost = set ns 4 1
+verdictPut ns verdict.Kept = set ns 5 1
+verdictPut ns verdict.Open = set ns 6 1
+
+abbrev pub marginPut : List ℕ → ℤ → List ℕ
+marginPut ns (pos n) = set ns 4 n
+marginPut ns (negsuc n) = set ns 5 (suc n)

@@ -7,9 +7,9 @@ ghost use Rattle.types.specs.States.{stateNumber};
 ghost use Rattle.types.specs.Errors.{reported};
 ghost use Rattle.head.specs.Words.{one};
 ghost use Rattle.node.specs.Plain.{taken, refused, cycleAnswer, handOutAnswer, tickAnswer};
-ghost use Rattle.node.specs.InPlace.{said, nmtSaid, dllSaid, errorSaid};
+ghost use Rattle.node.specs.InPlace.{said, nmtSaid, dllSaid, errorSaid, rangeSaid, marginSaid};
 ghost use Rattle.answers.specs.Numbers.{carries, actionNumber, nodeAsked, isFound, ofNode, numbersOf, bytesOf};
-ghost use Rattle.answers.specs.Put.{errorPut, errorsPut, statesOf, statesPut, rangePut, rangesPut, resetPut};
+ghost use Rattle.answers.specs.Put.{errorPut, errorsPut, statesOf, statesPut, rangePut, rangesPut, resetPut, verdictPut, marginPut};
 use entries::status_response::FoundEntry;
 use nmt::state_machine::EnteredStates;
 use nmt::state_machine::IndexRange;
@@ -19,6 +19,9 @@ use node::calls::CallAnswer;
 use node::calls::DllEventAnswer;
 use node::calls::ErrorAnswer;
 use node::calls::NmtEventAnswer;
+use node::range::MarginAnswer;
+use node::range::RangeAnswer;
+use node::range::SocVerdict;
 use types::frame::error::types::DllError;
 use types::frame::error::types::DllErrors;
 use types::frame::error::types::NmtAction;
@@ -299,4 +302,61 @@ pub fn handed_out(entry: FoundEntry, numbers: &mut Numbers, bytes: &mut [u8; 20]
 {
     put_taken(numbers);
     numbers[YES] = one(found(entry, bytes));
+}
+
+// Of a range: 1 at the place of the verdict, in the places of the states.
+fn put_verdict(numbers: &mut Numbers, verdict: SocVerdict)
+    ensures { λ _. ⌜ now (numbers .exit) ≡ verdictPut (now (numbers .entry)) verdict ⌝ }
+{
+    match verdict {
+        SocVerdict::Lost => {
+            numbers[STATES] = 1;
+            return;
+        }
+        SocVerdict::Kept => {
+            numbers[STATES + 1] = 1;
+            return;
+        }
+        SocVerdict::Open => {
+            numbers[STATES + 2] = 1;
+            return;
+        }
+    }
+}
+
+// A clock that is known within a range.
+pub fn range(answer: RangeAnswer, numbers: &mut Numbers)
+    ensures { λ _. ⌜ now (numbers .exit) ≡ numbersOf (rangeSaid answer) ⌝ }
+{
+    match answer {
+        RangeAnswer::Taken(verdict) => {
+            put_taken(numbers);
+            return put_verdict(numbers, verdict);
+        }
+        RangeAnswer::Refused(refusal) => return declined(refusal, numbers),
+    }
+}
+
+// A signed number in two places, one for each sign. The least of its type has no opposite in it.
+fn put_margin(numbers: &mut Numbers, margin: i64)
+    ensures { λ _. ⌜ now (numbers .exit) ≡ marginPut (now (numbers .entry)) margin ⌝ }
+{
+    if margin < 0 {
+        numbers[STATES + 1] = (-1 - margin) as u64 + 1;
+        return;
+    }
+    numbers[STATES] = margin as u64;
+}
+
+// The margin of one reading.
+pub fn margin(answer: MarginAnswer, numbers: &mut Numbers)
+    ensures { λ _. ⌜ now (numbers .exit) ≡ numbersOf (marginSaid answer) ⌝ }
+{
+    match answer {
+        MarginAnswer::Taken(margin) => {
+            put_taken(numbers);
+            return put_margin(numbers, margin);
+        }
+        MarginAnswer::Refused(refusal) => return declined(refusal, numbers),
+    }
 }

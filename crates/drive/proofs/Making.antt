@@ -17,10 +17,12 @@ use Rattle.node.specs.Refines.{Refines, left, historyUpdate}
 use Rattle.head.specs.Words.{headOf}
 use Rattle.watched.specs.Nodes.{nodesOf}
 use Rattle.node.specs.Heard.{Heard}
-use Rattle.node.specs.InPlace.{InPlace, said, nmtSaid, dllSaid, errorSaid, nmtWords, dllWords, errorWords, cycleWords, withdrawWords, armWords, handOutWords}
+use Rattle.node.specs.InPlace.{InPlace, Reading, said, nmtSaid, dllSaid, errorSaid, rangeSaid, marginSaid, nmtWords, dllWords, errorWords, cycleWords, withdrawWords, armWords, handOutWords}
 use Rattle.node.specs.declared.calls.NmtEventAnswer.{NmtEventAnswer}
 use Rattle.node.specs.declared.calls.DllEventAnswer.{DllEventAnswer}
 use Rattle.node.specs.declared.calls.ErrorAnswer.{ErrorAnswer}
+use Rattle.node.specs.declared.range.RangeAnswer.{RangeAnswer}
+use Rattle.node.specs.declared.range.MarginAnswer.{MarginAnswer}
 use Rattle.tick.specs.declared.tick.TickAnswer.{TickAnswer}
 use Rattle.tick.specs.TickIn.{tickSaid, TickedIn}
 use Rattle.node.specs.Loaded.{LoadedIn}
@@ -94,3 +96,16 @@ pub made-heard :
     Made ws q m ns k (Call.heard n t (watchedOf (nodesOf ns) k)) (says (said r) (watchedOf (nodesOf ns′) k)) ws q m ns′
 made-heard {ns} {ns′} ws q m k n t r e =
     Made.heard ([], tt) (lying ns, (k, (n, (t, tt)))) r (lying ns′, (k, (n, (t, tt)))) e
+
+module _ {ws : List ℕ} (q m ns : List ℕ) (k : ℕ) where
+  pub made-range :
+      (a b : ℕ) (r : RangeAnswer) →
+      Reading ws (Call.range a b) (rangeSaid r) →
+      Made ws q m ns k (Call.range a b) (saysOnly (rangeSaid r)) ws q m ns
+  made-range a b r e = Made.range ([], tt) (lying ws, (a, (b, tt))) r (lying ws, (a, (b, tt))) e
+
+  pub made-margin :
+      (t : ℕ) (r : MarginAnswer) →
+      Reading ws (Call.margin t) (marginSaid r) →
+      Made ws q m ns k (Call.margin t) (saysOnly (marginSaid r)) ws q m ns
+  made-margin t r e = Made.margin ([], tt) (lying ws, (t, tt)) r (lying ws, (t, tt)) e

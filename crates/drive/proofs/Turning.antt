@@ -12,7 +12,7 @@ use borrow.Author.Tests.{ne-eqb, ltb-true, ltb-false}
 use Rattle.types.specs.Pick.{pick}
 use Rattle.node.specs.declared.load.DictionaryUpdate.{DictionaryUpdate}
 use Rattle.watched.specs.declared.nodes.WatchedNode.{WatchedNode}
-use Rattle.node.specs.Plain.{Call, nmtEvent, dllEvent, error, cycleComplete, withdraw, heard, handOut, load, arm, tick}
+use Rattle.node.specs.Plain.{Call, nmtEvent, dllEvent, error, cycleComplete, withdraw, heard, handOut, load, arm, tick, range, margin}
 use Rattle.node.specs.Run.{Said}
 use Rattle.node.specs.Refines.{historyUpdate}
 use Rattle.drive.specs.declared.Row.{Row}
@@ -70,12 +70,20 @@ module _ (r : Row) (ws : List WatchedNode) (bytes : List ℕ) where
   unfolding callOf
   call-9 h = rw h
 
+  pub call-11 : r .tag ≡ 11 → callOf r ws bytes ≡ range (r .a) (r .b)
+  unfolding callOf
+  call-11 h = rw h
+
+  pub call-12 : r .tag ≡ 12 → callOf r ws bytes ≡ margin (r .a)
+  unfolding callOf
+  call-12 h = rw h
+
   pub call-else :
       (r .tag ≡ 0 → ⊥) → (r .tag ≡ 1 → ⊥) → (r .tag ≡ 2 → ⊥) → (r .tag ≡ 3 → ⊥) → (r .tag ≡ 4 → ⊥) → (r .tag ≡ 5 → ⊥) →
-      (r .tag ≡ 6 → ⊥) → (r .tag ≡ 7 → ⊥) → (r .tag ≡ 9 → ⊥) → callOf r ws bytes ≡ arm (r .a)
+      (r .tag ≡ 6 → ⊥) → (r .tag ≡ 7 → ⊥) → (r .tag ≡ 9 → ⊥) → (r .tag ≡ 11 → ⊥) → (r .tag ≡ 12 → ⊥) → callOf r ws bytes ≡ arm (r .a)
   unfolding callOf
-  call-else a b c d e f g h i =
-      rw (ne-eqb (r .tag) 0 a, ne-eqb (r .tag) 1 b, ne-eqb (r .tag) 2 c, ne-eqb (r .tag) 3 d, ne-eqb (r .tag) 4 e, ne-eqb (r .tag) 5 f, ne-eqb (r .tag) 6 g, ne-eqb (r .tag) 7 h, ne-eqb (r .tag) 9 i)
+  call-else a b c d e f g h i j k =
+      rw (ne-eqb (r .tag) 0 a, ne-eqb (r .tag) 1 b, ne-eqb (r .tag) 2 c, ne-eqb (r .tag) 3 d, ne-eqb (r .tag) 4 e, ne-eqb (r .tag) 5 f, ne-eqb (r .tag) 6 g, ne-eqb (r .tag) 7 h, ne-eqb (r .tag) 9 i, ne-eqb (r .tag) 11 j, ne-eqb (r .tag) 12 k)
 
 -- a number that is cut
 pub cut-fits : (n most r : ℕ) → r ≡ pick (ltb n most) n most → r ≤ most

@@ -19,7 +19,7 @@ use Rattle.node.specs.declared.load.ObjectUpdate.the-variants as object
 use Rattle.node.specs.declared.load.DictionaryUpdate.{DictionaryUpdate}
 use Rattle.watched.specs.declared.nodes.WatchedNode.{WatchedNode}
 use Rattle.watched.specs.Watched.{watchedOf}
-use Rattle.node.specs.Plain.{Call, nmtEvent, dllEvent, error, cycleComplete, withdraw, heard, handOut, load, arm, tick, Answer, refused, taken, nmtAnswer, dllAnswer, errorAnswer, cycleAnswer, handOutAnswer, tickAnswer}
+use Rattle.node.specs.Plain.{Call, nmtEvent, dllEvent, error, cycleComplete, withdraw, heard, handOut, load, arm, tick, range, margin, Answer, refused, taken, nmtAnswer, dllAnswer, errorAnswer, cycleAnswer, handOutAnswer, tickAnswer, rangeAnswer, marginAnswer}
 use Rattle.node.specs.Run.{Said}
 use Rattle.node.specs.Refines.{historyUpdate}
 use Rattle.watched.specs.Nodes.{nodesOf}
@@ -76,7 +76,8 @@ callOf r ws bytes =
     (pick (eqb (r .tag) 5) (heard (byteOf (r .a)) (r .b) ws)
     (pick (eqb (r .tag) 6) handOut
     (pick (eqb (r .tag) 7) (load (valuesOf r) (historyUpdate (eqb (r .h) 1) (partOf r bytes)))
-    (pick (eqb (r .tag) 9) (tick (r .a) ws) (arm (r .a))))))))))
+    (pick (eqb (r .tag) 9) (tick (r .a) ws)
+    (pick (eqb (r .tag) 11) (range (r .a) (r .b)) (pick (eqb (r .tag) 12) (margin (r .a)) (arm (r .a))))))))))))
 
 -- A row of tag 10 is no call: it sets what is lent next. The a-th of the 32 places gets the number b, the timeout c and the time d; past them none does. Then e
 -- nodes are watched.
@@ -111,6 +112,8 @@ numberOf (errorAnswer a s es) = 0
 numberOf (cycleAnswer b) = 0
 numberOf (handOutAnswer f) = 0
 numberOf (tickAnswer es) = 0
+numberOf (rangeAnswer v) = 0
+numberOf (marginAnswer z) = 0
 
 abbrev pub numbers : List Said → List ℕ
 numbers ss = map (λ (s : Said). numberOf (s .answer)) ss

@@ -32,6 +32,10 @@ use node::load::CounterUpdate;
 use node::load::DictionaryUpdate;
 use node::load::ObjectUpdate;
 use node::load::load;
+use node::range::MarginAnswer;
+use node::range::RangeAnswer;
+use node::range::soc_margin;
+use node::range::soc_range;
 use start::start::start;
 use tick::tick::TickAnswer;
 use tick::tick::process_tick;
@@ -217,6 +221,34 @@ fn arm_turn(head: &mut Head, time: u64) -> u64
     number(arm(head, time))
 }
 
+// The SoC between two readings.
+fn range_turn(head: &Head, earliest: u64, latest: u64) -> u64
+    ensures { λ r. ⌜ ((q m ns : List ℕ) (k : ℕ) → Turned (now (head .entry)) q m ns k (Call.range earliest latest) r (now (head .entry)) q m ns) ⌝ }
+{
+    match soc_range(head, earliest, latest) {
+        RangeAnswer::Taken(_) => {
+            return 0;
+        }
+        RangeAnswer::Refused(refusal) => {
+            return refusal.number() as u64;
+        }
+    }
+}
+
+// The margin of a reading.
+fn margin_turn(head: &Head, time: u64) -> u64
+    ensures { λ r. ⌜ ((q m ns : List ℕ) (k : ℕ) → Turned (now (head .entry)) q m ns k (Call.margin time) r (now (head .entry)) q m ns) ⌝ }
+{
+    match soc_margin(head, time) {
+        MarginAnswer::Taken(_) => {
+            return 0;
+        }
+        MarginAnswer::Refused(refusal) => {
+            return refusal.number() as u64;
+        }
+    }
+}
+
 // The oldest entry is handed out.
 fn hand_out_turn(head: &mut Head, queue: &[u8; 640]) -> u64
     ensures { λ r. ⌜ ((m ns : List ℕ) (k : ℕ) → Turned (now (head .entry)) (now (queue .entry)) m ns k Call.handOut r (now (head .exit)) (now (queue .entry)) m ns) ⌝ }
@@ -286,6 +318,12 @@ fn head_call(head: &mut Head, row: Row) -> u64
     }
     if row.tag == 4 {
         return withdraw_turn(head);
+    }
+    if row.tag == 11 {
+        return range_turn(head, row.a, row.b);
+    }
+    if row.tag == 12 {
+        return margin_turn(head, row.a);
     }
     arm_turn(head, row.a)
 }

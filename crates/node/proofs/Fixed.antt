@@ -4,6 +4,7 @@ use Prim.Native.Nat.{ℕ}
 use mathlib.Core.Path.{_≡_, refl, sym, ap, _∙_}
 use mathlib.Core.Bool.{Bool, true, false, true≢false}
 use mathlib.Core.List.{List, []}
+use lib.IntN.{ℤ, pos}
 use Rattle.types.proofs.Refused.{number-fixes}
 use Rattle.types.proofs.Reported.{reported-fixes}
 use Rattle.types.specs.declared.frame.error.types.DllError.{DllError}
@@ -19,8 +20,14 @@ use Rattle.node.specs.declared.calls.DllEventAnswer.{DllEventAnswer}
 use Rattle.node.specs.declared.calls.DllEventAnswer.the-variants as dll-answer
 use Rattle.node.specs.declared.calls.ErrorAnswer.{ErrorAnswer}
 use Rattle.node.specs.declared.calls.ErrorAnswer.the-variants as error-answer
-use Rattle.node.specs.Plain.{Call, Answer, refused, taken, nmtAnswer, dllAnswer, errorAnswer, cycleAnswer, handOutAnswer, tickAnswer}
-use Rattle.node.specs.InPlace.{InPlace, said, nmtSaid, dllSaid, errorSaid}
+use Rattle.node.specs.declared.range.SocVerdict.{SocVerdict}
+use Rattle.node.specs.declared.range.SocVerdict.the-variants.{Open}
+use Rattle.node.specs.declared.range.RangeAnswer.{RangeAnswer}
+use Rattle.node.specs.declared.range.RangeAnswer.the-variants as range-answer
+use Rattle.node.specs.declared.range.MarginAnswer.{MarginAnswer}
+use Rattle.node.specs.declared.range.MarginAnswer.the-variants as margin-answer
+use Rattle.node.specs.Plain.{Call, Answer, refused, taken, nmtAnswer, dllAnswer, errorAnswer, cycleAnswer, handOutAnswer, tickAnswer, rangeAnswer, marginAnswer}
+use Rattle.node.specs.InPlace.{InPlace, said, nmtSaid, dllSaid, errorSaid, rangeSaid, marginSaid}
 
 -- a call leaves one answer and one head
 pub in-place-fixes :
@@ -45,6 +52,33 @@ parts (errorAnswer a s es) = record { declines = false; refusal = 0; errors = es
 parts (cycleAnswer b) = record { declines = false; refusal = 0; errors = []; reset = record { states = []; ranges = [] }; action = None; signal = b }
 parts (handOutAnswer f) = record { declines = false; refusal = 0; errors = []; reset = record { states = []; ranges = [] }; action = None; signal = false }
 parts (tickAnswer es) = record { declines = false; refusal = 0; errors = es; reset = record { states = []; ranges = [] }; action = None; signal = false }
+parts (rangeAnswer v) = record { declines = false; refusal = 0; errors = []; reset = record { states = []; ranges = [] }; action = None; signal = false }
+parts (marginAnswer z) = record { declines = false; refusal = 0; errors = []; reset = record { states = []; ranges = [] }; action = None; signal = false }
+
+-- the verdict and the margin, where an answer is one
+abbrev pub verdictIn : Answer → SocVerdict
+verdictIn (refused n) = Open
+verdictIn taken = Open
+verdictIn (nmtAnswer es p) = Open
+verdictIn (dllAnswer es) = Open
+verdictIn (errorAnswer a s es) = Open
+verdictIn (cycleAnswer b) = Open
+verdictIn (handOutAnswer f) = Open
+verdictIn (tickAnswer es) = Open
+verdictIn (rangeAnswer v) = v
+verdictIn (marginAnswer z) = Open
+
+abbrev marginIn : Answer → ℤ
+marginIn (refused n) = pos 0
+marginIn taken = pos 0
+marginIn (nmtAnswer es p) = pos 0
+marginIn (dllAnswer es) = pos 0
+marginIn (errorAnswer a s es) = pos 0
+marginIn (cycleAnswer b) = pos 0
+marginIn (handOutAnswer f) = pos 0
+marginIn (tickAnswer es) = pos 0
+marginIn (rangeAnswer v) = pos 0
+marginIn (marginAnswer z) = z
 
 -- one that is declined and one that is taken are not alike
 pub apart : {A : Type 0} {a b : Answer} → a ≡ b → parts a .declines ≡ true → parts b .declines ≡ false → A
@@ -85,3 +119,15 @@ error-said-fixed (error-answer.Taken t) (error-answer.Taken u) e =
 error-said-fixed (error-answer.Taken t) (error-answer.Refused s) e = apart (sym e) refl refl
 error-said-fixed (error-answer.Refused r) (error-answer.Taken u) e = apart e refl refl
 error-said-fixed (error-answer.Refused r) (error-answer.Refused s) e = ap error-answer.Refused (number-fixes (refusal-of e))
+
+pub range-said-fixed : (a b : RangeAnswer) → rangeSaid a ≡ rangeSaid b → a ≡ b
+range-said-fixed (range-answer.Taken v) (range-answer.Taken w) e = ap (λ (a : Answer). range-answer.Taken (verdictIn a)) e
+range-said-fixed (range-answer.Taken v) (range-answer.Refused s) e = apart (sym e) refl refl
+range-said-fixed (range-answer.Refused r) (range-answer.Taken w) e = apart e refl refl
+range-said-fixed (range-answer.Refused r) (range-answer.Refused s) e = ap range-answer.Refused (number-fixes (refusal-of e))
+
+pub margin-said-fixed : (a b : MarginAnswer) → marginSaid a ≡ marginSaid b → a ≡ b
+margin-said-fixed (margin-answer.Taken y) (margin-answer.Taken z) e = ap (λ (a : Answer). margin-answer.Taken (marginIn a)) e
+margin-said-fixed (margin-answer.Taken y) (margin-answer.Refused s) e = apart (sym e) refl refl
+margin-said-fixed (margin-answer.Refused r) (margin-answer.Taken z) e = apart e refl refl
+margin-said-fixed (margin-answer.Refused r) (margin-answer.Refused s) e = ap margin-answer.Refused (number-fixes (refusal-of e))

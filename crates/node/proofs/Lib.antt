@@ -3,6 +3,9 @@ pub mod Refining
 pub mod Watch
 pub mod Hearing
 pub mod Loading
+pub mod Signed
+pub mod Ranging
 pub mod Links
 pub mod Examples
 pub mod Fixed
+pub mod Verdicts

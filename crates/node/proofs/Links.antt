@@ -12,10 +12,12 @@ use Rattle.node.specs.Plain.{Call, taken, cycleAnswer, handOutAnswer}
 use Rattle.node.specs.Refines.{Refines, left, historyUpdate}
 use Rattle.head.specs.Words.{headOf}
 use Rattle.watched.specs.Nodes.{nodesOf}
-use Rattle.node.specs.InPlace.{said, nmtSaid, dllSaid, errorSaid}
+use Rattle.node.specs.InPlace.{said, nmtSaid, dllSaid, errorSaid, rangeSaid, marginSaid}
 use Rattle.node.specs.declared.calls.NmtEventAnswer.{NmtEventAnswer}
 use Rattle.node.specs.declared.calls.DllEventAnswer.{DllEventAnswer}
 use Rattle.node.specs.declared.calls.ErrorAnswer.{ErrorAnswer}
+use Rattle.node.specs.declared.range.RangeAnswer.{RangeAnswer}
+use Rattle.node.specs.declared.range.MarginAnswer.{MarginAnswer}
 use Rattle.node.proofs.calls.nmt_event.Reads as nmt-event-reads
 use Rattle.node.proofs.calls.dll_event.Reads as dll-event-reads
 use Rattle.node.proofs.calls.handle_error.Reads as handle-error-reads
@@ -25,6 +27,8 @@ use Rattle.node.proofs.calls.hand_out.Reads as hand-out-reads
 use Rattle.node.proofs.calls.arm.Reads as arm-reads
 use Rattle.node.proofs.heard.heard.Reads as heard-reads
 use Rattle.node.proofs.load.load.Reads as load-reads
+use Rattle.node.proofs.range.soc_range.Reads as soc-range-reads
+use Rattle.node.proofs.range.soc_margin.Reads as soc-margin-reads
 
 -- κs: the lifetimes; a: the arguments; o: what is returned; x: what is lent, as it is left
 pub nmt-event-refines :
@@ -75,6 +79,17 @@ pub load-refines :
     (left (headOf (now (x .0))) taken) q (now (x .1 .0)) []
 load-refines κs a o x e = e .refines
 
+-- the two that are lent the words to read alone leave them
+pub soc-range-refines :
+    (κs : _) (a : _) (o : RangeAnswer) (x : _) → soc-range-reads.Learnt κs a o x → (q m : List ℕ) →
+    Refines (headOf (now (a .0))) q m (Call.range (a .1 .0) (a .1 .1 .0)) (left (headOf (now (a .0))) (rangeSaid o)) q m []
+soc-range-refines κs a o x e = e .refines
+
+pub soc-margin-refines :
+    (κs : _) (a : _) (o : MarginAnswer) (x : _) → soc-margin-reads.Learnt κs a o x → (q m : List ℕ) →
+    Refines (headOf (now (a .0))) q m (Call.margin (a .1 .0)) (left (headOf (now (a .0))) (marginSaid o)) q m []
+soc-margin-refines κs a o x e = e .refines
+
 pub asks-nothing :
     ((κs : _) (a : _) → nmt-event-reads.Asked κs a)
     × ((κs : _) (a : _) → dll-event-reads.Asked κs a)
@@ -85,5 +100,7 @@ pub asks-nothing :
     × ((κs : _) (a : _) → hand-out-reads.Asked κs a)
     × ((κs : _) (a : _) → load-reads.Asked κs a)
     × ((κs : _) (a : _) → arm-reads.Asked κs a)
+    × ((κs : _) (a : _) → soc-range-reads.Asked κs a)
+    × ((κs : _) (a : _) → soc-margin-reads.Asked κs a)
 asks-nothing =
-    (λ κs a. tt, λ κs a. tt, λ κs a. tt, λ κs a. tt, λ κs a. tt, λ κs a. tt, λ κs a. tt, λ κs a. tt, λ κs a. tt)
+    (λ κs a. tt, λ κs a. tt, λ κs a. tt, λ κs a. tt, λ κs a. tt, λ κs a. tt, λ κs a. tt, λ κs a. tt, λ κs a. tt, λ κs a. tt, λ κs a. tt)

@@ -23,7 +23,7 @@ use Rattle.dll.specs.Dll as Dll
 use Rattle.counters.specs.Counters as Counters
 use Rattle.counters.specs.declared.counters.HandledError.{HandledError}
 use Rattle.entries.specs.Queue.{handedOut}
-use Rattle.node.specs.Plain.{Call, Answer, refused, taken, nmtAnswer, dllAnswer, errorAnswer}
+use Rattle.node.specs.Plain.{Call, Answer, refused, taken, nmtAnswer, dllAnswer, errorAnswer, rangeAnswer, marginAnswer}
 use Rattle.watched.specs.Watched.{inTime}
 use Rattle.node.specs.Steps.{armed}
 use Rattle.node.specs.Refines.{Refines, SamePlaces, left}
@@ -37,6 +37,10 @@ use Rattle.node.specs.declared.calls.DllEventAnswer.the-variants as dll-
 use Rattle.node.specs.declared.calls.ErrorTaken.{ErrorTaken}
 use Rattle.node.specs.declared.calls.ErrorAnswer.{ErrorAnswer}
 use Rattle.node.specs.declared.calls.ErrorAnswer.the-variants as error-answer
+use Rattle.node.specs.declared.range.RangeAnswer.{RangeAnswer}
+use Rattle.node.specs.declared.range.RangeAnswer.the-variants as range-answer
+use Rattle.node.specs.declared.range.MarginAnswer.{MarginAnswer}
+use Rattle.node.specs.declared.range.MarginAnswer.the-variants as margin-answer
 use Rattle.head.specs.Places as at
 use Rattle.head.specs.Words.{word, stateOf, nmtOf, dllState, counterAt, errorsOf, socOf, odOf, queueOf, headOf}
 use Rattle.head.specs.Written.{nmtWritten, forgottenWritten, counterWritten, levelsWritten, socWritten, queueWritten}
@@ -47,6 +51,10 @@ pub record InPlace (ws : List ℕ) (c : Call) (a : Answer) (ws′ known : List �
   pub refines : (q m : List ℕ) → Refines (headOf ws) q m c (left (headOf ws′) a) q m []
   pub places : SamePlaces (headOf ws) (headOf ws′)
   pub words : ws′ ≡ known
+
+-- Of a call that is lent the words to read alone: it leaves them.
+abbrev pub Reading : List ℕ → Call → Answer → Type 0
+Reading ws c a = InPlace ws c a ws ws
 
 -- the answers
 abbrev pub said : CallAnswer → Answer
@@ -64,6 +72,14 @@ dllSaid (dll-answer.Refused r) = refused (refusalNumber r)
 abbrev pub errorSaid : ErrorAnswer → Answer
 errorSaid (error-answer.Taken t) = errorAnswer (t .action) (t .signal) (reported (t .logged))
 errorSaid (error-answer.Refused r) = refused (refusalNumber r)
+
+abbrev pub rangeSaid : RangeAnswer → Answer
+rangeSaid (range-answer.Taken v) = rangeAnswer v
+rangeSaid (range-answer.Refused r) = refused (refusalNumber r)
+
+abbrev pub marginSaid : MarginAnswer → Answer
+marginSaid (margin-answer.Taken z) = marginAnswer z
+marginSaid (margin-answer.Refused r) = refused (refusalNumber r)
 
 -- an error's answer without the counters
 abbrev pub replied : HandledError → ErrorTaken

@@ -3,6 +3,7 @@
 use Prim.Native.Nat.{ℕ}
 use mathlib.Core.Bool.{Bool}
 use mathlib.Core.List.{List}
+use lib.IntN.{ℤ}
 use Rattle.types.specs.declared.nmt.events.NmtEvent.{NmtEvent}
 use Rattle.types.specs.declared.frame.error.types.DllError.{DllError}
 use Rattle.types.specs.declared.frame.error.types.NmtAction.{NmtAction}
@@ -17,6 +18,7 @@ use Rattle.entries.specs.declared.status_response.FoundEntry.{FoundEntry}
 use Rattle.head.specs.declared.state.SocWatch.{SocWatch}
 use Rattle.head.specs.declared.state.Dictionary.{Dictionary}
 use Rattle.node.specs.declared.load.DictionaryUpdate.{DictionaryUpdate}
+use Rattle.node.specs.declared.range.SocVerdict.{SocVerdict}
 use Rattle.watched.specs.declared.nodes.WatchedNode.{WatchedNode}
 
 -- "Kept of CnContext": the two machines, the error counters, the last SoC time, the check, the deadline and
@@ -54,6 +56,10 @@ pub data Call : Type 0 where
   arm : ℕ → Call
   -- now
   tick : ℕ → List WatchedNode → Call
+  -- the earliest and the latest reading of a clock (document 02, No. 13)
+  range : ℕ → ℕ → Call
+  -- one reading
+  margin : ℕ → Call
 
 -- what start is given
 pub record Start : Type 0 where
@@ -80,6 +86,10 @@ pub data Answer : Type 0 where
   handOutAnswer : FoundEntry → Answer
   -- what a tick logged
   tickAnswer : List DllError → Answer
+  -- lost, kept or open
+  rangeAnswer : SocVerdict → Answer
+  -- a signed number
+  marginAnswer : ℤ → Answer
 
 -- the NMT event that a call gave the machine, or none
 pub data EventMade : Type 0 where

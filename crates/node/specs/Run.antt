@@ -8,9 +8,10 @@ use Rattle.counters.specs.Counters.{completed}
 use Rattle.counters.specs.Marks.{cycleMarks}
 use Rattle.watched.specs.declared.nodes.WatchedNode.{WatchedNode}
 use Rattle.watched.specs.Watched.{heardAt}
-use Rattle.node.specs.Plain.{Plain, Call, nmtEvent, dllEvent, error, cycleComplete, withdraw, heard, handOut, load, arm, tick, Answer, taken, Step}
+use Rattle.node.specs.Plain.{Plain, Call, nmtEvent, dllEvent, error, cycleComplete, withdraw, heard, handOut, load, arm, tick, range, margin, Answer, taken, Step}
 use Rattle.node.specs.Steps.{tried, withNmt, withSoc, withValues, answers, declines, nmtStep, dllStep, errorStep, cycleTaken, withdrawn, withdrawTests, heardTests, handOutStep, updated, updatedHistory, armTests, armed}
 use Rattle.node.specs.Tick.{tickStep}
+use Rattle.node.specs.Range.{rangeStep, marginStep}
 
 -- what the plain head does at a call
 abbrev pub step : Plain → Call → Step
@@ -24,6 +25,8 @@ step p handOut = handOutStep p
 step p (load values h) = answers (withValues p (updated (p .od) values) (updatedHistory (p .history) h)) taken []
 step p (tick t ws) = tickStep p t ws
 step p (arm t) = tried (armTests t) (declines p []) (answers (withSoc p (armed (p .soc) (p .od) t)) taken [])
+step p (range earliest latest) = rangeStep p earliest latest
+step p (margin t) = marginStep p t
 
 -- a list of calls, each on the head that the last one left: the head after it
 unfoldable pub stepAll : Plain → List Call → Plain

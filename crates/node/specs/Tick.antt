@@ -275,6 +275,10 @@ withinLimit p t =
     pick (both (ltb 0 (cycleOf (p .od))) (ltb t (lastSoc p + limitOf (p .od)))) (withDeadline p (At (lastSoc p + limitOf (p .od))))
     (rescheduled p t)
 
+-- "Elapsed strictly above the limit": a loss
+abbrev pub isLoss : Plain → ℕ → Bool
+isLoss p t = ltb (limitOf (p .od)) (elapsed p t)
+
 -- "Elapsed strictly above the limit is a SocTimeout with PReq expected."
 abbrev pub socTimeout : Plain → Dll.CsOutcome
 socTimeout p = Dll.csProcessed (p .dll) SocTimeout (p .nmt .«current_state») true
@@ -290,7 +294,7 @@ lost p t = afterLoss t (dealAll t (withDll p (socTimeout p .state)) (socTimeout 
 unfoldable pub socCheck : Plain → ℕ → Ticked
 socCheck p t =
     pick (p .soc .«soc_timeout_check_active»)
-    (pick (ltb (limitOf (p .od)) (elapsed p t)) (lost p t) (goesOn (withinLimit p t))) (goesOn p)
+    (pick (isLoss p t) (lost p t) (goesOn (withinLimit p t))) (goesOn p)
 
 -- "A deadline passes at now ≥ deadline and is used up."
 abbrev pub usedUp : Plain → ℕ → Ticked

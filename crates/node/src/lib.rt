@@ -4,4 +4,5 @@
 pub mod calls;
 pub mod heard;
 pub mod load;
+pub mod range;
 pub mod timing;

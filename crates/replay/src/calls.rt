@@ -77,6 +77,10 @@ fn error(head: &mut Head, kind: u64, a: u8, b: u8, answer: &mut Numbers) {
     answers::error(node::calls::handle_error(head, kind, a, b), answer)
 }
 
+fn range(head: &Head, earliest: u64, latest: u64, answer: &mut Numbers) {
+    answers::range(node::range::soc_range(head, earliest, latest), answer)
+}
+
 fn tick(
     head: &mut Head,
     queue: &mut [u8; 640],
@@ -147,6 +151,8 @@ fn call_on_head(key: u8, n: u64, given: Given, head: &mut Head, answer: &mut Num
         b'a' => answers::call(node::calls::arm(head, n), answer),
         b's' => read_state(n, answer),
         b'q' => read_kind(n, answer),
+        b'g' => range(head, n, number(given, 1), answer),
+        b'm' => answers::margin(node::range::soc_margin(head, n), answer),
         _ => read_command(n, answer),
     }
 }

@@ -59,13 +59,14 @@ fn say_number(out: &mut Buffer, n: u64) {
     say(out, &text[..k]);
 }
 
-// A number by its mark: # decimal, % and @ in two and in four hexadecimal digits, - not at all. What opens and closes a group is not
-// printed, and any other character is printed as it is.
+// A number by its mark: # decimal, % and @ in two and in four hexadecimal digits, - not at all. ~ is a minus sign. What opens and closes
+// a group is not printed, and any other character is printed as it is.
 fn say_mark(out: &mut Buffer, mark: u8, n: u64) {
     match mark {
         b'#' => say_number(out, n),
         b'%' => say(out, &forms::hex2(n)),
         b'@' => say(out, &forms::hex4(n)),
+        b'~' => put(out, b'-'),
         b'-' | b'[' | b']' | b'{' | b'}' => {}
         _ => put(out, mark),
     }

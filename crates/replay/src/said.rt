@@ -21,6 +21,8 @@ pub(crate) fn say_as(out: &mut Buffer, key: u8, answer: &Numbers) {
         s----(taken %)\n;\
         k----(taken %)\n;\
         q----(taken #)\n;\
+        g----(taken [lost-][kept-][open-])\n;\
+        m----(taken [#][~#])\n;\
         ?(unreadable #)\n;\
         *(taken)\n",
         key,

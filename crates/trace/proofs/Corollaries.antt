@@ -26,9 +26,10 @@ use Rattle.head.specs.Words.{headOf}
 use Rattle.watched.specs.declared.nodes.WatchedNode.{WatchedNode}
 use Rattle.watched.specs.Watched.{latest, inTime, heardAt}
 use Rattle.node.specs.declared.calls.CallAnswer.the-variants as answer
-use Rattle.node.specs.Plain.{Plain, Call, nmtEvent, dllEvent, error, cycleComplete, withdraw, heard, handOut, load, arm, tick, Start, taken, Step}
+use Rattle.node.specs.Plain.{Plain, Call, nmtEvent, dllEvent, error, cycleComplete, withdraw, heard, handOut, load, arm, tick, range, margin, Start, taken, rangeAnswer, marginAnswer, Step}
 use Rattle.node.specs.Steps.{forgets, answers, declines, withNmt, withSoc, nmtStep, dllStep, errorStep, withdrawn, heardTests, armed, cycleOf, fresh}
 use Rattle.node.specs.Tick.{tickTests, tickTaken, tickAnswered, lookedAt, lastSoc}
+use Rattle.node.specs.Range.{rangeTests, marginTests, verdictOf, marginOf}
 use Rattle.node.specs.Run.{step, stepAll, Said}
 use Rattle.trace.specs.Claim.{Claim}
 use Rattle.trace.specs.Driven.{Made, Began, Driven, stop, next}
@@ -126,6 +127,8 @@ module _ (p : Plain) (h : last p ≤ latest) where
   timed (tick t ws) =
       tried-by Timed (tickTests p t ws) (declines p ws) (tickAnswered (tickTaken p t ws) (lookedAt p t ws)) (λ r. h)
       (subst (λ (n : ℕ). n ≤ latest) (sym (tick-part p t ws .last)) h)
+  timed (range a b) = tried-by Timed (rangeTests a b) (declines p []) (answers p (rangeAnswer (verdictOf p a b)) []) (λ r. h) h
+  timed (margin t) = tried-by Timed (marginTests t) (declines p []) (answers p (marginAnswer (marginOf p t)) []) (λ r. h) h
 
 timed-all : (p : Plain) (cs : List Call) → last p ≤ latest → last (stepAll p cs) ≤ latest
 unfolding stepAll

@@ -37,9 +37,10 @@ use Rattle.types.specs.declared.frame.error.types.DllErrorRead.the-variants as 
 use Rattle.types.proofs.Reading.{Each, reads-holds}
 use Rattle.watched.specs.declared.nodes.WatchedNode.{WatchedNode}
 use Rattle.watched.specs.Watched.{inTime, heardAt, unheard}
-use Rattle.node.specs.Plain.{Plain, Call, nmtEvent, dllEvent, error, cycleComplete, withdraw, heard, handOut, load, arm, tick, Answer, refused, taken, Step, Start, Begun, begins, FirstStep}
+use Rattle.node.specs.Plain.{Plain, Call, nmtEvent, dllEvent, error, cycleComplete, withdraw, heard, handOut, load, arm, tick, range, margin, Answer, refused, taken, rangeAnswer, marginAnswer, Step, Start, Begun, begins, FirstStep}
 use Rattle.node.specs.Steps.{Test, tried, answers, declines, withNmt, withSoc, nmtStep, dllStep, errorStep, withdrawn, withdrawTests, heardTests, armTests, armed, fresh, startTests, started}
 use Rattle.node.specs.Tick.{tickTests, tickTaken, tickAnswered, lookedAt}
+use Rattle.node.specs.Range.{rangeTests, marginTests, verdictOf, marginOf}
 use Rattle.node.specs.Run.{step, Said}
 use Rattle.node.specs.Refines.{plain, Refines, left, Rings, rings, joinsAll}
 use Rattle.node.specs.InPlace.{said, unlessRefused, withdrawWords, nmtWords, dllWords, errorWords, armWords}
@@ -61,6 +62,8 @@ use Rattle.node.proofs.calls.hand_out.Reads as hand-out-reads
 use Rattle.node.proofs.calls.arm.Reads as arm-reads
 use Rattle.node.proofs.heard.heard.Reads as heard-reads
 use Rattle.node.proofs.load.load.Reads as load-reads
+use Rattle.node.proofs.range.soc_range.Reads as soc-range-reads
+use Rattle.node.proofs.range.soc_margin.Reads as soc-margin-reads
 use Rattle.node.proofs.Links as node-links
 use Rattle.start.proofs.start.start.Reads as start-reads
 use Rattle.start.proofs.Links as start-links
@@ -168,6 +171,10 @@ plain-declines p (arm t) r h =
     tried-declines (5 ∷ []) p [] (armTests t) (answers (withSoc p (armed (p .soc) (p .od) t)) taken []) (refl, tt) refl r h
 plain-declines p (tick t ws) r h =
     tried-declines (3 ∷ 5 ∷ 6 ∷ []) p ws (tickTests p t ws) (tickAnswered (tickTaken p t ws) (lookedAt p t ws)) (refl, (refl, (refl, tt))) refl r h
+plain-declines p (range a b) r h =
+    tried-declines (5 ∷ 21 ∷ []) p [] (rangeTests a b) (answers p (rangeAnswer (verdictOf p a b)) []) (refl, (refl, (refl, tt))) refl r h
+plain-declines p (margin t) r h =
+    tried-declines (5 ∷ []) p [] (marginTests t) (answers p (marginAnswer (marginOf p t)) []) (refl, tt) refl r h
 
 -- the words that a declined call leaves
 nmt-words : (ws : List ℕ) (p : Plain) (x : NmtEventRead) (r : ℕ) → nmtStep p x .answer ≡ refused r → nmtWords ws x ≡ ws
@@ -259,6 +266,8 @@ demand-1 {q = q} {m = m} n (Made.arm κs a o x e) h =
 demand-1 n (Made.tick κs a o x e) h =
     let d = tick-declines o n (e .on) h in declined n (e .on .refines) h (d .0) (d .1) (d .2) (e .nodes ∙ tick-leaves o n h _ _)
 demand-1 n (Made.tickRun vs t o vs′ e) h = let d = tick-declines o n e h in declined n (e .refines) h (d .0) (d .1) (d .2) refl
+demand-1 {q = q} {m = m} n (Made.range κs a o x e) h = declined n (e .refines q m) h refl refl refl refl
+demand-1 {q = q} {m = m} n (Made.margin κs a o x e) h = declined n (e .refines q m) h refl refl refl refl
 
 -- AND OF A START, in either form: one of its numbers. That it is the plain start's, the first that applies, and that nothing has changed, is `start-declined`.
 abbrev Numbered : Begun → Type 0
@@ -295,12 +304,14 @@ module _ {M : Type 1} (𝓤 : URA M) (H : Heap 𝓤) (A : Atoms 𝓤) (mem : Mem
       × ((κs : _) (a : _) → hand-out-reads.Asked κs a)
       × ((κs : _) (a : _) → load-reads.Asked κs a)
       × ((κs : _) (a : _) → arm-reads.Asked κs a)
+      × ((κs : _) (a : _) → soc-range-reads.Asked κs a)
+      × ((κs : _) (a : _) → soc-margin-reads.Asked κs a)
       × ((κs : _) (a : _) → process-tick-reads.Asked κs a)
       × ((κs : _) (a : _) → tick-run.clauses 𝓤 H A mem run κs a .requires tt ≡ emp 𝓤)
       × ((κs : _) (a : _) → start-reads.Asked κs a)
       × ((κs : _) (a : _) → start-run.clauses 𝓤 H A mem run κs a .requires tt ≡ emp 𝓤)
   asks-nothing =
-      let (nmt, dll, errors, cycle, withdrawal, hears, hands, loads, arms) = node-links.asks-nothing in (
+      let (nmt, dll, errors, cycle, withdrawal, hears, hands, loads, arms, ranges, margins) = node-links.asks-nothing in (
         nmt,
         dll,
         errors,
@@ -311,6 +322,8 @@ module _ {M : Type 1} (𝓤 : URA M) (H : Heap 𝓤) (A : Atoms 𝓤) (mem : Mem
         hands,
         loads,
         arms,
+        ranges,
+        margins,
         tick-links.asks-nothing,
         lent-links.tick-asks-nothing 𝓤 H A mem run,
         start-links.asks-nothing,

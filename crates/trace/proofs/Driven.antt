@@ -43,6 +43,8 @@ refines {q = q} (Made.load κs a o x e) = Links.load-refines κs a o x e q
 refines {q = q} {m = m} (Made.arm κs a o x e) = Links.arm-refines κs a o x e q m
 refines (Made.tick κs a o x e) = process-tick-refines κs a o x e
 refines (Made.tickRun vs t o vs′ e) = e .refines
+refines {q = q} {m = m} (Made.range κs a o x e) = Links.soc-range-refines κs a o x e q m
+refines {q = q} {m = m} (Made.margin κs a o x e) = Links.soc-margin-refines κs a o x e q m
 
 pub follows :
     {ws ws′ q m q′ m′ : List ℕ} {cs : List Call} {ss : List Said} →

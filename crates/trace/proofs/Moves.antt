@@ -21,9 +21,10 @@ use Rattle.nmt.specs.Resets.{isReset}
 use Rattle.nmt.specs.Nmt.{processed}
 use Rattle.nmt.specs.declared.cn_state_machine.CnNmtStateMachine.{CnNmtStateMachine}
 use Rattle.watched.specs.Watched.{inTime, heardAt}
-use Rattle.node.specs.Plain.{Plain, Call, nmtEvent, dllEvent, error, cycleComplete, withdraw, heard, handOut, load, arm, tick, taken, EventMade, made, noEvent, Step}
+use Rattle.node.specs.Plain.{Plain, Call, nmtEvent, dllEvent, error, cycleComplete, withdraw, heard, handOut, load, arm, tick, range, margin, taken, rangeAnswer, marginAnswer, EventMade, made, noEvent, Step}
 use Rattle.node.specs.Steps.{answers, declines, withNmt, withSoc, forgets, nmtStep, dllStep, errorStep, withdrawn, heardTests, armTests, armed}
 use Rattle.node.specs.Tick.{tickTests, tickTaken, tickAnswered, lookedAt}
+use Rattle.node.specs.Range.{rangeTests, marginTests, verdictOf, marginOf}
 use Rattle.node.specs.Run.{step}
 use Rattle.trace.proofs.Ticking.{InTick, tick-part}
 use Rattle.trace.proofs.Shares.{tried-by}
@@ -73,3 +74,7 @@ moves p (arm t) =
 moves p (tick t ws) =
     tried-by (MovesTo p (tick t ws)) (tickTests p t ws) (declines p ws) (tickAnswered (tickTaken p t ws) (lookedAt p t ws)) (λ r. same)
     (ticks (tick-part p t ws .moves))
+moves p (range a b) =
+    tried-by (MovesTo p (range a b)) (rangeTests a b) (declines p []) (answers p (rangeAnswer (verdictOf p a b)) []) (λ r. same) same
+moves p (margin t) =
+    tried-by (MovesTo p (margin t)) (marginTests t) (declines p []) (answers p (marginAnswer (marginOf p t)) []) (λ r. same) same

@@ -32,9 +32,10 @@ use Rattle.node.specs.declared.load.CounterUpdate.the-variants.{Set, Keep}
 use Rattle.node.specs.declared.load.DictionaryUpdate.{DictionaryUpdate}
 use Rattle.watched.specs.declared.nodes.WatchedNode.{WatchedNode}
 use Rattle.watched.specs.Watched.{heardAt}
-use Rattle.node.specs.Plain.{Plain, HistoryUpdate, Call, nmtEvent, dllEvent, error, cycleComplete, withdraw, heard, handOut, load, arm, tick, taken, nmtAnswer, handOutAnswer, made, Step}
+use Rattle.node.specs.Plain.{Plain, HistoryUpdate, Call, nmtEvent, dllEvent, error, cycleComplete, withdraw, heard, handOut, load, arm, tick, range, margin, Answer, taken, nmtAnswer, handOutAnswer, rangeAnswer, marginAnswer, made, Step}
 use Rattle.node.specs.Steps.{Test, tried, answers, declines, forgets, withNmt, withSoc, nmtStep, dllStep, errorStep, withdrawn, heardTests, updatedCounter, updated, armTests, armed}
 use Rattle.node.specs.Tick.{Ticked, tickTests, tickTaken, tickAnswered, lookedAt}
+use Rattle.node.specs.Range.{rangeTests, marginTests, verdictOf, marginOf}
 use Rattle.node.specs.Run.{step}
 use Rattle.trace.specs.Tally.{Told, toldAt, handedBy, droppedBy, isFull, isSet, loadsCounter3}
 use Rattle.trace.specs.Claim.{Queued, still, kept, dropped, handed, Rule}
@@ -280,6 +281,22 @@ tick-shares p t ws =
     (λ r. declined p (tick t ws) ws r (λ w. refl))
     (tick-taken-shares p t ws (lookedAt p t ws) (tickTaken p t ws) (tick-part p t ws))
 
+-- what changes nothing owes nothing
+asked-shares :
+    (p : Plain) (c : Call) (ts : List (Test ℕ)) (a : Answer) →
+    handedBy a ≡ [] →
+    ((t : Step) (w : Told) → toldAt p c t w ≡ w) →
+    Shares p c (tried ts (declines p []) (answers p a []))
+asked-shares p c ts a h w =
+    tried-by (Shares p c) ts (declines p []) (answers p a []) (λ r. declined p c [] r (w (declines p [] r)))
+    (untouched p c (answers p a []) (record { queue = refl; crossings = refl; crossed = refl; handed = h; lost = λ l. refl }) refl (w (answers p a [])) refl refl)
+
+range-shares : (p : Plain) (a b : ℕ) → Shares p (range a b) (step p (range a b))
+range-shares p a b = asked-shares p (range a b) (rangeTests a b) (rangeAnswer (verdictOf p a b)) refl (λ t w. refl)
+
+margin-shares : (p : Plain) (t : ℕ) → Shares p (margin t) (step p (margin t))
+margin-shares p t = asked-shares p (margin t) (marginTests t) (marginAnswer (marginOf p t)) refl (λ t w. refl)
+
 -- each call
 pub shares : (p : Plain) (c : Call) → Shares p c (step p c)
 shares p (nmtEvent n) = nmt-shares p n (readEvent n) refl
@@ -292,6 +309,8 @@ shares p handOut = hand-out-shares p
 shares p (load v h) = load-shares p v h
 shares p (arm t) = arm-shares p t
 shares p (tick t ws) = tick-shares p t ws
+shares p (range a b) = range-shares p a b
+shares p (margin t) = margin-shares p t
 
 -- "none" is handed out exactly of an empty queue
 none-out :

@@ -214,6 +214,8 @@ brings long (Made.load κs a o x e) = brings-loaded (a .1 .1 .1 .0) (now (a .1 .
 brings long (Made.arm κs a o x e) = brings-none (e .places .history) refl
 brings long (Made.tick κs a o x e) = brings-ticked long (e .on)
 brings long (Made.tickRun vs t o vs′ e) = brings-ticked long e
+brings long (Made.range κs a o x e) = brings-none refl refl
+brings long (Made.margin κs a o x e) = brings-none refl refl
 
 -- and a list of them, between any two moments
 brings-all :

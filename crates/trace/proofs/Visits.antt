@@ -21,7 +21,7 @@ use Rattle.nmt.specs.Resets.{isReset, statesEntered}
 use Rattle.nmt.specs.Nmt.{enter, rowOf, applied, resetBy, processed}
 use Rattle.nmt.specs.declared.cn_state_machine.CnNmtStateMachine.{CnNmtStateMachine}
 use Rattle.head.proofs.Laws.{state-is}
-use Rattle.node.specs.Plain.{Plain, Call, nmtEvent, dllEvent, error, cycleComplete, withdraw, heard, handOut, load, arm, tick, Start, taken, EventMade}
+use Rattle.node.specs.Plain.{Plain, Call, nmtEvent, dllEvent, error, cycleComplete, withdraw, heard, handOut, load, arm, tick, range, margin, Start, taken, EventMade}
 use Rattle.node.specs.Steps.{answers, declines, withNmt, withdrawn, fresh}
 use Rattle.node.specs.Run.{step, stepAll}
 use Rattle.trace.specs.Tally.{Told, told, asks}
@@ -283,6 +283,8 @@ not-withdrawn p handOut h = refl
 not-withdrawn p (load v u) h = refl
 not-withdrawn p (arm t) h = refl
 not-withdrawn p (tick t ws) h = refl
+not-withdrawn p (range a b) h = refl
+not-withdrawn p (margin t) h = refl
 
 none-then :
     (p : Plain) (xs : List Call) (c : Call) → NoneWithdrawn p xs → both (isWithdraw c) (isTaken (step (stepAll p xs) c .answer)) ≡ false →

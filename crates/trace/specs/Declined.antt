@@ -9,11 +9,11 @@ use lib.Dec.{eqb}
 use Rattle.head.specs.Words.{headOf}
 use Rattle.watched.specs.declared.nodes.WatchedNode.{WatchedNode}
 use Rattle.watched.specs.Watched.{someOf}
-use Rattle.node.specs.Plain.{Call, nmtEvent, dllEvent, error, cycleComplete, withdraw, heard, handOut, load, arm, tick, refused}
+use Rattle.node.specs.Plain.{Call, nmtEvent, dllEvent, error, cycleComplete, withdraw, heard, handOut, load, arm, tick, range, margin, refused}
 use Rattle.node.specs.Run.{step, Said}
 use Rattle.node.specs.Refines.{plain}
 
--- the numbers that document 01 gives each call
+-- the numbers that document 01 gives each call; those of the last two are document 02's, No. 13
 abbrev pub refusalsOf : Call → List ℕ
 refusalsOf (nmtEvent n) = 4 ∷ []
 refusalsOf (dllEvent n x) = 4 ∷ []
@@ -25,6 +25,8 @@ refusalsOf handOut = []
 refusalsOf (load v h) = []
 refusalsOf (arm t) = 5 ∷ []
 refusalsOf (tick t ws) = 3 ∷ 5 ∷ 6 ∷ []
+refusalsOf (range a b) = 5 ∷ 21 ∷ []
+refusalsOf (margin t) = 5 ∷ []
 
 -- and start, 14 by document 02, No. 6
 abbrev pub startRefusals : List ℕ
@@ -45,6 +47,8 @@ lentTo handOut = []
 lentTo (load v h) = []
 lentTo (arm t) = []
 lentTo (tick t ws) = ws
+lentTo (range a b) = []
+lentTo (margin t) = []
 
 -- Of a call c on the words ws, the memory q and m and the words of nodes ns, which was declined with the number n, said s, and left ws′, q′, m′ and ns′.
 pub record Declined (ws q m ns : List ℕ) (c : Call) (n : ℕ) (s : Said) (ws′ q′ m′ ns′ : List ℕ) : Type 0 where

@@ -17,11 +17,13 @@ use Rattle.node.specs.Plain.{Call, Answer, Start, taken, cycleAnswer, handOutAn
 use Rattle.node.specs.Run.{Said}
 use Rattle.node.specs.Refines.{historyUpdate}
 use Rattle.watched.specs.Nodes.{nodesOf}
-use Rattle.node.specs.InPlace.{said, nmtSaid, dllSaid, errorSaid}
+use Rattle.node.specs.InPlace.{said, nmtSaid, dllSaid, errorSaid, rangeSaid, marginSaid}
 use Rattle.node.specs.Heard.{HeardOn}
 use Rattle.node.specs.declared.calls.NmtEventAnswer.{NmtEventAnswer}
 use Rattle.node.specs.declared.calls.DllEventAnswer.{DllEventAnswer}
 use Rattle.node.specs.declared.calls.ErrorAnswer.{ErrorAnswer}
+use Rattle.node.specs.declared.range.RangeAnswer.{RangeAnswer}
+use Rattle.node.specs.declared.range.MarginAnswer.{MarginAnswer}
 use Rattle.tick.specs.declared.tick.TickAnswer.{TickAnswer}
 use Rattle.tick.specs.TickIn.{tickSaid, TickedOn}
 use Rattle.node.proofs.calls.nmt_event.Reads as nmt-event-reads
@@ -34,6 +36,8 @@ use Rattle.node.proofs.calls.arm.Reads as arm-reads
 use Rattle.node.proofs.heard.heard.Reads as heard-reads
 use Rattle.tick.proofs.tick.process_tick.Reads as process-tick-reads
 use Rattle.node.proofs.load.load.Reads as load-reads
+use Rattle.node.proofs.range.soc_range.Reads as soc-range-reads
+use Rattle.node.proofs.range.soc_margin.Reads as soc-margin-reads
 use Rattle.start.specs.Started.{startOf, StartedOn}
 use Rattle.start.proofs.start.start.Reads as start-reads
 
@@ -101,6 +105,15 @@ pub data Made : List ℕ → List ℕ → List ℕ → List ℕ → ℕ → Call
       {ws q m ns ws′ q′ m′ : List ℕ} {k : ℕ} (vs : List WatchedNode) (t : ℕ) (o : TickAnswer) (vs′ : List WatchedNode) →
       TickedOn ws q m vs t o ws′ q′ m′ vs′ →
       Made ws q m ns k (Call.tick t vs) (says (tickSaid o) vs′) ws′ q′ m′ ns
+  -- these two are lent the head to read alone
+  range :
+      {q m ns : List ℕ} {k : ℕ} (κs : _) (a : _) (o : RangeAnswer) (x : _) →
+      soc-range-reads.Learnt κs a o x →
+      Made (now (a .0)) q m ns k (Call.range (a .1 .0) (a .1 .1 .0)) (saysOnly (rangeSaid o)) (now (a .0)) q m ns
+  margin :
+      {q m ns : List ℕ} {k : ℕ} (κs : _) (a : _) (o : MarginAnswer) (x : _) →
+      soc-margin-reads.Learnt κs a o x →
+      Made (now (a .0)) q m ns k (Call.margin (a .1 .0)) (saysOnly (marginSaid o)) (now (a .0)) q m ns
 
 -- Of a start: what it was given, what it answered, the watched nodes as it left them, and the words that it left.
 pub data Began : Start → CallAnswer → List WatchedNode → List ℕ → Type 0 where

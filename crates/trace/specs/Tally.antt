@@ -19,7 +19,7 @@ use Rattle.entries.specs.declared.status_response.FoundEntry.{FoundEntry}
 use Rattle.entries.specs.declared.status_response.FoundEntry.the-variants.{Entry, None}
 use Rattle.node.specs.declared.load.CounterUpdate.{CounterUpdate}
 use Rattle.node.specs.declared.load.CounterUpdate.the-variants.{Set, Keep}
-use Rattle.node.specs.Plain.{Plain, Call, nmtEvent, dllEvent, error, cycleComplete, withdraw, heard, handOut, load, arm, tick, Answer, refused, taken, nmtAnswer, dllAnswer, errorAnswer, cycleAnswer, handOutAnswer, tickAnswer, EventMade, made, noEvent, Step}
+use Rattle.node.specs.Plain.{Plain, Call, nmtEvent, dllEvent, error, cycleComplete, withdraw, heard, handOut, load, arm, tick, range, margin, Answer, refused, taken, nmtAnswer, dllAnswer, errorAnswer, cycleAnswer, handOutAnswer, tickAnswer, rangeAnswer, marginAnswer, EventMade, made, noEvent, Step}
 use Rattle.node.specs.Run.{step}
 
 -- What the node was told: an enable or StartNode came in the last visit to PreOperational2; the application's last word that
@@ -67,6 +67,8 @@ toldWithdrawn (errorAnswer a s es) w = w
 toldWithdrawn (cycleAnswer b) w = w
 toldWithdrawn (handOutAnswer f) w = w
 toldWithdrawn (tickAnswer es) w = w
+toldWithdrawn (rangeAnswer v) w = w
+toldWithdrawn (marginAnswer z) w = w
 
 -- by the call
 abbrev pub toldAt : Plain → Call → Step → Told → Told
@@ -80,6 +82,8 @@ toldAt p handOut t w = w
 toldAt p (load v h) t w = w
 toldAt p (arm s) t w = w
 toldAt p (tick s ws) t w = toldMade (p .nmt) (t .event) (t .head .nmt) w
+toldAt p (range a b) t w = w
+toldAt p (margin s) t w = w
 
 -- the entry that an answer hands out
 abbrev pub found : FoundEntry → List ErrorEntry
@@ -95,6 +99,8 @@ handedBy (errorAnswer a s es) = []
 handedBy (cycleAnswer b) = []
 handedBy (handOutAnswer f) = found f
 handedBy (tickAnswer es) = []
+handedBy (rangeAnswer v) = []
+handedBy (marginAnswer z) = []
 
 -- "A SoC-check crossing is dropped with the queue full, else kept as its entry"
 abbrev pub isFull : Plain → Bool
@@ -119,6 +125,8 @@ loadsCounter3 handOut = false
 loadsCounter3 (load v h) = isSet (v .«counter_3»)
 loadsCounter3 (arm t) = false
 loadsCounter3 (tick t ws) = false
+loadsCounter3 (range a b) = false
+loadsCounter3 (margin t) = false
 
 -- What is counted: what the node was told; the counters' marks, from which E, N and D are counted, and those of them that the
 -- errors of the SoC check left; the entries of the crossings there, those handed out and those dropped, each in order; and

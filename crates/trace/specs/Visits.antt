@@ -12,7 +12,7 @@ use Rattle.types.specs.declared.nmt.events.NmtEvent.{NmtEvent}
 use Rattle.types.specs.declared.nmt.events.NmtEvent.the-variants.{CnConfigurationComplete}
 use Rattle.types.specs.declared.nmt.events.NmtEventRead.the-variants.{Taken}
 use Rattle.nmt.specs.Resets.{isReset}
-use Rattle.node.specs.Plain.{Plain, Call, nmtEvent, dllEvent, error, cycleComplete, withdraw, heard, handOut, load, arm, tick, Answer, refused, taken, nmtAnswer, dllAnswer, errorAnswer, cycleAnswer, handOutAnswer, tickAnswer, EventMade, made, noEvent}
+use Rattle.node.specs.Plain.{Plain, Call, nmtEvent, dllEvent, error, cycleComplete, withdraw, heard, handOut, load, arm, tick, range, margin, Answer, refused, taken, nmtAnswer, dllAnswer, errorAnswer, cycleAnswer, handOutAnswer, tickAnswer, rangeAnswer, marginAnswer, EventMade, made, noEvent}
 use Rattle.node.specs.Run.{step, stepAll}
 use Rattle.trace.specs.Tally.{asks}
 
@@ -65,6 +65,8 @@ isWithdraw handOut = false
 isWithdraw (load v h) = false
 isWithdraw (arm t) = false
 isWithdraw (tick t ws) = false
+isWithdraw (range a b) = false
+isWithdraw (margin t) = false
 
 abbrev pub isTaken : Answer → Bool
 isTaken taken = true
@@ -75,6 +77,8 @@ isTaken (errorAnswer a s es) = false
 isTaken (cycleAnswer b) = false
 isTaken (handOutAnswer f) = false
 isTaken (tickAnswer es) = false
+isTaken (rangeAnswer v) = false
+isTaken (marginAnswer z) = false
 
 -- from the head p on, no withdrawal is accepted
 unfoldable pub NoneWithdrawn : Plain → List Call → Type 0

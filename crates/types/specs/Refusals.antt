@@ -2,7 +2,7 @@
 -- Assumes nothing.
 use Prim.Native.Nat.{ℕ}
 use Rattle.types.specs.declared.refusals.Refusal.{Refusal}
-use Rattle.types.specs.declared.refusals.Refusal.the-variants.{NodeNumber, QueueCapacity, WatchedNodes, UnknownNumber, TimeLimit, BeforeHeard, NotWatched, ReadyToOperate, AllWatched, AlreadyWatched, BufferTooShort, ProfileLimit, NoSingleKind, ThresholdLimit}
+use Rattle.types.specs.declared.refusals.Refusal.the-variants.{NodeNumber, QueueCapacity, WatchedNodes, UnknownNumber, TimeLimit, BeforeHeard, NotWatched, ReadyToOperate, AllWatched, AlreadyWatched, BufferTooShort, ProfileLimit, NoSingleKind, ThresholdLimit, EarliestAfterLatest}
 
 abbrev pub refusalNumber : Refusal → ℕ
 refusalNumber NodeNumber = 1
@@ -19,3 +19,4 @@ refusalNumber BufferTooShort = 11
 refusalNumber ProfileLimit = 12
 refusalNumber NoSingleKind = 13
 refusalNumber ThresholdLimit = 14
+refusalNumber EarliestAfterLatest = 21

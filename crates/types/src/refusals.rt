@@ -31,6 +31,8 @@ pub enum Refusal {
     NoSingleKind,
     // A threshold is above 1,000,000.
     ThresholdLimit,
+    // The earliest reading of a clock is after the latest.
+    EarliestAfterLatest,
 }
 
 impl Refusal {
@@ -52,6 +54,7 @@ impl Refusal {
             Refusal::ProfileLimit => 12,
             Refusal::NoSingleKind => 13,
             Refusal::ThresholdLimit => 14,
+            Refusal::EarliestAfterLatest => 21,
         }
     }
 }

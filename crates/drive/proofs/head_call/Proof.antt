@@ -3,7 +3,7 @@
 use borrow.Author.Needs.{needs}
 use Rattle.watched.specs.Watched.{watchedOf}
 use Rattle.watched.specs.Nodes.{nodesOf}
-use Rattle.drive.proofs.Turning.{turned-as, call-0, call-1, call-2, call-3, call-4, call-else}
+use Rattle.drive.proofs.Turning.{turned-as, call-0, call-1, call-2, call-3, call-4, call-11, call-12, call-else}
 use Rattle.drive.proofs.head_call.Statement.{statement}
 use Rattle.drive.proofs.head_call.Tie as tie
 
@@ -43,9 +43,21 @@ head-call-spec =
     (λ c κs. search needs)
     (λ c q m ns bytes k.
     let v2 = c .before .before in
+    let v14 = v2 .before .before .before .before .before .before .before .before .before .before .before .before in
+    turned-as (call-11 (v14 .args .row) (watchedOf (nodesOf ns) k) bytes (v2 .if6 .taken)) (c .range-turn .ensures q m ns k))
+    (λ c κs. search needs)
+    (λ c q m ns bytes k.
+    let v2 = c .before .before in
+    let v16 = v2 .before .before .before .before .before .before .before .before .before .before .before .before .before .before in
+    turned-as (call-12 (v16 .args .row) (watchedOf (nodesOf ns) k) bytes (v2 .if7 .taken)) (c .margin-turn .ensures q m ns k))
+    (λ c κs. search needs)
+    (λ c q m ns bytes k.
+    let v2 = c .before .before in
     let v4 = v2 .before .before in
     let v6 = v4 .before .before in
     let v8 = v6 .before .before in
     let v10 = v8 .before .before in
     let v12 = v10 .before .before in
-    turned-as (call-else (v12 .args .row) (watchedOf (nodesOf ns) k) bytes (v10 .if1 .left) (v8 .if2 .left) (v6 .if3 .left) (v4 .if4 .left) (v2 .if5 .left) (v12 .pre .0) (v12 .pre .1) (v12 .pre .2) (v12 .pre .3)) (c .arm-turn .ensures q m ns k)))
+    let v14 = v12 .before .before in
+    let v16 = v14 .before .before in
+    turned-as (call-else (v16 .args .row) (watchedOf (nodesOf ns) k) bytes (v14 .if1 .left) (v12 .if2 .left) (v10 .if3 .left) (v8 .if4 .left) (v6 .if5 .left) (v16 .pre .0) (v16 .pre .1) (v16 .pre .2) (v16 .pre .3) (v4 .if6 .left) (v2 .if7 .left)) (c .arm-turn .ensures q m ns k)))
