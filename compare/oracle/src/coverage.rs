@@ -1,7 +1,10 @@
 //! Counts what a script reached, from the head's answers and from the head before and after each line.
 
+mod partners;
+
 use crate::places::{ERRORS, kind_behind};
-use crate::view::{COUNTER_NAMES, HEARTBEAT, HIGHEST_THRESHOLD, View};
+use crate::view::{COUNTER_NAMES, HEARTBEAT, HIGHEST_THRESHOLD, Lent, Partners, View};
+use partners::Arrivals;
 use std::io::{self, Write};
 
 /// Whether a script has ticks.
@@ -16,9 +19,10 @@ pub enum Ticks {
 pub struct Step<'a> {
     pub line: &'a str,
     pub before: Option<&'a View>,
-    /// The run of watched nodes before a tick: node, timeout, last heard.
-    pub lent: &'a [(u8, u64, u64)],
+    /// The run of watched nodes before the line, and behind it.
+    pub lent: &'a Lent,
     pub after: Option<&'a View>,
+    pub left: &'a Lent,
     pub answers: &'a [String],
 }
 
@@ -285,6 +289,8 @@ pub struct Coverage {
     passed_over: u64,
     shows: u64,
     run_lines: u64,
+    /// None: the script has no lines of document 02, No. 1.
+    arrivals: Option<Arrivals>,
 }
 
 /// Ready and enabled.
@@ -354,15 +360,17 @@ fn crossed(kind: usize, before: &View, after: &View) -> u64 {
 }
 
 impl Coverage {
-    pub fn new(script: Ticks) -> Self {
+    pub fn new(script: Ticks, partners: Partners) -> Self {
         Self {
             script,
+            arrivals: (partners == Partners::With).then(Arrivals::default),
             ..Self::default()
         }
     }
 
     pub fn total_calls(&self) -> u64 {
-        self.calls.iter().sum()
+        let arrivals = self.arrivals.as_ref().map_or(0, Arrivals::total_calls);
+        self.calls.iter().sum::<u64>() + arrivals
     }
 
     /// Counts one line.
@@ -381,10 +389,14 @@ impl Coverage {
         match CALLS.iter().position(|c| *c == call) {
             Some(place) => self.count_call(place, answer),
             None if call == "show" => self.shows += 1,
+            None if partners::LINES.contains(&call) => {}
             None => self.run_lines += 1,
         }
         if call == "start" {
             self.count_start(step, answer);
+        }
+        if let Some(arrivals) = &mut self.arrivals {
+            arrivals.count(step, answer);
         }
         if let Some(after) = step.after {
             self.states[state_place(after.nmt)] += 1;
@@ -447,8 +459,8 @@ impl Coverage {
                 self.count_tick(now, before, after, answer);
                 self.count_entries(before, after);
                 if !answer.starts_with("(refused") {
-                    self.count_bounds(now, step.lent, before, after);
-                    self.count_late(now, step.lent, before, after);
+                    self.count_bounds(now, step.lent.watched(), before, after);
+                    self.count_late(now, step.lent.watched(), before, after);
                 }
             }
             "start" | "withdraw" if !answer.starts_with("(refused") => self.word_forgotten = false,
@@ -726,11 +738,15 @@ fn by_tick(mut counts: Vec<Count>) -> Vec<Count> {
     counts
 }
 
+/// Counts under a title.
+type Group = (&'static str, Vec<Count>);
+
 /// The report and the shortfalls are made of the same groups, so that neither leaves out what the other has.
 impl Coverage {
     /// The groups, without what needs a tick if the script has none.
     fn groups(&self) -> Vec<(&'static str, Vec<Count>)> {
         let mut groups = self.all_groups();
+        groups.extend(self.arrivals.iter().flat_map(Arrivals::groups));
         if self.script == Ticks::Without {
             for (_, counts) in &mut groups {
                 counts.retain(|count| !count.by_tick);
@@ -1041,7 +1057,23 @@ impl Coverage {
             out,
             "Thresholds of kinds, with starts, errors and crossings",
             &self.kind_counts(),
-        )
+        )?;
+        for (title, counts) in self.run_groups() {
+            report_pairs(out, title, &counts)?;
+        }
+        Ok(())
+    }
+
+    /// Calls that are lent the run, without the tick if the script has none.
+    fn run_groups(&self) -> Vec<Group> {
+        let arrivals = self.arrivals.iter();
+        let mut groups: Vec<Group> = arrivals.flat_map(Arrivals::pair_groups).collect();
+        if self.script == Ticks::Without {
+            for (_, counts) in &mut groups {
+                counts.retain(|count| !count.by_tick);
+            }
+        }
+        groups
     }
 
     /// Every count that is below what a run of 200,000 calls has to reach.
@@ -1050,6 +1082,7 @@ impl Coverage {
         groups.push(("NMT", self.nmt_counts()));
         groups.push(("DLL", self.dll_counts()));
         groups.push(("Thresholds", self.kind_counts()));
+        groups.extend(self.run_groups());
         let mut short = Vec::new();
         for (title, counts) in groups {
             for count in counts.iter().filter(|count| count.count < count.minimum) {

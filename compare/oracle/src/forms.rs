@@ -4,8 +4,9 @@ use crate::dictionary;
 use crate::head::Head;
 use crate::places::{action_number, error_form, level, named_form, threshold};
 use crate::reset::Range;
+use crate::run::Run;
 use crate::script::Watched;
-use crate::view::COUNTER_NAMES;
+use crate::view::{COUNTER_NAMES, Partners};
 use powerlink_rs::frame::DllError;
 use powerlink_rs::frame::error::{ErrorEntry, NmtAction, seven};
 use powerlink_rs::nmt::states::NmtState;
@@ -80,12 +81,12 @@ pub fn entry_fields(entry: &ErrorEntry) -> String {
 }
 
 /// Two hexadecimal digits for each byte.
-fn digits(bytes: &[u8]) -> String {
+pub fn digits(bytes: &[u8]) -> String {
     bytes.iter().map(|byte| format!("{byte:02X}")).collect()
 }
 
 /// The head, the lent run and the desk's buffer.
-pub fn show(head: &Head, run: &[Watched], desk: &[u8]) -> Vec<String> {
+pub fn show(head: &Head, run: &Run, desk: &[u8], partners: Partners) -> Vec<String> {
     let context = &head.context;
     let mut lines = vec![
         nmt(context),
@@ -97,7 +98,13 @@ pub fn show(head: &Head, run: &[Watched], desk: &[u8]) -> Vec<String> {
         dictionary(context),
         queue(context),
         named_form("history", dictionary::history(&context.core.od).map(digits)),
-        named_form("watched", run.iter().map(watched)),
+        named_form("watched", run.watched().iter().map(watched)),
+    ]);
+    if partners == Partners::With {
+        lines.push(lent(run));
+        lines.push(format!("(earliest {})", or_none(head.earliest)));
+    }
+    lines.extend([
         crossings(context),
         named_form("desk", (!desk.is_empty()).then(|| digits(desk)).into_iter()),
         thresholds(context),
@@ -142,9 +149,7 @@ fn soc(context: &CnContext) -> String {
         "(soc (last {}) (check {}) (deadline {}) (status_changed {}))",
         context.last_soc_reception_time_us,
         context.soc_timeout_check_active as u8,
-        context
-            .next_tick_us
-            .map_or("none".to_string(), |deadline| deadline.to_string()),
+        or_none(context.next_tick_us),
         context.error_status_changed as u8,
     )
 }
@@ -182,6 +187,18 @@ fn thresholds(context: &CnContext) -> String {
     let counters = seven(&context.dll_error_manager.counters);
     let thresholds = counters.map(|counter| threshold(counter).to_string());
     named_form("thresholds", thresholds.into_iter())
+}
+
+/// What `show` tells of the run beside the nodes watched (document 02, No. 1).
+fn lent(run: &Run) -> String {
+    let (places, number) = (run.places(), run.number());
+    let rest = named_form("rest", run.rest().iter().map(watched));
+    format!("(run (places {places}) (number {number}) {rest})")
+}
+
+/// A moment, or none.
+fn or_none(moment: Option<u64>) -> String {
+    moment.map_or("none".to_string(), |moment| moment.to_string())
 }
 
 fn watched(watched: &Watched) -> String {

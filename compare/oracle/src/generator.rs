@@ -2,12 +2,14 @@
 //! at the head between its lines, so that it reaches what single random calls would hardly meet: a time at the very
 //! deadline, a level of 14, a full queue.
 
+mod partners;
+
 use crate::coverage::{
     BASIC_ETHERNET, CYCLIC, Coverage, NOT_ACTIVE, PRE_OPERATIONAL_2, READY_TO_OPERATE, Step, Ticks,
     limit,
 };
 use crate::places::ERRORS;
-use crate::view::{Driven, View};
+use crate::view::{Driven, Lent, Partners, View};
 use std::io::{self, Write};
 
 /// The last time that is taken.
@@ -98,16 +100,22 @@ pub fn generate(
     seed: u64,
     calls: u64,
     ticks: Ticks,
+    partners: Partners,
     out: &mut dyn Write,
 ) -> io::Result<Coverage> {
     let mut script = Script {
+        seen: (head.view(), head.lent()),
         head,
         out,
         random: Random(seed),
-        coverage: Coverage::new(ticks),
+        coverage: Coverage::new(ticks, partners),
         ticks,
+        partners,
         now: 0,
     };
+    if partners == Partners::With {
+        script.partners_before_the_first_start()?;
+    }
     script.before_the_first_start()?;
     while script.coverage.total_calls() < calls {
         script.life(calls)?;
@@ -118,10 +126,13 @@ pub fn generate(
 
 struct Script<'a> {
     head: &'a mut dyn Driven,
+    /// The head and the run behind the last line.
+    seen: (Option<View>, Lent),
     out: &'a mut dyn Write,
     random: Random,
     coverage: Coverage,
     ticks: Ticks,
+    partners: Partners,
     /// The time of the script: most calls are made at it or soon after.
     now: u64,
 }
@@ -134,31 +145,26 @@ impl Script<'_> {
             return Ok(());
         }
         writeln!(self.out, "{line}")?;
-        let before = self.head.view();
-        let lent = if line.starts_with("tick") {
-            self.head.watched()
-        } else {
-            Vec::new()
-        };
         let answers = self.head.line(line);
-        let after = self.head.view();
+        let (after, left) = (self.head.view(), self.head.lent());
+        let (before, lent) = &self.seen;
         self.coverage.count(&Step {
             line,
             before: before.as_ref(),
-            lent: &lent,
+            lent,
             after: after.as_ref(),
+            left: &left,
             answers: &answers,
         });
+        self.seen = (after, left);
         Ok(())
     }
 
     /// A line, with a show behind a share of them. A long history makes a show of 10 kB, so there they are rare.
     fn call(&mut self, line: &str) -> io::Result<()> {
         self.give(line)?;
-        let long = self
-            .head
-            .view()
-            .is_some_and(|view| view.history_length > 40);
+        let (view, _) = &self.seen;
+        let long = view.as_ref().is_some_and(|view| view.history_length > 40);
         if self.random.one_in(if long { 50 } else { 5 }) {
             self.give("show")?;
         }
@@ -281,7 +287,11 @@ impl Script<'_> {
             if self.coverage.total_calls() >= calls {
                 break;
             }
-            self.scenario()?;
+            if self.partners == Partners::With && self.random.one_in(6) {
+                self.partners()?;
+            } else {
+                self.scenario()?;
+            }
         }
         Ok(())
     }
@@ -381,6 +391,12 @@ impl Script<'_> {
 
     /// Calls with a run that number 3 declines; those that are not lent it are taken.
     fn bad_run(&mut self) -> io::Result<()> {
+        self.write_a_bad_run()?;
+        self.calls_with_a_bad_run()?;
+        self.good_run()
+    }
+
+    fn write_a_bad_run(&mut self) -> io::Result<()> {
         let length = self.random.pick(&[0, 0, 1, 3, 31]);
         let above = self.random.pick(&[TOP + 1, 1 << 63, u64::MAX]);
         match self.random.below(5) {
@@ -406,8 +422,7 @@ impl Script<'_> {
                 self.watch(255, timeout, heard)?;
             }
         }
-        self.calls_with_a_bad_run()?;
-        self.good_run()
+        Ok(())
     }
 
     fn calls_with_a_bad_run(&mut self) -> io::Result<()> {

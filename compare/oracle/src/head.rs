@@ -4,9 +4,11 @@
 use crate::clock::Watch;
 use crate::dictionary::{self, Defaults, Dictionary};
 use crate::occurrences::Occurrences;
+use crate::partners::{self, Consumers};
 use crate::places::{self, DLL_EVENTS, NMT_EVENTS};
 use crate::reset;
-use crate::script::{Load, Start, Watched};
+use crate::run::Run;
+use crate::script::{Load, Start};
 use crate::view::{HEARTBEAT, HIGHEST_THRESHOLD};
 use crate::{forms, kinds};
 use powerlink_rs::NodeId;
@@ -33,8 +35,7 @@ use std::panic::{AssertUnwindSafe, catch_unwind};
 pub type Answer = Result<String, u8>;
 
 const LONGEST_QUEUE: u64 = 32;
-const LONGEST_RUN: usize = 32;
-const LAST_TIME: u64 = (1 << 62) - 1;
+pub const LAST_TIME: u64 = (1 << 62) - 1;
 const TOLERANCE_IF_MISSING: u32 = 100_000;
 
 /// What a reset does beside what the original's does.
@@ -67,12 +68,16 @@ pub struct Head {
     capacity: usize,
     dictionary: Dictionary,
     resets: Resets,
+    /// The watched nodes as the last call that was lent them left them.
+    pub left: Consumers,
+    /// The earliest moment at which a watched node would be late, as it was last worked out.
+    pub earliest: Option<u64>,
 }
 
 impl Head {
     pub fn start(
         start: &Start,
-        run: &mut [Watched],
+        run: &mut Run,
         defaults: Defaults,
         resets: Resets,
     ) -> Result<Self, u8> {
@@ -80,21 +85,27 @@ impl Head {
         if start.queue > LONGEST_QUEUE {
             return Err(2);
         }
-        try_run(run)?;
+        let mut consumers = partners::consumers(partners::try_run(run)?);
         try_thresholds(start.thresholds)?;
-        for watched in run {
-            watched.heard = 0;
+        for (_, heard) in consumers.values_mut() {
+            *heard = 0;
         }
         let dictionary = Dictionary::new(defaults);
         let capacity = start.queue as usize;
-        let context = context(node, start, &dictionary, capacity);
-        Ok(Self {
+        let mut context = context(node, start, &dictionary, capacity);
+        context.heartbeat_consumers = consumers;
+        let mut head = Self {
             occurrences: Occurrences::new(&context.dll_error_manager.counters),
             context,
             capacity,
             dictionary,
             resets,
-        })
+            left: Consumers::new(),
+            earliest: None,
+        };
+        head.give_back(run);
+        assert_eq!(head.earliest, None, "no node was heard yet");
+        Ok(head)
     }
 
     pub fn nmt(&mut self, event: u64) -> Answer {
@@ -156,45 +167,33 @@ impl Head {
         Ok(forms::taken(&[format!("(cleared {})", cleared as u8)]))
     }
 
-    pub fn tick(&mut self, now: u64, run: &mut [Watched]) -> Answer {
-        try_run(run)?;
+    pub fn tick(&mut self, now: u64, run: &mut Run) -> Answer {
+        self.lend(run)?;
         try_time(now)?;
-        if self.heard_after(now, run) {
+        if self.heard_after(now) {
             return Err(6);
         }
-        let logged = self.run_tick(now, run);
+        let logged = self.run_tick(now);
+        self.give_back(run);
         Ok(forms::taken(&[forms::logged(&logged)]))
     }
 
     /// Number 6: the original would take a later time from an earlier one.
-    fn heard_after(&self, now: u64, run: &[Watched]) -> bool {
+    fn heard_after(&self, now: u64) -> bool {
         self.context.nmt_state_machine.current_state >= NmtState::NmtPreOperational2
-            && run
-                .iter()
-                .any(|watched| watched.timeout > 0 && watched.heard > 0 && now < watched.heard)
-    }
-
-    /// Makes the run the consumers of the original.
-    fn lend(&mut self, run: &[Watched]) {
-        self.context.heartbeat_consumers = run
-            .iter()
-            .map(|watched| (NodeId(watched.node), (watched.timeout, watched.heard)))
-            .collect();
+            && self
+                .context
+                .heartbeat_consumers
+                .values()
+                .any(|(timeout, heard)| *timeout > 0 && *heard > 0 && now < *heard)
     }
 
     /// The original tick; what it logged.
-    fn run_tick(&mut self, now: u64, run: &mut [Watched]) -> Vec<DllError> {
-        self.lend(run);
+    fn run_tick(&mut self, now: u64) -> Vec<DllError> {
         let [given_before, ..] = dictionary::counters(&self.context.core.od);
         let (action, at_lines) = run_tick(&mut self.context, now);
         assert_eq!(action, NodeAction::NoAction, "a tick sends nothing");
         self.count_in_tick(at_lines, given_before);
-        assert_eq!(self.context.heartbeat_consumers.len(), run.len());
-        for (watched, (node, times)) in run.iter_mut().zip(&self.context.heartbeat_consumers) {
-            assert_eq!(watched.node, node.0, "a tick leaves the nodes");
-            assert_eq!(watched.timeout, times.0, "a tick leaves the timeouts");
-            watched.heard = times.1;
-        }
         kinds::take_logged()
     }
 
@@ -219,12 +218,28 @@ impl Head {
     }
 
     /// What the original says when it panics at this tick, all refusals aside; none: it does not.
-    /// The run is lent as a copy.
-    pub fn panic_at_tick(&mut self, now: u64, run: &[Watched]) -> Option<String> {
-        self.lend(run);
+    /// The watched nodes are those that the last call was lent; what became of them is taken back.
+    pub fn panic_at_tick(&mut self, now: u64) -> Option<String> {
         let caught = catch_unwind(AssertUnwindSafe(|| run_tick(&mut self.context, now)));
+        self.context.heartbeat_consumers = self.left.clone();
         let message = caught.err()?;
         Some(message.downcast_ref::<&str>()?.to_string())
+    }
+
+    /// Whether a tick of the original at this time, in a state that checks heartbeats, finds one of the watched nodes late.
+    /// Those that were heard later are left out, since it would take the later time from the earlier one.
+    pub fn finds_late(&self, time: u64) -> bool {
+        let start = Start::of_a_scratch_head();
+        let mut context = context(NodeId(start.node), &start, &self.dictionary, 0);
+        context.nmt_state_machine.current_state = NmtState::NmtPreOperational2;
+        context.heartbeat_consumers = self.left.clone();
+        context
+            .heartbeat_consumers
+            .retain(|_, (_, heard)| *heard <= time);
+        let before = held(&context.dll_error_manager.counters);
+        run_tick(&mut context, time);
+        kinds::take_logged();
+        held(&context.dll_error_manager.counters) != before
     }
 
     pub fn withdraw(&mut self) -> Answer {
@@ -235,11 +250,13 @@ impl Head {
         Ok(forms::taken(&[]))
     }
 
-    pub fn heard(&mut self, node: u8, time: u64, run: &mut [Watched]) -> Answer {
-        try_run(run)?;
+    pub fn heard(&mut self, node: u8, time: u64, run: &mut Run) -> Answer {
+        self.lend(run)?;
         try_time(time)?;
-        let watched = run.iter_mut().find(|watched| watched.node == node);
-        watched.ok_or(7)?.heard = time;
+        let consumer = self.context.heartbeat_consumers.get_mut(&NodeId(node));
+        let (_, heard) = consumer.ok_or(7)?;
+        *heard = time;
+        self.give_back(run);
         Ok(forms::taken(&[]))
     }
 
@@ -300,6 +317,10 @@ impl Head {
             held(&self.context.dll_error_manager.counters),
             "only error, cycle and tick change the counters"
         );
+        assert_eq!(
+            self.context.heartbeat_consumers, self.left,
+            "only calls that are lent the watched nodes change them"
+        );
     }
 }
 
@@ -346,20 +367,8 @@ fn at<T>(list: &[T], place: u64) -> Result<&T, u8> {
 }
 
 /// Number 1.
-fn try_node(number: u8) -> Result<NodeId, u8> {
+pub fn try_node(number: u8) -> Result<NodeId, u8> {
     NodeId::try_from(number).map_err(|_| 1)
-}
-
-/// Number 3.
-fn try_run(run: &[Watched]) -> Result<(), u8> {
-    let sound = run.len() <= LONGEST_RUN
-        && run.is_sorted_by(|one, next| one.node < next.node)
-        && run.iter().all(|watched| {
-            try_node(watched.node).is_ok()
-                && watched.timeout <= LAST_TIME
-                && watched.heard <= LAST_TIME
-        });
-    if sound { Ok(()) } else { Err(3) }
 }
 
 /// Number 14.

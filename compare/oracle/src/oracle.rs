@@ -3,20 +3,20 @@
 use crate::desk;
 use crate::dictionary::{self, Defaults};
 use crate::head::{self, Answer, Head, Resets};
+use crate::run::Run;
 use crate::script::{self, Call, Line, Watched};
-use crate::view::{Driven, View};
+use crate::view::{Driven, Lent, Partners, View};
 use crate::{forms, places};
 use powerlink_rs::frame::error::seven;
-
-const MOST_RECORDS: usize = 40;
 
 pub struct Oracle {
     defaults: Defaults,
     resets: Resets,
+    partners: Partners,
     /// The number of the last line.
     line: u64,
     /// The run of watched nodes that is lent.
-    run: Vec<Watched>,
+    run: Run,
     /// The desk's buffer.
     desk: Vec<u8>,
     /// None before the first accepted start.
@@ -24,13 +24,14 @@ pub struct Oracle {
 }
 
 impl Oracle {
-    pub fn new(defaults: Defaults, resets: Resets) -> Self {
+    pub fn new(defaults: Defaults, resets: Resets, partners: Partners) -> Self {
         places::check_order();
         Self {
             defaults,
             resets,
+            partners,
             line: 0,
-            run: Vec::new(),
+            run: Run::new(),
             desk: Vec::new(),
             head: None,
         }
@@ -39,7 +40,9 @@ impl Oracle {
     /// Takes a line without its newline, which may be no text; what is printed for it.
     pub fn take(&mut self, line: &[u8]) -> Vec<String> {
         self.line += 1;
-        let printed = script::read(line).and_then(|line| self.act(line));
+        let printed = script::read(line)
+            .filter(|line| self.partners == Partners::With || !line.is_of_partners())
+            .and_then(|line| self.act(line));
         if let Some(head) = &self.head {
             head.check();
         }
@@ -50,9 +53,9 @@ impl Oracle {
     fn act(&mut self, line: Line) -> Option<Vec<String>> {
         match line {
             Line::Passed => {}
-            Line::Watch(_) if self.run.len() == MOST_RECORDS => return None,
-            Line::Watch(watched) => self.run.push(watched),
-            Line::Unwatch => self.run.clear(),
+            Line::Watch(record) => self.run.watch(record)?,
+            Line::Unwatch => self.run = Run::new(),
+            Line::Lend { places, number } => self.run.lend(places, number),
             Line::Desk(bytes) => self.desk = bytes,
             Line::Show => return self.show(),
             Line::Call(call) => {
@@ -81,6 +84,9 @@ impl Oracle {
             Call::Tick(now) => head.tick(now, &mut self.run),
             Call::Withdraw => head.withdraw(),
             Call::Heard { node, time } => head.heard(node, time, &mut self.run),
+            Call::Add { node, timeout } => head.add(node, timeout, &mut self.run),
+            Call::Remove(node) => head.remove(node, &mut self.run),
+            Call::Bitmap => head.bitmap(&self.run),
             Call::HandOut => head.hand_out(),
             Call::Arm(time) => head.arm(time),
             Call::Load(load) => head.load(&load),
@@ -97,7 +103,7 @@ impl Oracle {
     /// The lines of `show`; none before the first accepted start.
     pub fn show(&self) -> Option<Vec<String>> {
         let head = self.head.as_ref()?;
-        Some(forms::show(head, &self.run, &self.desk))
+        Some(forms::show(head, &self.run, &self.desk, self.partners))
     }
 
     /// The load that names every value as it stands, except for the history.
@@ -114,12 +120,34 @@ impl Oracle {
         ))
     }
 
+    /// Takes a line. If it is an accepted call that works out the earliest moment, that moment is held to the original's
+    /// tick; then, whether there is one.
+    pub fn take_and_check_earliest(&mut self, line: &[u8]) -> Option<bool> {
+        let taken = self
+            .take(line)
+            .iter()
+            .any(|form| form.starts_with("(taken"));
+        let Line::Call(call) = script::read(line)? else {
+            return None;
+        };
+        let works_it_out = matches!(
+            call,
+            Call::Start(_)
+                | Call::Tick(_)
+                | Call::Heard { .. }
+                | Call::Add { .. }
+                | Call::Remove(_)
+        );
+        let head = self.head.as_ref()?;
+        (taken && works_it_out).then(|| head.check_earliest())
+    }
+
     /// What the original says when it panics at a tick that this line calls, all refusals aside.
     pub fn panic_at(&mut self, line: &[u8]) -> Option<String> {
         let Some(Line::Call(Call::Tick(now))) = script::read(line) else {
             return None;
         };
-        self.head.as_mut()?.panic_at_tick(now, &self.run)
+        self.head.as_mut()?.panic_at_tick(now)
     }
 }
 
@@ -153,11 +181,15 @@ impl Driven for Oracle {
             queue_capacity: context.emergency_queue.capacity(),
             queue_length: context.emergency_queue.len(),
             history_length: dictionary::history(od).len(),
+            earliest: head.earliest,
         })
     }
 
-    fn watched(&self) -> Vec<(u8, u64, u64)> {
+    fn lent(&self) -> Lent {
         let record = |watched: &Watched| (watched.node, watched.timeout, watched.heard);
-        self.run.iter().map(record).collect()
+        Lent {
+            places: self.run.lent().iter().map(record).collect(),
+            number: self.run.number(),
+        }
     }
 }

@@ -1,6 +1,7 @@
 //! Reading the lines of a call script, as docs/CALLS.md lays them out.
 
 use crate::kinds;
+use crate::run::MOST_PLACES;
 
 /// A record of the run of watched nodes that is lent.
 #[derive(Debug, Clone, Copy, PartialEq, Eq)]
@@ -21,6 +22,23 @@ pub struct Start {
     pub counters: [u32; 4],
     /// In the order of the counters' fields; none: those that the original gives.
     pub thresholds: Option<[u32; 7]>,
+}
+
+impl Start {
+    /// A start of a head that no script has.
+    pub fn of_a_scratch_head() -> Self {
+        Self {
+            node: 1,
+            flags: 0,
+            timeout: 0,
+            queue: 0,
+            register: 0,
+            cycle: None,
+            tolerance: None,
+            counters: [0; 4],
+            thresholds: None,
+        }
+    }
 }
 
 /// The values that a load names. A cycle or tolerance that it names may be missing.
@@ -54,6 +72,9 @@ pub enum Call {
     Tick(u64),
     Withdraw,
     Heard { node: u8, time: u64 },
+    Add { node: u8, timeout: u64 },
+    Remove(u8),
+    Bitmap,
     HandOut,
     Arm(u64),
     Load(Load),
@@ -71,9 +92,23 @@ pub enum Line {
     Passed,
     Watch(Watched),
     Unwatch,
+    Lend {
+        places: usize,
+        number: u64,
+    },
     Desk(Vec<u8>),
     Show,
     Call(Call),
+}
+
+impl Line {
+    /// Whether it is one of document 02, No. 1.
+    pub fn is_of_partners(&self) -> bool {
+        matches!(
+            self,
+            Line::Lend { .. } | Line::Call(Call::Add { .. } | Call::Remove(_) | Call::Bitmap)
+        )
+    }
 }
 
 const LONGEST_LINE: usize = 16_384;
@@ -96,6 +131,10 @@ pub fn read(line: &[u8]) -> Option<Line> {
             heard: words.number()?,
         }),
         b"unwatch" => Line::Unwatch,
+        b"lend" => Line::Lend {
+            places: words.number().filter(|places| *places <= MOST_PLACES)?,
+            number: words.number()?,
+        },
         b"desk" => Line::Desk(words.desk()?),
         b"show" => Line::Show,
         name => Line::Call(read_call(name, &mut words)?),
@@ -119,6 +158,12 @@ fn read_call(name: &[u8], words: &mut Words) -> Option<Call> {
             node: words.number()?,
             time: words.number()?,
         },
+        b"add" => Call::Add {
+            node: words.number()?,
+            timeout: words.number()?,
+        },
+        b"remove" => Call::Remove(words.number()?),
+        b"bitmap" => Call::Bitmap,
         b"handout" => Call::HandOut,
         b"arm" => Call::Arm(words.number()?),
         b"load" => Call::Load(read_load(words)?),

@@ -17,6 +17,18 @@ pub const HEARTBEAT: usize = 6;
 /// Above it a threshold is declined.
 pub const HIGHEST_THRESHOLD: u32 = 1_000_000;
 
+/// Whether the lines of document 02, No. 1 are read, and its two lines of `show` printed.
+#[derive(Debug, Clone, Copy, PartialEq, Eq)]
+pub enum Partners {
+    With,
+    Without,
+}
+
+/// The numbers of nodes.
+pub fn is_node(number: u8) -> bool {
+    matches!(number, 1..=240 | 253..=255)
+}
+
 /// The head between two lines of a script.
 #[derive(Debug, Clone, PartialEq, Eq)]
 pub struct View {
@@ -43,6 +55,31 @@ pub struct View {
     pub queue_capacity: usize,
     pub queue_length: usize,
     pub history_length: usize,
+    pub earliest: Option<u64>,
+}
+
+/// The run of watched nodes that is lent: each place has node, timeout and last heard.
+#[derive(Debug, Clone, PartialEq, Eq)]
+pub struct Lent {
+    pub places: Vec<(u8, u64, u64)>,
+    pub number: u64,
+}
+
+impl Lent {
+    fn up_to_the_number(&self) -> usize {
+        let most = self.places.len();
+        usize::try_from(self.number).map_or(most, |number| number.min(most))
+    }
+
+    /// The places up to the number, or all where it is above them.
+    pub fn watched(&self) -> &[(u8, u64, u64)] {
+        &self.places[..self.up_to_the_number()]
+    }
+
+    /// The places past the number.
+    pub fn rest(&self) -> &[(u8, u64, u64)] {
+        &self.places[self.up_to_the_number()..]
+    }
 }
 
 /// A head that is driven by the lines of a call script.
@@ -51,6 +88,9 @@ pub trait Driven {
     fn line(&mut self, line: &str) -> Vec<String>;
     /// The head, if there was an accepted start.
     fn view(&self) -> Option<View>;
-    /// The run of watched nodes that is lent: node, timeout, last heard.
-    fn watched(&self) -> Vec<(u8, u64, u64)>;
+    fn lent(&self) -> Lent;
+    /// The nodes watched: node, timeout, last heard.
+    fn watched(&self) -> Vec<(u8, u64, u64)> {
+        self.lent().watched().to_vec()
+    }
 }
