@@ -11,7 +11,7 @@ use borrow.Author.Tests.{ltb-true, ltb-false, leb-true, leb-false, eq-eqb}
 use lib.Dec.{leb, ltb, lit<, lit≤}
 use Rattle.types.specs.Pick.{pick, both}
 use Rattle.types.specs.declared.frame.error.types.DllError.{DllError}
-use Rattle.counters.specs.Counters.{counterKinds, place, sameKind, counter, replaced, top, newCounters, thresholdFor, incremented, decremented, reaches, checked, afterError, active, lowered, countedError, linkLost, Effect, counts, losesLink, isLogged, nothing, effect, handledAs, handled, completed}
+use Rattle.counters.specs.Counters.{counterKinds, place, sameKind, counter, replaced, top, newCounters, thresholdFor, incremented, decremented, reaches, afterCheck, afterError, active, lowered, countedError, linkLost, Effect, counts, losesLink, isLogged, nothing, effect, handledAs, handled, completed}
 use Rattle.counters.specs.Marks.{level, thresholdOf, Mark, given, crossed, drained, isGiven, isCrossed, isDrained, countOf, E, N, D, effectMarks, errorMarks, drainedOf, cycleMarks, CounterCall, handleError, onCycleComplete, after, marks}
 use Rattle.counters.specs.declared.counters.ThresholdCounter.{ThresholdCounter}
 use Rattle.counters.specs.declared.counters.ThresholdCheck.{ThresholdCheck}
@@ -57,7 +57,7 @@ balance-error c = by (ltb 0 (c .threshold)) refl (leb (c .threshold) (incremente
         ltb 0 (c .threshold) ≡ a →
         (b : Bool) →
         leb (c .threshold) (incremented c .«threshold_cnt») ≡ b →
-        Balance (c .threshold) 1 (pick (checked (incremented c) .reached) 1 0) 0 (c .«threshold_cnt») (checked (incremented c) .counter .«threshold_cnt»)
+        Balance (c .threshold) 1 (pick (afterCheck (incremented c) .reached) 1 0) 0 (c .«threshold_cnt») (afterCheck (incremented c) .counter .«threshold_cnt»)
     by true a true b =
         let g = ltb-true 0 (c .threshold) a in
         let h = leb-true (c .threshold) (incremented c .«threshold_cnt») b in

@@ -8,7 +8,7 @@ use borrow.Author.Tests.{eqb-true, leb-true}
 use lib.Dec.{leb}
 use lib.ListN.{getD}
 use Rattle.types.specs.Pick.{pick, both}
-use Rattle.counters.specs.Counters.{counterKinds, place, sameKind, counter, byKind, replaced, newCounter, newCounters, thresholdFor, allOf, withinLimit}
+use Rattle.counters.specs.Counters.{counterKinds, place, sameKind, counter, byKind, replaced, newCounter, newCounters, thresholdFor, allOf, thresholdsFit}
 use Rattle.counters.specs.declared.counters.ThresholdCounter.{ThresholdCounter}
 use Rattle.counters.specs.declared.counters.CounterKind.{CounterKind}
 use Rattle.counters.specs.declared.counters.CounterKind.the-variants.{Collision, LossOfSoc, LossOfSoa, LossOfPreq, SoCJitter, Crc, HeartbeatTimeout}
@@ -76,6 +76,6 @@ module _ (p : CounterKind → Bool) where
       (at (place k) counterKinds Collision h (first Collision (LossOfSoc ∷ LossOfSoa ∷ LossOfPreq ∷ SoCJitter ∷ Crc ∷ HeartbeatTimeout ∷ []) h))
 
 -- each of the thresholds that pass is within the limit
-pub limited : (t : Thresholds) → withinLimit t ≡ true → (k : CounterKind) → thresholdFor k t ≤ 1000000
-unfolding withinLimit
+pub limited : (t : Thresholds) → thresholdsFit t ≡ true → (k : CounterKind) → thresholdFor k t ≤ 1000000
+unfolding thresholdsFit
 limited t h k = leb-true (thresholdFor k t) 1000000 (passes (λ (k : CounterKind). leb (thresholdFor k t) 1000000) h k)

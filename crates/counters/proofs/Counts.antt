@@ -9,7 +9,7 @@ use native.Mathlib.Omega.{arith}
 use borrow.Author.Tests.{eq-eqb}
 use Rattle.types.specs.Pick.{pick}
 use Rattle.types.specs.declared.frame.error.types.DllError.{DllError}
-use Rattle.counters.specs.Counters.{counterKinds, place, sameKind, counter, top, addTop, incremented, decremented, reaches, checked, afterError, raised, crossedAnswer, unsignalled, active, lowered, countedError, linkLost, Effect, counts, losesLink, isLogged, nothing, effect, handledAs, handled, completed}
+use Rattle.counters.specs.Counters.{counterKinds, place, sameKind, counter, top, addTop, incremented, decremented, reaches, afterCheck, afterError, raised, crossedAnswer, unsignalled, active, lowered, countedError, linkLost, Effect, counts, losesLink, isLogged, nothing, effect, handledAs, handled, completed}
 use Rattle.counters.specs.Marks.{thresholdOf, Mark, given, crossed, drained, isGiven, isCrossed, countOf, E, N, effectMarks, errorMarks, drainedOf, cycleMarks}
 use Rattle.counters.specs.declared.counters.ThresholdCounter.{ThresholdCounter}
 use Rattle.counters.specs.declared.counters.CounterKind.{CounterKind}
@@ -111,8 +111,8 @@ module _ (c : ThresholdCounter) where
   after-error :
       (b : Bool) →
       reaches (incremented c) ≡ b →
-      (checked (incremented c) .counter .«cumulative_cnt» ≡ addTop (c .«cumulative_cnt») 1) ×
-      (checked (incremented c) .counter .«crossings_cnt» ≡ pick (checked (incremented c) .reached) (addTop (c .«crossings_cnt») 1) (c .«crossings_cnt»))
+      (afterCheck (incremented c) .counter .«cumulative_cnt» ≡ addTop (c .«cumulative_cnt») 1) ×
+      (afterCheck (incremented c) .counter .«crossings_cnt» ≡ pick (afterCheck (incremented c) .reached) (addTop (c .«crossings_cnt») 1) (c .«crossings_cnt»))
   after-error true h = rw h (refl, refl)
   after-error false h = rw h (refl, refl)
 

@@ -104,8 +104,8 @@ allOf p [] = true
 allOf p (x ∷ xs) = both (p x) (allOf p xs)
 
 -- "0 to 1,000,000"
-unfoldable pub withinLimit : Thresholds → Bool
-withinLimit t = allOf (λ (k : CounterKind). leb (thresholdFor k t) 1000000) counterKinds
+unfoldable pub thresholdsFit : Thresholds → Bool
+thresholdsFit t = allOf (λ (k : CounterKind). leb (thresholdFor k t) 1000000) counterKinds
 
 -- the 32-bit top, and a sum that stops there
 abbrev pub top : ℕ
@@ -123,8 +123,8 @@ abbrev pub reaches : ThresholdCounter → Bool
 reaches c = both (ltb 0 (c .threshold)) (leb (c .threshold) (c .«threshold_cnt»))
 
 -- "the level drops to 0"; No. 3: "Crossings get a count of their own", which stops at the 32-bit top too
-abbrev pub checked : ThresholdCounter → ThresholdCheck
-checked c =
+abbrev pub afterCheck : ThresholdCounter → ThresholdCheck
+afterCheck c =
     pick (reaches c)
     (record { counter = counterOf (c .«cumulative_cnt») 0 (c .threshold) (addTop (c .«crossings_cnt») 1); reached = true })
     (record { counter = c; reached = false })
@@ -139,7 +139,7 @@ unsignalled s = record { counters = s; action = action.None; signal = false; log
 
 -- a counter after an error, and whether it crossed
 unfoldable pub afterError : ThresholdCounter → ThresholdCheck
-afterError c = checked (incremented c)
+afterError c = afterCheck (incremented c)
 
 -- an error e that counts for kind k: given to the counter of that kind, with the answer for a crossing or for none
 abbrev pub raised : CounterKind → CnErrorCounters → CnErrorCounters

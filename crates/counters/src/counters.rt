@@ -1,6 +1,6 @@
 // The threshold counters (EPSG DS 301, Section 4.7.4.1) and those of a controlled node (Section 4.7.8).
 ghost use mathlib.Core.Path.{_≡_};
-ghost use Rattle.counters.specs.Counters.{addTop, newCounter, incremented, decremented, checked, afterError, active, newCounters, counter, replaced, unsignalled, signalledAnswer, countedError, effect, effectOf, handled, lowered, anyActive, completed, sameForAll, withinLimit};
+ghost use Rattle.counters.specs.Counters.{addTop, newCounter, incremented, decremented, afterCheck, afterError, active, newCounters, counter, replaced, unsignalled, signalledAnswer, countedError, effect, effectOf, handled, lowered, anyActive, completed, sameForAll, thresholdsFit};
 use types::frame::error::types::DllError;
 use types::frame::error::types::DllErrors;
 use types::frame::error::types::NmtAction;
@@ -63,7 +63,7 @@ impl ThresholdCounter {
 
     // A threshold of 0 is never reached.
     pub fn check_and_reset(mut self) -> ThresholdCheck
-        ensures { λ r. ⌜ r ≡ checked self ⌝ }
+        ensures { λ r. ⌜ r ≡ afterCheck self ⌝ }
     {
         if 0 < self.threshold && self.threshold <= self.threshold_cnt {
             self.threshold_cnt = 0;
@@ -165,7 +165,7 @@ impl Thresholds {
     }
 
     pub fn is_within_limit(self) -> bool
-        ensures { λ r. ⌜ r ≡ withinLimit self ⌝ }
+        ensures { λ r. ⌜ r ≡ thresholdsFit self ⌝ }
     {
         (self.collision <= 1000000)
             & (self.loss_of_soc <= 1000000)

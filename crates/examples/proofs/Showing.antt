@@ -22,7 +22,7 @@ use Rattle.node.specs.Steps.{fresh, started}
 use Rattle.watched.specs.Watched.{wellFormed, watchedOf}
 use Rattle.watched.specs.Nodes.{nodesOf}
 use Rattle.node.specs.Run.{step}
-use Rattle.counters.specs.Counters.{sameForAll, withinLimit}
+use Rattle.counters.specs.Counters.{sameForAll, thresholdsFit}
 use Rattle.counters.specs.declared.counters.Thresholds.{Thresholds}
 use Rattle.start.specs.Started.{startOf}
 use Rattle.node.specs.Refines.{plain, Rings, rings, joins, joinsAll}
@@ -138,7 +138,7 @@ begun-with :
     od ≡ values 0 0 0 0 0 →
     StartedIn ws ns 0 1 (flags 0) 5 1 od (sameForAll 15) a ws′ ns′ →
     (said a ≡ taken) × ((q m : List ℕ) → Along ws′ q m (swReset .before) (swReset .calls) (swReset .after))
-unfolding started wellFormed listed withinLimit
+unfolding started wellFormed listed thresholdsFit
 begun-with ws ns od answer.Taken ws′ ns′ e s = (
   refl,
   λ q m.

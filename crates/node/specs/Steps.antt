@@ -25,7 +25,7 @@ use Rattle.nmt.specs.declared.cn_state_machine.CnNmtStateMachine.{CnNmtStateMac
 use Rattle.dll.specs.Dll as Dll
 use Rattle.dll.specs.declared.cs_state_machine.DllCsState.{DllCsState}
 use Rattle.dll.specs.declared.cs_state_machine.DllCsState.the-variants.{NonCyclic}
-use Rattle.counters.specs.Counters.{newCounters, withinLimit, handled}
+use Rattle.counters.specs.Counters.{newCounters, thresholdsFit, handled}
 use Rattle.counters.specs.Marks.{Mark, errorMarks}
 use Rattle.counters.specs.declared.counters.CnErrorCounters.{CnErrorCounters}
 use Rattle.counters.specs.declared.counters.HandledError.{HandledError}
@@ -107,7 +107,7 @@ startTests s =
     must (isNode (s .node)) 1 ∷
     must (leb (s .capacity) 32) 2 ∷
     must (wellFormed (s .watched)) 3 ∷
-    must (withinLimit (s .thresholds)) 14 ∷
+    must (thresholdsFit (s .thresholds)) 14 ∷
     []
 
 unfoldable pub started : Start → FirstStep

@@ -1,4 +1,4 @@
-// The calls on a head in words, but for start, heard, load and the tick. Nothing is written before the last test is passed.
+// The calls on a head in words, but for start, heard, load, the tick and what is asked of a clock known within a range. Nothing is written before the last test is passed.
 ghost use mathlib.Core.Path.{_≡_};
 ghost use mathlib.Core.Bool.{true, false};
 ghost use mathlib.Core.List.{List, []};

@@ -18,7 +18,7 @@ use Rattle.types.specs.declared.types.NodeIdRead.the-variants as node-id
 use Rattle.types.specs.declared.nmt.flags.FeatureFlags.{FeatureFlags}
 use Rattle.nmt.specs.Nmt as Nmt
 use Rattle.dll.specs.declared.cs_state_machine.DllCsState.the-variants.{NonCyclic}
-use Rattle.counters.specs.Counters.{newCounters, withinLimit}
+use Rattle.counters.specs.Counters.{newCounters, thresholdsFit}
 use Rattle.counters.specs.declared.counters.Thresholds.{Thresholds}
 use Rattle.entries.proofs.Lists.{waiting-new, history-new}
 use Rattle.head.specs.declared.state.Deadline.the-variants.{Nothing}
@@ -58,7 +58,7 @@ module _ (ws : List ℕ) (vs : List WatchedNode) (n : ℕ) (f : FeatureFlags) (t
   yes x = record { begun = begins (freshWith x); lent = unheard vs }
 
   abbrev byNode : NodeIdRead → FirstStep
-  byNode (node-id.Taken x) = pick (leb c 32) (pick (wellFormed vs) (pick (withinLimit ts) (yes x) (no ThresholdLimit)) (no WatchedNodes)) (no QueueCapacity)
+  byNode (node-id.Taken x) = pick (leb c 32) (pick (wellFormed vs) (pick (thresholdsFit ts) (yes x) (no ThresholdLimit)) (no WatchedNodes)) (no QueueCapacity)
   byNode (node-id.Refused r) = no r
 
   started-by : started s ≡ byNode (readNode n)
@@ -67,7 +67,7 @@ module _ (ws : List ℕ) (vs : List WatchedNode) (n : ℕ) (f : FeatureFlags) (t
     where
       by :
           (b : Bool) →
-          pick b (pick (leb c 32) (pick (wellFormed vs) (pick (withinLimit ts) (yes (node n)) (no ThresholdLimit)) (no WatchedNodes)) (no QueueCapacity)) (no NodeNumber)
+          pick b (pick (leb c 32) (pick (wellFormed vs) (pick (thresholdsFit ts) (yes (node n)) (no ThresholdLimit)) (no WatchedNodes)) (no QueueCapacity)) (no NodeNumber)
           ≡ byNode (pick b (node-id.Taken (node n)) (node-id.Refused NodeNumber))
       by true = refl
       by false = refl
@@ -98,12 +98,12 @@ module _ (ws : List ℕ) (vs : List WatchedNode) (n : ℕ) (f : FeatureFlags) (t
         pub start-unformed : wellFormed vs ≡ false → StartedOn ws vs n f t c o ts (answer.Refused WatchedNodes) ws vs
         start-unformed a = start-declined WatchedNodes (after-node ∙ rw (le-leb c 32 z, a))
 
-        pub start-unlimited : wellFormed vs ≡ true → withinLimit ts ≡ false → StartedOn ws vs n f t c o ts (answer.Refused ThresholdLimit) ws vs
+        pub start-unlimited : wellFormed vs ≡ true → thresholdsFit ts ≡ false → StartedOn ws vs n f t c o ts (answer.Refused ThresholdLimit) ws vs
         start-unlimited a u = start-declined ThresholdLimit (after-node ∙ rw (le-leb c 32 z, a, u))
 
         pub start-taken :
             wellFormed vs ≡ true →
-            withinLimit ts ≡ true →
+            thresholdsFit ts ≡ true →
             (ws′ : List ℕ) →
             (headOf ws′ ≡ freshHead x f t c o ts) × (ws′ ≡ freshWords x f t c o ts) →
             (l : List WatchedNode) →
@@ -131,7 +131,7 @@ byTests a b f l =
 pub taken-formed : (n c : ℕ) (f : Bool) (ts : Thresholds) → startAnswer n c f ts ≡ answer.Taken → f ≡ true
 taken-formed n c f ts e = by (isNode n) (leb c 32) f e
   where
-    by : (a b f : Bool) → byTests a b f (withinLimit ts) ≡ answer.Taken → f ≡ true
+    by : (a b f : Bool) → byTests a b f (thresholdsFit ts) ≡ answer.Taken → f ≡ true
     by true true true e = refl
     by true true false e = absurd (let z : _≡_ {A = ℕ} 0 1 = cc in let x : ⊥ = omega arith in x)
     by true false f e = absurd (let z : _≡_ {A = ℕ} 0 1 = cc in let x : ⊥ = omega arith in x)
@@ -171,31 +171,31 @@ module _ (ws : List ℕ) (n : ℕ) (f : FeatureFlags) (t c : ℕ) (o : Dictionar
   pub begins-no-node : (x : Refusal) → i ≡ node-id.Refused x → BeginsBy ws n f t c o ts formed (answer.Refused x) ws
   begins-no-node x g =
       let p = no-node x g in
-      declines x (ap answer.Refused (p .1) ∙ sym (ap (λ (b : Bool). byTests b (leb c 32) formed (withinLimit ts)) (p .0)))
+      declines x (ap answer.Refused (p .1) ∙ sym (ap (λ (b : Bool). byTests b (leb c 32) formed (thresholdsFit ts)) (p .0)))
       (λ vs _. start-no-node ws vs n f t c o ts i e x g)
 
   module _ (x : NodeId) (g : i ≡ node-id.Taken x) where
-    tests : (b : Bool) → leb c 32 ≡ b → byTests true b formed (withinLimit ts) ≡ startAnswer n c formed ts
-    tests b h = sym (ap₂ (λ (a b : Bool). byTests a b formed (withinLimit ts)) (a-node x g) h)
+    tests : (b : Bool) → leb c 32 ≡ b → byTests true b formed (thresholdsFit ts) ≡ startAnswer n c formed ts
+    tests b h = sym (ap₂ (λ (a b : Bool). byTests a b formed (thresholdsFit ts)) (a-node x g) h)
 
     pub begins-no-room : 32 < c → BeginsBy ws n f t c o ts formed (answer.Refused QueueCapacity) ws
     begins-no-room z = declines QueueCapacity (tests false (lt-leb c 32 z)) (λ vs _. start-no-room ws vs n f t c o ts i e x g z)
 
     module _ (z : c ≤ 32) where
       -- room for the queue: what is left of the tests
-      behind : (d l : Bool) → formed ≡ d → withinLimit ts ≡ l → byTests true true d l ≡ startAnswer n c formed ts
+      behind : (d l : Bool) → formed ≡ d → thresholdsFit ts ≡ l → byTests true true d l ≡ startAnswer n c formed ts
       behind d l h u = sym (ap₂ (byTests true true) h u) ∙ tests true (le-leb c 32 z)
 
       pub begins-unformed : formed ≡ false → BeginsBy ws n f t c o ts formed (answer.Refused WatchedNodes) ws
       begins-unformed a =
-          declines WatchedNodes (behind false (withinLimit ts) a refl) (λ vs h. start-unformed ws vs n f t c o ts i e x g z (sym h ∙ a))
+          declines WatchedNodes (behind false (thresholdsFit ts) a refl) (λ vs h. start-unformed ws vs n f t c o ts i e x g z (sym h ∙ a))
 
-      pub begins-unlimited : formed ≡ true → withinLimit ts ≡ false → BeginsBy ws n f t c o ts formed (answer.Refused ThresholdLimit) ws
+      pub begins-unlimited : formed ≡ true → thresholdsFit ts ≡ false → BeginsBy ws n f t c o ts formed (answer.Refused ThresholdLimit) ws
       begins-unlimited a u =
           declines ThresholdLimit (behind true false a u) (λ vs h. start-unlimited ws vs n f t c o ts i e x g z (sym h ∙ a) u)
 
       pub begins-taken :
-          formed ≡ true → withinLimit ts ≡ true → (ws′ : List ℕ) → (headOf ws′ ≡ freshHead x f t c o ts) × (ws′ ≡ freshWords x f t c o ts) →
+          formed ≡ true → thresholdsFit ts ≡ true → (ws′ : List ℕ) → (headOf ws′ ≡ freshHead x f t c o ts) × (ws′ ≡ freshWords x f t c o ts) →
           BeginsBy ws n f t c o ts formed answer.Taken ws′
       begins-taken a u ws′ r =
           record {

@@ -13,7 +13,7 @@ use Rattle.types.specs.declared.refusals.Refusal.the-variants.{NodeNumber, Queu
 use Rattle.types.specs.declared.nmt.flags.FeatureFlags.{FeatureFlags}
 use Rattle.nmt.specs.Nmt as Nmt
 use Rattle.dll.specs.Dll.{freshMachine}
-use Rattle.counters.specs.Counters.{newCounters, withinLimit}
+use Rattle.counters.specs.Counters.{newCounters, thresholdsFit}
 use Rattle.counters.specs.declared.counters.Thresholds.{Thresholds}
 use Rattle.entries.specs.Queue.{queue}
 use Rattle.entries.specs.History.{errorHistory}
@@ -79,7 +79,7 @@ unheardWords (suc i) ns = set (unheardWords i ns) (3 * i + 2) 0
 -- numbers 1, 2, 3 and 14, where it is known whether the nodes pass number 3
 abbrev pub startAnswer : ℕ → ℕ → Bool → Thresholds → CallAnswer
 startAnswer n c formed ts =
-    tried (must (isNode n) NodeNumber ∷ must (leb c 32) QueueCapacity ∷ must formed WatchedNodes ∷ must (withinLimit ts) ThresholdLimit ∷ []) answer.Refused answer.Taken
+    tried (must (isNode n) NodeNumber ∷ must (leb c 32) QueueCapacity ∷ must formed WatchedNodes ∷ must (thresholdsFit ts) ThresholdLimit ∷ []) answer.Refused answer.Taken
 
 -- the nodes that start leaves
 abbrev pub startLeft : CallAnswer → List WatchedNode → List WatchedNode

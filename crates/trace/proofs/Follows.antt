@@ -6,7 +6,7 @@ use mathlib.Core.Bool.{Bool, true, false}
 use mathlib.Core.List.{List, [], _∷_}
 use native.Mathlib.Omega.{arith}
 use Rattle.types.specs.Pick.{pick}
-use Rattle.counters.specs.Counters.{withinLimit}
+use Rattle.counters.specs.Counters.{thresholdsFit}
 use Rattle.head.specs.Head.{Head}
 use Rattle.watched.specs.declared.nodes.WatchedNode.{WatchedNode}
 use Rattle.watched.specs.Watched.{unheard}
@@ -73,7 +73,7 @@ all-hold P (t ∷ ts) refuse accept never h = by (t .holds) refl (all-hold P ts 
     by true e rest h = (e, rest h)
     by false e rest h = absurd (never (t .otherwise) h)
 
-pub begins-limited : (s : Start) (p : Plain) → begins p ≡ started s .begun → withinLimit (s .thresholds) ≡ true
+pub begins-limited : (s : Start) (p : Plain) → begins p ≡ started s .begun → thresholdsFit (s .thresholds) ≡ true
 unfolding started
 begins-limited s p e =
     all-hold (λ (f : FirstStep). begins p ≡ f .begun) (startTests s)

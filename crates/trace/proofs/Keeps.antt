@@ -7,7 +7,7 @@ use mathlib.Core.List.{List, [], _∷_, _++_}
 use native.Mathlib.Omega.{arith}
 use lib.ListN.{length, length-append}
 use Rattle.types.specs.Pick.{either}
-use Rattle.counters.specs.Counters.{counter, newCounter, top, thresholdFor, withinLimit}
+use Rattle.counters.specs.Counters.{counter, newCounter, top, thresholdFor, thresholdsFit}
 use Rattle.counters.specs.Marks.{isCrossing, countOf, level, E, N}
 use Rattle.counters.specs.declared.counters.CounterKind.{CounterKind}
 use Rattle.counters.specs.declared.counters.Thresholds.{Thresholds}
@@ -100,7 +100,7 @@ each p (c ∷ cs) = (rule p c, each (step p c .head) cs)
 -- the claim, of a head that is as the plain head's list leaves it, and answers that are the plain head's
 pub claimed :
     (s : Start) (cs : List Call) (says : List Said) (h : Head) (q m : List ℕ) →
-    withinLimit (s .thresholds) ≡ true →
+    thresholdsFit (s .thresholds) ≡ true →
     plain h q m ≡ stepAll (fresh s) cs →
     says ≡ saidAll (fresh s) cs →
     Claim s cs says h q m

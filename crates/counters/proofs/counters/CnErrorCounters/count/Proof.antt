@@ -5,7 +5,7 @@ use mathlib.Core.Path.{_≡_, ap, _∙_}
 use mathlib.Core.Bool.{true, false}
 use borrow.Author.Needs.{needs}
 use Rattle.types.specs.declared.frame.error.types.DllError.{DllError}
-use Rattle.counters.specs.Counters.{counter, replaced, incremented, checked, crossedAnswer, unsignalled, afterError, countedError}
+use Rattle.counters.specs.Counters.{counter, replaced, incremented, afterCheck, crossedAnswer, unsignalled, afterError, countedError}
 use Rattle.counters.specs.declared.counters.ThresholdCheck.{ThresholdCheck}
 use Rattle.counters.specs.declared.counters.CounterKind.{CounterKind}
 use Rattle.counters.specs.declared.counters.CnErrorCounters.{CnErrorCounters}
@@ -27,7 +27,7 @@ after-error :
     c .check-and-reset .result ≡ afterError (counter (c .before .before .before .args .kind) (c .before .before .before .args .self))
 unfolding afterError
 after-error c =
-    c .check-and-reset .ensures ∙ ap checked (c .before .increment .ensures ∙ ap incremented (c .before .before .counter .ensures))
+    c .check-and-reset .ensures ∙ ap afterCheck (c .before .increment .ensures ∙ ap incremented (c .before .before .counter .ensures))
 
 pub count-spec : {M : Type 1} → statement M
 count-spec =

@@ -2,7 +2,7 @@
 -- Assumes nothing.
 use mathlib.Core.Path.{ap, _∙_}
 use borrow.Author.Needs.{needs}
-use Rattle.counters.specs.Counters.{checked, afterError}
+use Rattle.counters.specs.Counters.{afterCheck, afterError}
 use Rattle.counters.proofs.counters.ThresholdCounter.count_error.Statement.{statement}
 use Rattle.counters.proofs.counters.ThresholdCounter.count_error.Tie as tie
 
@@ -13,4 +13,4 @@ count-error-spec =
     (tie.spec
     (λ c κs. search needs)
     (λ c κs. search needs)
-    (λ c. c .check-and-reset .ensures ∙ ap checked (c .before .increment .ensures)))
+    (λ c. c .check-and-reset .ensures ∙ ap afterCheck (c .before .increment .ensures)))

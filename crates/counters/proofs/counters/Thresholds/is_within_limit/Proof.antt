@@ -4,7 +4,7 @@ use mathlib.Core.Path.{_≡_, refl}
 use mathlib.Core.Bool.{Bool, true, false, _&&_}
 use lib.Dec.{leb}
 use Rattle.types.specs.Pick.{both}
-use Rattle.counters.specs.Counters.{withinLimit}
+use Rattle.counters.specs.Counters.{thresholdsFit}
 use Rattle.counters.proofs.counters.Thresholds.is_within_limit.Statement.{statement}
 use Rattle.counters.proofs.counters.Thresholds.is_within_limit.Tie as tie
 
@@ -22,7 +22,7 @@ all-seven true true true true true true false = refl
 all-seven true true true true true true true = refl
 
 pub is-within-limit-spec : {M : Type 1} → statement M
-unfolding withinLimit
+unfolding thresholdsFit
 is-within-limit-spec =
     tie.close
     (tie.spec
