@@ -1,7 +1,8 @@
 #!/usr/bin/env bash
-# Drives the lent forms of crate `lent` (the watched nodes as a run of records, the threshold counter behind a reference) beside the other ones (words, and by
-# value) with the same generated calls: every answer, word, byte and record is compared after each call. Then wrong forms take the place of the lent ones, and
-# each has to be noticed. Needs the kit alone.
+# Drives the lent forms of crate `lent` (the watched nodes as a run of records and their number, the threshold counter behind a reference) beside the other ones
+# (words, and by value) with the same generated calls: every answer, word, byte and record, and the number, is compared after each call. A run of another length
+# than 32, which the other form cannot be given, and a number of 33 the lent form has to decline. Then wrong forms take the place of the lent ones, and each has
+# to be noticed. Needs the kit alone.
 #
 # A function that lends structs has to be walked by hand, so the driver, compare/lent/*.rt.txt, is an unproved program above the proved libraries. The kit's
 # `rattle-cases` compiles it three ways (-O0, -O3, and with the compiler's assumptions checked) and runs each. `rt try` would give it the source of every
@@ -11,7 +12,7 @@ here=$(cd "$(dirname "${BASH_SOURCE[0]}")" && pwd)
 root=$(dirname "$here")
 work="$root/target/compare/lent"
 seeds="1 2 3 4 5"
-calls=10000
+calls=9000
 # Each line of the report has to count at least so many.
 least=20
 
@@ -66,6 +67,11 @@ sum() {
     grep -E "^[0-9]+ ($1)\$" "$work/report" | awk '{ n += $1 } END { print n + 0 }'
 }
 
+# The calls of the name $1, in both forms.
+made() {
+    sum "$1: (taken|refused.*)"
+}
+
 compare() {
     drive "$work/report" --extern "lent=$root/target/rlib/lent.rlib" || {
         ran "$work/report" "with the crate lent"
@@ -75,7 +81,10 @@ compare() {
     one_of_three "$work/report"
     rare=$(awk -v least="$least" '$1 < least' "$work/report")
     [ -z "$rare" ] || fail "met less than $least times: $rare"
-    echo "Alike after each of $(sum 'calls in all') calls: $(sum 'start: (taken|refused.*)') starts, $(sum 'heard: (taken|refused.*)') of heard, $(sum 'tick: (taken|refused.*)') ticks, $(sum 'counters: calls') on counters, and those between them."
+    echo "Alike after each of $(sum 'calls in all') calls: $(made start) starts, $(made heard) of heard, $(made tick) ticks, $(made add) adds, $(made remove) removals," \
+        "$(sum 'counters: calls') on counters, $(sum '[a-z]+: alone.*') of the lent form alone, and those between them."
+    echo "Alone it declined $(sum '[a-z]+: alone, on 31 places') calls on 31 places, $(sum '[a-z]+: alone, on 33 places') on 33," \
+        "$(sum '[a-z]+: alone, on another number of places') on another number of them, and $(sum '[a-z]+: alone, with a number of 33') with a number of 33; nothing was changed."
     echo "The $(wc -l <"$work/report") counts of target/compare/lent/report are $least or more; the least: $(sort -n "$work/report" | head -n 1)."
 }
 
@@ -91,6 +100,7 @@ notice() {
     printf '%s\n' "${text%%"$2"*}$3$rest" >"$work/wrong/src/$1"
     ! drive "$report" --lib "lent=$work/wrong/src/lib.rt" || fail "in $1, this was not noticed: $3"
     ran "$report" "with this in $1: $3"
+    grep -q '^seed ' "$report" || fail "in $1, the driver ended without a difference (is the machine busy?): $3"
     echo "  $1, $3 noticed at $(head -n 1 "$report")"
 }
 

@@ -29,6 +29,11 @@ for seed in 1 2; do
     "$oracle" replay <"$work/$seed.txt" >"$work/$seed.out"
     echo "Seed $seed: $(wc -l <"$work/$seed.txt") lines of script, $(wc -l <"$work/$seed.out") lines of output."
 done
+echo "Generating a script of $calls calls without ticks, with seed 1."
+"$oracle" generate 1 "$calls" without-ticks >"$work/without-ticks.txt" 2>"$work/without-ticks.coverage" || {
+    tail -n 20 "$work/without-ticks.coverage" >&2
+    exit 1
+}
 echo "Running the Rust where refusal 6 stands in front of it: it has to panic."
 "$oracle" panics <"$work/1.txt"
 echo "Giving a counter of the Rust at threshold 0 errors up to the 32-bit top: its level has to stop there."
@@ -36,23 +41,5 @@ echo "Giving a counter of the Rust at threshold 0 errors up to the 32-bit top: i
 echo "Giving the dictionary default values, and loading what each reset restored: the heads have to stay alike."
 "$oracle" restore <"$work/1.txt" >"$work/restored.txt"
 echo "$(wc -l <"$work/restored.txt") lines with $(($(wc -l <"$work/restored.txt") - $(wc -l <"$work/1.txt"))) loads behind resets."
-
-# The lines of document 02, No. 1, which the oracle reads with the word `partners` and `replay` does not know yet.
-"$oracle" partners <"$here/scripts/partners.txt" >"$work/partners.out"
-if cmp -s "$work/partners.out" "$here/scripts/partners.out"; then
-    echo "partners: the Rust's $(wc -l <"$work/partners.out") lines are the stored ones."
-else
-    echo "partners: the Rust prints other lines than compare/scripts/partners.out; the first of them:" >&2
-    diff "$work/partners.out" "$here/scripts/partners.out" | head -n 4 >&2
-    exit 1
-fi
-echo "Generating scripts of $calls calls with nodes that arrive and leave, with seed 1, and without ticks."
-"$oracle" partners generate 1 "$calls" >"$work/partners-1.txt"
-"$oracle" partners generate 1 "$calls" without-ticks >"$work/partners-without-ticks.txt"
-"$oracle" partners <"$work/partners-1.txt" >"$work/partners-1.out"
-echo "Seed 1: $(wc -l <"$work/partners-1.txt") lines of script, $(wc -l <"$work/partners-1.out") lines of output."
 echo "Running ticks of the Rust at each earliest moment and just before it: a watched node has to be late at the moment, and none before."
-"$oracle" partners moments <"$work/partners-1.txt"
-echo "Running the Rust where refusal 6 stands in front of it, and restoring values, on this script too."
-"$oracle" partners panics <"$work/partners-1.txt"
-"$oracle" partners restore <"$work/partners-1.txt" >"$work/partners-restored.txt"
+"$oracle" moments <"$work/1.txt"

@@ -32,8 +32,6 @@ for driver in readings transitions positions counting entry_bytes; do
 done
 for script in "$here"/scripts/*.txt; do
     name=$(basename "$script" .txt)
-    # Its lines are read with a word (compare/oracle.sh).
-    [ "$name" != partners ] || continue
     printed="$root/target/compare/$name.out"
     "$programs/oracle" replay <"$script" >"$printed"
     hold "$name" "$printed" "compare/scripts/$name.out"

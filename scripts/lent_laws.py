@@ -12,12 +12,9 @@ import re
 import sys
 
 LAWS = {
-    'JudgedHeard': ('run A B', 'A'),
-    'JudgedStart': ('P run A B F G I N', ''),
-    'JudgedTick': ('P Q T run A', 'P A'),
-    'JudgedHear': ('P run A B F', 'A B'),
-    'JudgedBegin': ('P run A B F G I N U', 'A'),
-    'JudgedWatch': ('P Q T run A B', 'P A B'),
+    'JudgedHeard': ('P run A B F', 'A B F'),
+    'JudgedStart': ('P run A B F G I N U', 'A'),
+    'JudgedTick': ('P Q T run A B', 'P A B'),
     'JudgedAdd': ('P Q run A B', 'Q A'),
     'JudgedRemove': ('P Q run A', 'Q A'),
 }

@@ -5,14 +5,14 @@ cd "$(dirname "${BASH_SOURCE[0]}")/.."
 script=$1
 shift
 "${@:-target/bin/replay}" <"$script" >target/run.out
-# A comment, an empty line, a record of the run and a desk answer nothing. `show` answers its first form and those behind it up to the next answer, which begins with one of four words.
+# A comment, an empty line, a run and a desk answer nothing. `show` answers its first form and those behind it up to the next answer, which begins with one of four words.
 awk -v answers=target/run.out '
     function more() {
         if (!read) read = (getline answer <answers)
         return read > 0
     }
     { print }
-    /^(#|$|watch |unwatch$|desk )/ { next }
+    /^(#|$|watch |unwatch$|lend |desk )/ { next }
     {
         do {
             if (!more()) exit 1

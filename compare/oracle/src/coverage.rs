@@ -3,7 +3,7 @@
 mod partners;
 
 use crate::places::{ERRORS, kind_behind};
-use crate::view::{COUNTER_NAMES, HEARTBEAT, HIGHEST_THRESHOLD, Lent, Partners, View};
+use crate::view::{COUNTER_NAMES, HEARTBEAT, HIGHEST_THRESHOLD, Lent, View};
 use partners::Arrivals;
 use std::io::{self, Write};
 
@@ -289,8 +289,8 @@ pub struct Coverage {
     passed_over: u64,
     shows: u64,
     run_lines: u64,
-    /// None: the script has no lines of document 02, No. 1.
-    arrivals: Option<Arrivals>,
+    /// Of document 02, No. 1.
+    arrivals: Arrivals,
 }
 
 /// Ready and enabled.
@@ -360,17 +360,15 @@ fn crossed(kind: usize, before: &View, after: &View) -> u64 {
 }
 
 impl Coverage {
-    pub fn new(script: Ticks, partners: Partners) -> Self {
+    pub fn new(script: Ticks) -> Self {
         Self {
             script,
-            arrivals: (partners == Partners::With).then(Arrivals::default),
             ..Self::default()
         }
     }
 
     pub fn total_calls(&self) -> u64 {
-        let arrivals = self.arrivals.as_ref().map_or(0, Arrivals::total_calls);
-        self.calls.iter().sum::<u64>() + arrivals
+        self.calls.iter().sum::<u64>() + self.arrivals.total_calls()
     }
 
     /// Counts one line.
@@ -395,9 +393,7 @@ impl Coverage {
         if call == "start" {
             self.count_start(step, answer);
         }
-        if let Some(arrivals) = &mut self.arrivals {
-            arrivals.count(step, answer);
-        }
+        self.arrivals.count(step, answer);
         if let Some(after) = step.after {
             self.states[state_place(after.nmt)] += 1;
         }
@@ -746,7 +742,7 @@ impl Coverage {
     /// The groups, without what needs a tick if the script has none.
     fn groups(&self) -> Vec<(&'static str, Vec<Count>)> {
         let mut groups = self.all_groups();
-        groups.extend(self.arrivals.iter().flat_map(Arrivals::groups));
+        groups.extend(self.arrivals.groups());
         if self.script == Ticks::Without {
             for (_, counts) in &mut groups {
                 counts.retain(|count| !count.by_tick);
@@ -1066,8 +1062,7 @@ impl Coverage {
 
     /// Calls that are lent the run, without the tick if the script has none.
     fn run_groups(&self) -> Vec<Group> {
-        let arrivals = self.arrivals.iter();
-        let mut groups: Vec<Group> = arrivals.flat_map(Arrivals::pair_groups).collect();
+        let mut groups = Vec::from(self.arrivals.pair_groups());
         if self.script == Ticks::Without {
             for (_, counts) in &mut groups {
                 counts.retain(|count| !count.by_tick);

@@ -6,7 +6,7 @@ use crate::places::{action_number, error_form, level, named_form, threshold};
 use crate::reset::Range;
 use crate::run::Run;
 use crate::script::Watched;
-use crate::view::{COUNTER_NAMES, Partners};
+use crate::view::COUNTER_NAMES;
 use powerlink_rs::frame::DllError;
 use powerlink_rs::frame::error::{ErrorEntry, NmtAction, seven};
 use powerlink_rs::nmt::states::NmtState;
@@ -86,7 +86,7 @@ pub fn digits(bytes: &[u8]) -> String {
 }
 
 /// The head, the lent run and the desk's buffer.
-pub fn show(head: &Head, run: &Run, desk: &[u8], partners: Partners) -> Vec<String> {
+pub fn show(head: &Head, run: &Run, desk: &[u8]) -> Vec<String> {
     let context = &head.context;
     let mut lines = vec![
         nmt(context),
@@ -99,12 +99,8 @@ pub fn show(head: &Head, run: &Run, desk: &[u8], partners: Partners) -> Vec<Stri
         queue(context),
         named_form("history", dictionary::history(&context.core.od).map(digits)),
         named_form("watched", run.watched().iter().map(watched)),
-    ]);
-    if partners == Partners::With {
-        lines.push(lent(run));
-        lines.push(format!("(earliest {})", or_none(head.earliest)));
-    }
-    lines.extend([
+        lent(run),
+        format!("(earliest {})", or_none(head.earliest)),
         crossings(context),
         named_form("desk", (!desk.is_empty()).then(|| digits(desk)).into_iter()),
         thresholds(context),

@@ -9,7 +9,7 @@ use crate::coverage::{
     limit,
 };
 use crate::places::ERRORS;
-use crate::view::{Driven, Lent, Partners, View};
+use crate::view::{Driven, Lent, View};
 use std::io::{self, Write};
 
 /// The last time that is taken.
@@ -100,7 +100,6 @@ pub fn generate(
     seed: u64,
     calls: u64,
     ticks: Ticks,
-    partners: Partners,
     out: &mut dyn Write,
 ) -> io::Result<Coverage> {
     let mut script = Script {
@@ -108,14 +107,11 @@ pub fn generate(
         head,
         out,
         random: Random(seed),
-        coverage: Coverage::new(ticks, partners),
+        coverage: Coverage::new(ticks),
         ticks,
-        partners,
         now: 0,
     };
-    if partners == Partners::With {
-        script.partners_before_the_first_start()?;
-    }
+    script.partners_before_the_first_start()?;
     script.before_the_first_start()?;
     while script.coverage.total_calls() < calls {
         script.life(calls)?;
@@ -132,7 +128,6 @@ struct Script<'a> {
     random: Random,
     coverage: Coverage,
     ticks: Ticks,
-    partners: Partners,
     /// The time of the script: most calls are made at it or soon after.
     now: u64,
 }
@@ -287,7 +282,7 @@ impl Script<'_> {
             if self.coverage.total_calls() >= calls {
                 break;
             }
-            if self.partners == Partners::With && self.random.one_in(6) {
+            if self.random.one_in(6) {
                 self.partners()?;
             } else {
                 self.scenario()?;

@@ -2,21 +2,19 @@
 //! prints what the script's calls answer. Behind each reset it sets by hand what document 02, No. 7
 //! lets a reset forget. Behind `cumulative` stand the errors that reached a counter of the original,
 //! and its own cumulative values are the crossings (document 02, No. 3). Thresholds that a start names
-//! are given to its counters (No. 6). The run of watched nodes is set as its heartbeat consumers; with the
-//! word `partners` an add and a removal change these (No. 1).
+//! are given to its counters (No. 6). The run of watched nodes is set as its heartbeat consumers, which an
+//! add and a removal change (No. 1).
 //!
 //!     oracle [replay] < SCRIPT     the answers
 //!     oracle original < SCRIPT     the answers of the original as it is, whose resets forget nothing
 //!     oracle restore < SCRIPT      the script again, with loads of what its resets restored
 //!     oracle panics < SCRIPT       how many ticks number 6 refused; the original panics at each
+//!     oracle moments < SCRIPT      how many earliest moments there were; a tick of the original finds each
 //!     oracle generate SEED CALLS   a generated script; its coverage on standard error
 //!     oracle generate SEED CALLS without-ticks   the same of the other calls
 //!     oracle generate SEED CALLS desk            a script of calls on the desk's buffer
 //!     oracle top                   how many errors take a level of the original at threshold 0 to the 32-bit top
 //!     oracle shortest              the shortest ways of the original to ReadyToOperate with an old ready word
-//!     oracle partners [..]         of replay, original, restore, panics, generate SEED CALLS [without-ticks]: the same with the lines of
-//!                                  document 02, No. 1, which are unreadable without the word
-//!     oracle partners moments < SCRIPT   how many earliest moments there were; a tick of the original finds each
 
 mod clock;
 mod coverage;
@@ -48,25 +46,17 @@ use head::Resets;
 use oracle::Oracle;
 use std::io::{self, BufWriter, Read, Write};
 use std::process::ExitCode;
-use view::Partners;
 
 /// The number of calls that the minima of coverage.rs and desk_generator.rs are made for.
 const LONG: u64 = 200_000;
 
-const USAGE: &str = "usage: oracle [partners] [replay | original | restore | panics] < SCRIPT, or oracle [partners] generate SEED CALLS [without-ticks], or oracle generate SEED CALLS desk, or oracle top, or oracle shortest, or oracle partners moments < SCRIPT";
+const USAGE: &str = "usage: oracle [replay | original | restore | panics | moments] < SCRIPT, or oracle generate SEED CALLS [without-ticks | desk], or oracle top, or oracle shortest";
 
 fn main() -> ExitCode {
     let arguments: Vec<String> = std::env::args().skip(1).collect();
     let arguments: Vec<&str> = arguments.iter().map(String::as_str).collect();
     let mut out = BufWriter::new(io::stdout().lock());
-    let done = match &arguments[..] {
-        ["partners", "moments"] => script().and_then(|script| modes::moments(&script, &mut out)),
-        ["partners", arguments @ ..] => run(arguments, Partners::With, &mut out),
-        ["generate", seed, calls, "desk"] => generate_desk(seed, calls, &mut out),
-        ["top"] => modes::top(&mut out),
-        ["shortest"] => incident::shortest(&mut out),
-        arguments => run(arguments, Partners::Without, &mut out),
-    };
+    let done = run(&arguments, &mut out);
     match done.and_then(|()| out.flush()) {
         Ok(()) => ExitCode::SUCCESS,
         Err(error) => {
@@ -76,17 +66,18 @@ fn main() -> ExitCode {
     }
 }
 
-/// The modes that there are with the lines of document 02, No. 1 and without.
-fn run(arguments: &[&str], partners: Partners, out: &mut dyn Write) -> io::Result<()> {
+fn run(arguments: &[&str], out: &mut dyn Write) -> io::Result<()> {
     match *arguments {
-        [] | ["replay"] => modes::replay(&script()?, Resets::Forget, partners, out),
-        ["original"] => modes::replay(&script()?, Resets::AsTheOriginal, partners, out),
-        ["restore"] => modes::restore(&script()?, partners, out),
-        ["panics"] => modes::panics(&script()?, partners, out),
-        ["generate", seed, calls] => generate(seed, calls, Ticks::With, partners, out),
-        ["generate", seed, calls, "without-ticks"] => {
-            generate(seed, calls, Ticks::Without, partners, out)
-        }
+        [] | ["replay"] => modes::replay(&script()?, Resets::Forget, out),
+        ["original"] => modes::replay(&script()?, Resets::AsTheOriginal, out),
+        ["restore"] => modes::restore(&script()?, out),
+        ["panics"] => modes::panics(&script()?, out),
+        ["moments"] => modes::moments(&script()?, out),
+        ["generate", seed, calls] => generate(seed, calls, Ticks::With, out),
+        ["generate", seed, calls, "without-ticks"] => generate(seed, calls, Ticks::Without, out),
+        ["generate", seed, calls, "desk"] => generate_desk(seed, calls, out),
+        ["top"] => modes::top(out),
+        ["shortest"] => incident::shortest(out),
         _ => Err(io::Error::other(USAGE)),
     }
 }
@@ -97,23 +88,17 @@ fn script() -> io::Result<Vec<u8>> {
     Ok(script)
 }
 
-fn generate(
-    seed: &str,
-    calls: &str,
-    ticks: Ticks,
-    partners: Partners,
-    out: &mut dyn Write,
-) -> io::Result<()> {
+fn generate(seed: &str, calls: &str, ticks: Ticks, out: &mut dyn Write) -> io::Result<()> {
     let (seed, calls) = seed_and_calls(seed, calls)?;
-    let mut head = Oracle::new(Defaults::Without, Resets::Forget, partners);
-    let coverage = generator::generate(&mut head, seed, calls, ticks, partners, out)?;
+    let mut head = Oracle::new(Defaults::Without, Resets::Forget);
+    let coverage = generator::generate(&mut head, seed, calls, ticks, out)?;
     coverage.report(&mut io::stderr().lock())?;
     held(calls, &coverage.shortfalls())
 }
 
 fn generate_desk(seed: &str, calls: &str, out: &mut dyn Write) -> io::Result<()> {
     let (seed, calls) = seed_and_calls(seed, calls)?;
-    let mut head = Oracle::new(Defaults::Without, Resets::Forget, Partners::Without);
+    let mut head = Oracle::new(Defaults::Without, Resets::Forget);
     let reached = desk_generator::generate(&mut head, seed, calls, out)?;
     reached.report(&mut io::stderr().lock())?;
     held(calls, &reached.shortfalls())

@@ -5,7 +5,6 @@ use crate::forms;
 use crate::head::Resets;
 use crate::oracle::Oracle;
 use crate::places::level;
-use crate::view::Partners;
 use powerlink_rs::frame::error::ThresholdCounter;
 use std::io::{self, Write};
 use std::panic;
@@ -17,13 +16,8 @@ fn lines(script: &[u8]) -> impl Iterator<Item = &[u8]> {
 }
 
 /// Prints what each line answers.
-pub fn replay(
-    script: &[u8],
-    resets: Resets,
-    partners: Partners,
-    out: &mut dyn Write,
-) -> io::Result<()> {
-    let mut oracle = Oracle::new(Defaults::Without, resets, partners);
+pub fn replay(script: &[u8], resets: Resets, out: &mut dyn Write) -> io::Result<()> {
+    let mut oracle = Oracle::new(Defaults::Without, resets);
     for line in lines(script) {
         for printed in oracle.take(line) {
             writeln!(out, "{printed}")?;
@@ -35,9 +29,9 @@ pub fn replay(
 /// Prints the script again, with loads added. A reset here restores default values; behind each that
 /// restores kept ones, the printed script loads what the restore made of them. The second oracle has
 /// no default values and is given the printed script: the two are held to each other.
-pub fn restore(script: &[u8], partners: Partners, out: &mut dyn Write) -> io::Result<()> {
-    let mut restoring = Oracle::new(Defaults::With, Resets::Forget, partners);
-    let mut loading = Oracle::new(Defaults::Without, Resets::Forget, partners);
+pub fn restore(script: &[u8], out: &mut dyn Write) -> io::Result<()> {
+    let mut restoring = Oracle::new(Defaults::With, Resets::Forget);
+    let mut loading = Oracle::new(Defaults::Without, Resets::Forget);
     for line in lines(script) {
         let restored = restoring.take(line);
         let loaded = loading.take(line);
@@ -96,8 +90,8 @@ const TOO_EARLY: &str = "attempt to subtract with overflow";
 
 /// Runs the original tick where number 6 refuses, and asserts that it panics and that nothing of
 /// the head has changed by then; prints how often.
-pub fn panics(script: &[u8], partners: Partners, out: &mut dyn Write) -> io::Result<()> {
-    let mut oracle = Oracle::new(Defaults::Without, Resets::Forget, partners);
+pub fn panics(script: &[u8], out: &mut dyn Write) -> io::Result<()> {
+    let mut oracle = Oracle::new(Defaults::Without, Resets::Forget);
     let mut tried = 0;
     for line in lines(script) {
         if oracle.take(line) != [forms::refused(6)] {
@@ -123,7 +117,7 @@ pub fn panics(script: &[u8], partners: Partners, out: &mut dyn Write) -> io::Res
 /// Holds each earliest moment that was worked out to the original's tick: a watched node is late at the moment, and none is
 /// before it. Prints how often there was one, and how often none.
 pub fn moments(script: &[u8], out: &mut dyn Write) -> io::Result<()> {
-    let mut oracle = Oracle::new(Defaults::Without, Resets::Forget, Partners::With);
+    let mut oracle = Oracle::new(Defaults::Without, Resets::Forget);
     let (mut some, mut none) = (0, 0);
     for line in lines(script) {
         match oracle.take_and_check_earliest(line) {

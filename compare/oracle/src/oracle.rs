@@ -5,14 +5,13 @@ use crate::dictionary::{self, Defaults};
 use crate::head::{self, Answer, Head, Resets};
 use crate::run::Run;
 use crate::script::{self, Call, Line, Watched};
-use crate::view::{Driven, Lent, Partners, View};
+use crate::view::{Driven, Lent, View};
 use crate::{forms, places};
 use powerlink_rs::frame::error::seven;
 
 pub struct Oracle {
     defaults: Defaults,
     resets: Resets,
-    partners: Partners,
     /// The number of the last line.
     line: u64,
     /// The run of watched nodes that is lent.
@@ -24,12 +23,11 @@ pub struct Oracle {
 }
 
 impl Oracle {
-    pub fn new(defaults: Defaults, resets: Resets, partners: Partners) -> Self {
+    pub fn new(defaults: Defaults, resets: Resets) -> Self {
         places::check_order();
         Self {
             defaults,
             resets,
-            partners,
             line: 0,
             run: Run::new(),
             desk: Vec::new(),
@@ -40,9 +38,7 @@ impl Oracle {
     /// Takes a line without its newline, which may be no text; what is printed for it.
     pub fn take(&mut self, line: &[u8]) -> Vec<String> {
         self.line += 1;
-        let printed = script::read(line)
-            .filter(|line| self.partners == Partners::With || !line.is_of_partners())
-            .and_then(|line| self.act(line));
+        let printed = script::read(line).and_then(|line| self.act(line));
         if let Some(head) = &self.head {
             head.check();
         }
@@ -103,7 +99,7 @@ impl Oracle {
     /// The lines of `show`; none before the first accepted start.
     pub fn show(&self) -> Option<Vec<String>> {
         let head = self.head.as_ref()?;
-        Some(forms::show(head, &self.run, &self.desk, self.partners))
+        Some(forms::show(head, &self.run, &self.desk))
     }
 
     /// The load that names every value as it stands, except for the history.

@@ -101,16 +101,6 @@ pub enum Line {
     Call(Call),
 }
 
-impl Line {
-    /// Whether it is one of document 02, No. 1.
-    pub fn is_of_partners(&self) -> bool {
-        matches!(
-            self,
-            Line::Lend { .. } | Line::Call(Call::Add { .. } | Call::Remove(_) | Call::Bitmap)
-        )
-    }
-}
-
 const LONGEST_LINE: usize = 16_384;
 const LONGEST_HISTORY: usize = 300;
 const LONGEST_DESK: usize = 100;

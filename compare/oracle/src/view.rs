@@ -17,13 +17,6 @@ pub const HEARTBEAT: usize = 6;
 /// Above it a threshold is declined.
 pub const HIGHEST_THRESHOLD: u32 = 1_000_000;
 
-/// Whether the lines of document 02, No. 1 are read, and its two lines of `show` printed.
-#[derive(Debug, Clone, Copy, PartialEq, Eq)]
-pub enum Partners {
-    With,
-    Without,
-}
-
 /// The numbers of nodes.
 pub fn is_node(number: u8) -> bool {
     matches!(number, 1..=240 | 253..=255)

@@ -327,7 +327,7 @@ fn machine_at(line: Line) -> CnNmtStateMachine
 
 // The machine after a step of a head: the event k, or a withdrawal for 19, which is asked of the node itself.
 fn after_step(machine: CnNmtStateMachine, k: usize) -> CnNmtStateMachine {
-    let mut head = [0u32; 58];
+    let mut head = [0u32; 60];
     set_nmt(&mut head, machine);
     if k < 19 {
         nmt_event(&mut head, k as u64);

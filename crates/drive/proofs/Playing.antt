@@ -10,7 +10,7 @@ use Rattle.types.specs.declared.refusals.Refusal.{Refusal}
 use Rattle.types.specs.declared.nmt.flags.FeatureFlags.{FeatureFlags}
 use Rattle.counters.specs.declared.counters.Thresholds.{Thresholds}
 use Rattle.head.specs.declared.state.Dictionary.{Dictionary}
-use Rattle.watched.specs.Watched.{watchedOf}
+use Rattle.watched.specs.Watched.{run}
 use Rattle.node.specs.Plain.{Call}
 use Rattle.node.specs.Run.{Said}
 use Rattle.watched.specs.Nodes.{nodesOf}
@@ -31,13 +31,13 @@ plays-lends {r} {bytes} {ws} {q} {m} {ns} {out} {ns′} {k} {n} e f =
     subst (λ (l : List ℕ). Plays r bytes ws q m ns k out n ws q m l out (record { watched = r .e; made = n })) (sym f) (Plays.lends e)
 
 pub plays-calls :
-    {r : Row} {bytes ws q m ns out ws′ q′ m′ ns′ out′ : List ℕ} {k n x : ℕ} →
+    {r : Row} {bytes ws q m ns out ws′ q′ m′ ns′ out′ : List ℕ} {k k′ n x : ℕ} →
     (r .tag ≡ 10 → ⊥) →
-    Turned ws q m ns k (callOf r (watchedOf (nodesOf ns) k) bytes) x ws′ q′ m′ ns′ →
+    Turned ws q m ns k (callOf r (run (nodesOf ns) k) bytes) x ws′ q′ m′ ns′ k′ →
     out′ ≡ set out n x →
-    Plays r bytes ws q m ns k out n ws′ q′ m′ ns′ out′ (record { watched = k; made = n + 1 })
-plays-calls {r} {bytes} {ws} {q} {m} {ns} {out} {ws′} {q′} {m′} {ns′} {out′} {k} {n} {x} e t f =
-    subst (λ (l : List ℕ). Plays r bytes ws q m ns k out n ws′ q′ m′ ns′ l (record { watched = k; made = n + 1 })) (sym f) (Plays.calls e t)
+    Plays r bytes ws q m ns k out n ws′ q′ m′ ns′ out′ (record { watched = k′; made = n + 1 })
+plays-calls {r} {bytes} {ws} {q} {m} {ns} {out} {ws′} {q′} {m′} {ns′} {out′} {k} {k′} {n} {x} e t f =
+    subst (λ (l : List ℕ). Plays r bytes ws q m ns k out n ws′ q′ m′ ns′ l (record { watched = k′; made = n + 1 })) (sym f) (Plays.calls e t)
 
 -- a number more, at the end
 written-more :

@@ -8,8 +8,8 @@ use Rattle.node.specs.declared.load.DictionaryUpdate.{DictionaryUpdate}
 use Rattle.node.specs.declared.load.ByteUpdate.the-variants as byte
 use Rattle.node.specs.declared.load.CounterUpdate.the-variants as counter
 use Rattle.node.specs.declared.load.ObjectUpdate.the-variants as object
-use Rattle.watched.specs.declared.nodes.WatchedNode.{WatchedNode}
-use Rattle.node.specs.Plain.{error, heard, load}
+use Rattle.watched.specs.Watched.{Run}
+use Rattle.node.specs.Plain.{error, heard, load, add, remove}
 use Rattle.node.specs.Refines.{historyUpdate}
 use Rattle.drive.specs.Script.{valuesOf, callOf, lentBy, rowAt}
 
@@ -33,23 +33,28 @@ keeps =
       «counter_5» = counter.Keep;
     }
 
-module _ (ws : List WatchedNode) (bytes : List ℕ) where
+module _ (l : Run) (bytes : List ℕ) where
   -- 261 is no node, and not node 5; a byte that does not fit is 0
-  no-node : callOf (rowAt (row 5 261 7 0 []) 0) ws bytes ≡ heard 0 7 ws
+  no-node : callOf (rowAt (row 5 261 7 0 []) 0) l bytes ≡ heard 0 7 l
   unfolding callOf
   no-node = refl
 
-  no-byte : callOf (rowAt (row 2 8 255 256 []) 0) ws bytes ≡ error 8 255 0
+  no-byte : callOf (rowAt (row 2 8 255 256 []) 0) l bytes ≡ error 8 255 0
   unfolding callOf
   no-byte = refl
 
+  -- partner 5 with timeout 50 comes, and goes
+  partner : (callOf (rowAt (row 13 5 50 0 []) 0) l bytes ≡ add 5 50 l) × (callOf (rowAt (row 14 5 0 0 []) 0) l bytes ≡ remove 5 l)
+  unfolding callOf
+  partner = (refl, refl)
+
 -- two loads of one script, each with its own part; past the end there is none
 parts :
-    (ws : List WatchedNode) →
-    (callOf (rowAt (loads 1 2 (loads 3 9 [])) 0) ws (10 ∷ 11 ∷ 12 ∷ 13 ∷ 14 ∷ []) ≡ load keeps (historyUpdate true (11 ∷ 12 ∷ [])))
-    × (callOf (rowAt (loads 1 2 (loads 3 9 [])) 1) ws (10 ∷ 11 ∷ 12 ∷ 13 ∷ 14 ∷ []) ≡ load keeps (historyUpdate true (13 ∷ 14 ∷ [])))
+    (l : Run) →
+    (callOf (rowAt (loads 1 2 (loads 3 9 [])) 0) l (10 ∷ 11 ∷ 12 ∷ 13 ∷ 14 ∷ []) ≡ load keeps (historyUpdate true (11 ∷ 12 ∷ [])))
+    × (callOf (rowAt (loads 1 2 (loads 3 9 [])) 1) l (10 ∷ 11 ∷ 12 ∷ 13 ∷ 14 ∷ []) ≡ load keeps (historyUpdate true (13 ∷ 14 ∷ [])))
 unfolding callOf valuesOf
-parts ws = (refl, refl)
+parts l = (refl, refl)
 
 -- the second of three places is set; a place past the 32 is none
 sets :

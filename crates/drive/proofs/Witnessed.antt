@@ -8,7 +8,7 @@ use Rattle.types.specs.declared.refusals.Refusal.{Refusal}
 use Rattle.types.specs.declared.nmt.flags.FeatureFlags.{FeatureFlags}
 use Rattle.counters.specs.declared.counters.Thresholds.{Thresholds}
 use Rattle.head.specs.declared.state.Dictionary.{Dictionary}
-use Rattle.watched.specs.Watched.{watchedOf}
+use Rattle.watched.specs.Watched.{run}
 use Rattle.node.specs.Plain.{Call, Start}
 use Rattle.node.specs.Run.{Said}
 use Rattle.start.specs.Started.{startOf}
@@ -35,7 +35,7 @@ played-driven (Played.calls p e r) = and-then (played-driven p) r
 -- from the words that start wrote
 pub ran-claims :
     {k n t c : ℕ} {f : FeatureFlags} {o : Dictionary} {ts : Thresholds} {script bytes : List ℕ} {x x′ : Lent} (r : Ran k n f t c o ts script bytes x x′) →
-    Claim (startOf n f t c o ts (watchedOf (nodesOf (x .nodes)) k)) (r .rows .calls) (r .rows .says) (headOf (x′ .head)) (x′ .queue) (x′ .history)
+    Claim (startOf n f t c o ts (run (nodesOf (x .nodes)) k)) (r .rows .calls) (r .rows .says) (headOf (x′ .head)) (x′ .queue) (x′ .history)
 ran-claims {k} {n} {t} {c} {f} {o} {ts} {x = x} r =
     demand-3
     (Began.start ([], ([], tt)) (lying (x .head), (lying (x .nodes), (k, (n, (f, (t, (c, (o, (ts, tt))))))))) answer.Taken
@@ -48,7 +48,7 @@ module _ (κs : _) (a : _) (o : CallAnswer) (x : _) (e : drive-reads.Learnt κs 
   abbrev pub given : Start
   given =
       startOf (a .1 .1 .1 .1 .1 .0) (a .1 .1 .1 .1 .1 .1 .0) (a .1 .1 .1 .1 .1 .1 .1 .0) (a .1 .1 .1 .1 .1 .1 .1 .1 .0) (a .1 .1 .1 .1 .1 .1 .1 .1 .1 .0) (a .1 .1 .1 .1 .1 .1 .1 .1 .1 .1 .0)
-      (watchedOf (nodesOf (now (a .1 .0))) (a .1 .1 .0))
+      (run (nodesOf (now (a .1 .0))) (a .1 .1 .0))
 
   abbrev pub before : Lent
   before = lent (now (a .0)) (now (a .1 .0)) (now (a .1 .1 .1 .0)) (now (a .1 .1 .1 .1 .0)) (now (a .1 .1 .1 .1 .1 .1 .1 .1 .1 .1 .1 .1 .1 .0))

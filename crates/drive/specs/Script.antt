@@ -17,9 +17,8 @@ use Rattle.node.specs.declared.load.CounterUpdate.the-variants as counter
 use Rattle.node.specs.declared.load.ObjectUpdate.{ObjectUpdate}
 use Rattle.node.specs.declared.load.ObjectUpdate.the-variants as object
 use Rattle.node.specs.declared.load.DictionaryUpdate.{DictionaryUpdate}
-use Rattle.watched.specs.declared.nodes.WatchedNode.{WatchedNode}
-use Rattle.watched.specs.Watched.{watchedOf}
-use Rattle.node.specs.Plain.{Call, nmtEvent, dllEvent, error, cycleComplete, withdraw, heard, handOut, load, arm, tick, range, margin, Answer, refused, taken, nmtAnswer, dllAnswer, errorAnswer, cycleAnswer, handOutAnswer, tickAnswer, rangeAnswer, marginAnswer}
+use Rattle.watched.specs.Watched.{Run, run}
+use Rattle.node.specs.Plain.{Call, nmtEvent, dllEvent, error, cycleComplete, withdraw, heard, handOut, load, arm, tick, range, margin, add, remove, Answer, refused, taken, nmtAnswer, dllAnswer, errorAnswer, cycleAnswer, handOutAnswer, tickAnswer, rangeAnswer, marginAnswer}
 use Rattle.node.specs.Run.{Said}
 use Rattle.node.specs.Refines.{historyUpdate}
 use Rattle.watched.specs.Nodes.{nodesOf}
@@ -64,20 +63,22 @@ valuesOf r =
 abbrev pub partOf : Row → List ℕ → List ℕ
 partOf r bytes = take (r .j) (drop (r .i) bytes)
 
--- The call of a row, with the watched nodes ws that are lent to heard and to a tick, and the bytes of which a load names a part. Every row is one, but for
+-- The call of a row, with the run l that is lent to heard, a tick, add and removal, and the bytes of which a load names a part. Every row is one, but for
 -- tag 10.
-unfoldable pub callOf : Row → List WatchedNode → List ℕ → Call
-callOf r ws bytes =
+unfoldable pub callOf : Row → Run → List ℕ → Call
+callOf r l bytes =
     pick (eqb (r .tag) 0) (nmtEvent (r .a))
     (pick (eqb (r .tag) 1) (dllEvent (r .a) (eqb (r .b) 1))
     (pick (eqb (r .tag) 2) (error (r .a) (byteOf (r .b)) (byteOf (r .c)))
     (pick (eqb (r .tag) 3) cycleComplete
     (pick (eqb (r .tag) 4) withdraw
-    (pick (eqb (r .tag) 5) (heard (byteOf (r .a)) (r .b) ws)
+    (pick (eqb (r .tag) 5) (heard (byteOf (r .a)) (r .b) l)
     (pick (eqb (r .tag) 6) handOut
     (pick (eqb (r .tag) 7) (load (valuesOf r) (historyUpdate (eqb (r .h) 1) (partOf r bytes)))
-    (pick (eqb (r .tag) 9) (tick (r .a) ws)
-    (pick (eqb (r .tag) 11) (range (r .a) (r .b)) (pick (eqb (r .tag) 12) (margin (r .a)) (arm (r .a))))))))))))
+    (pick (eqb (r .tag) 9) (tick (r .a) l)
+    (pick (eqb (r .tag) 11) (range (r .a) (r .b))
+    (pick (eqb (r .tag) 12) (margin (r .a))
+    (pick (eqb (r .tag) 13) (add (byteOf (r .a)) (r .b) l) (pick (eqb (r .tag) 14) (remove (byteOf (r .a)) l) (arm (r .a))))))))))))))
 
 -- A row of tag 10 is no call: it sets what is lent next. The a-th of the 32 places gets the number b, the timeout c and the time d; past them none does. Then e
 -- nodes are watched.
@@ -124,9 +125,9 @@ numbersWritten out i [] = out
 numbersWritten out i (n ∷ ns) = numbersWritten (set out i n) (suc i) ns
 
 -- a call was made, and n is the number that declined it, or 0
-pub record Turned (ws q m ns : List ℕ) (k : ℕ) (c : Call) (n : ℕ) (ws′ q′ m′ ns′ : List ℕ) : Type 0 where
+pub record Turned (ws q m ns : List ℕ) (k : ℕ) (c : Call) (n : ℕ) (ws′ q′ m′ ns′ : List ℕ) (k′ : ℕ) : Type 0 where
   pub said : Said
-  pub made : Made ws q m ns k c said ws′ q′ m′ ns′
+  pub made : Made ws q m ns k c said ws′ q′ m′ ns′ k′
   pub number : n ≡ numberOf (said .answer)
 
 -- One row: the words of the head, the bytes of queue and history, the words of the nodes and how many are watched; `out`, and how many numbers it has; all of
@@ -134,10 +135,10 @@ pub record Turned (ws q m ns : List ℕ) (k : ℕ) (c : Call) (n : ℕ) (ws′ q
 pub data Plays (r : Row) (bytes ws q m ns : List ℕ) (k : ℕ) (out : List ℕ) (n : ℕ) : List ℕ → List ℕ → List ℕ → List ℕ → List ℕ → Counts → Type 0 where
   lends : r .tag ≡ 10 → Plays r bytes ws q m ns k out n ws q m (lentBy r ns) out (record { watched = r .e; made = n })
   calls :
-      {ws′ q′ m′ ns′ : List ℕ} {x : ℕ} →
+      {ws′ q′ m′ ns′ : List ℕ} {k′ x : ℕ} →
       (r .tag ≡ 10 → ⊥) →
-      Turned ws q m ns k (callOf r (watchedOf (nodesOf ns) k) bytes) x ws′ q′ m′ ns′ →
-      Plays r bytes ws q m ns k out n ws′ q′ m′ ns′ (set out n x) (record { watched = k; made = n + 1 })
+      Turned ws q m ns k (callOf r (run (nodesOf ns) k) bytes) x ws′ q′ m′ ns′ k′ →
+      Plays r bytes ws q m ns k out n ws′ q′ m′ ns′ (set out n x) (record { watched = k′; made = n + 1 })
 
 -- The first so many rows of a script, each on what the last one left: the calls that they are, what these said, and the words of the head, the bytes of queue and
 -- history, the words of the nodes and how many are watched after them.
@@ -149,11 +150,11 @@ pub data Played (script bytes ws₀ q₀ m₀ ns₀ : List ℕ) (k₀ : ℕ) : �
       rowAt script i .tag ≡ 10 →
       Played script bytes ws₀ q₀ m₀ ns₀ k₀ (suc i) cs ss ws q m (lentBy (rowAt script i) ns) (rowAt script i .e)
   calls :
-      {i k : ℕ} {cs : List Call} {ss : List Said} {s : Said} {ws q m ns ws′ q′ m′ ns′ : List ℕ} →
+      {i k k′ : ℕ} {cs : List Call} {ss : List Said} {s : Said} {ws q m ns ws′ q′ m′ ns′ : List ℕ} →
       Played script bytes ws₀ q₀ m₀ ns₀ k₀ i cs ss ws q m ns k →
       (rowAt script i .tag ≡ 10 → ⊥) →
-      Made ws q m ns k (callOf (rowAt script i) (watchedOf (nodesOf ns) k) bytes) s ws′ q′ m′ ns′ →
-      Played script bytes ws₀ q₀ m₀ ns₀ k₀ (suc i) (cs ++ (callOf (rowAt script i) (watchedOf (nodesOf ns) k) bytes ∷ [])) (ss ++ (s ∷ [])) ws′ q′ m′ ns′ k
+      Made ws q m ns k (callOf (rowAt script i) (run (nodesOf ns) k) bytes) s ws′ q′ m′ ns′ k′ →
+      Played script bytes ws₀ q₀ m₀ ns₀ k₀ (suc i) (cs ++ (callOf (rowAt script i) (run (nodesOf ns) k) bytes ∷ [])) (ss ++ (s ∷ [])) ws′ q′ m′ ns′ k′
 
 -- what is lent to `drive`: the words of the head and of the nodes, the bytes of queue and history, and where the answers' numbers go
 pub record Lent : Type 0 where

@@ -6,7 +6,7 @@ ghost use Prim.Native.Nat.{ℕ, _+_, _*_, _<_};
 ghost use lib.Dec.{ltb};
 ghost use lib.ListN.{length, set};
 ghost use Rattle.types.specs.Pick.{pick};
-ghost use Rattle.watched.specs.Watched.{watchedOf};
+ghost use Rattle.watched.specs.Watched.{run};
 ghost use Rattle.node.specs.Plain.{Call};
 ghost use Rattle.watched.specs.Nodes.{nodesOf};
 ghost use Rattle.node.specs.InPlace.{said};
@@ -36,11 +36,14 @@ use node::range::MarginAnswer;
 use node::range::RangeAnswer;
 use node::range::soc_margin;
 use node::range::soc_range;
+use partners::add;
+use partners::remove;
 use start::start::start;
 use tick::tick::TickAnswer;
 use tick::tick::process_tick;
 use types::nmt::flags::FeatureFlags;
 use watched::nodes::NodeWords;
+use watched::nodes::all_places;
 
 // A row of a script: which call, and its arguments; of tag 10, a watched node that is lent next.
 pub struct Row {
@@ -146,7 +149,7 @@ fn cut(n: u64, most: usize) -> usize
 
 // An NMT event.
 fn nmt_turn(head: &mut Head, event: u64) -> u64
-    ensures { λ r. ⌜ ((q m ns : List ℕ) (k : ℕ) → Turned (now (head .entry)) q m ns k (Call.nmtEvent event) r (now (head .exit)) q m ns) ⌝ }
+    ensures { λ r. ⌜ ((q m ns : List ℕ) (k : ℕ) → Turned (now (head .entry)) q m ns k (Call.nmtEvent event) r (now (head .exit)) q m ns k) ⌝ }
 {
     match nmt_event(head, event) {
         NmtEventAnswer::Taken(_) => {
@@ -160,7 +163,7 @@ fn nmt_turn(head: &mut Head, event: u64) -> u64
 
 // A DLL event.
 fn dll_turn(head: &mut Head, event: u64, expect_preq: bool) -> u64
-    ensures { λ r. ⌜ ((q m ns : List ℕ) (k : ℕ) → Turned (now (head .entry)) q m ns k (Call.dllEvent event «expect_preq») r (now (head .exit)) q m ns) ⌝ }
+    ensures { λ r. ⌜ ((q m ns : List ℕ) (k : ℕ) → Turned (now (head .entry)) q m ns k (Call.dllEvent event «expect_preq») r (now (head .exit)) q m ns k) ⌝ }
 {
     match dll_event(head, event, expect_preq) {
         DllEventAnswer::Taken(_) => {
@@ -174,7 +177,7 @@ fn dll_turn(head: &mut Head, event: u64, expect_preq: bool) -> u64
 
 // An error to the counters.
 fn error_turn(head: &mut Head, kind: u64, a: u8, b: u8) -> u64
-    ensures { λ r. ⌜ ((q m ns : List ℕ) (k : ℕ) → Turned (now (head .entry)) q m ns k (Call.error kind a b) r (now (head .exit)) q m ns) ⌝ }
+    ensures { λ r. ⌜ ((q m ns : List ℕ) (k : ℕ) → Turned (now (head .entry)) q m ns k (Call.error kind a b) r (now (head .exit)) q m ns k) ⌝ }
 {
     match handle_error(head, kind, a, b) {
         ErrorAnswer::Taken(_) => {
@@ -188,7 +191,7 @@ fn error_turn(head: &mut Head, kind: u64, a: u8, b: u8) -> u64
 
 // The end of a cycle.
 fn cycle_turn(head: &mut Head) -> u64
-    ensures { λ r. ⌜ ((q m ns : List ℕ) (k : ℕ) → Turned (now (head .entry)) q m ns k Call.cycleComplete r (now (head .exit)) q m ns) ⌝ }
+    ensures { λ r. ⌜ ((q m ns : List ℕ) (k : ℕ) → Turned (now (head .entry)) q m ns k Call.cycleComplete r (now (head .exit)) q m ns k) ⌝ }
 {
     on_cycle_complete(head);
     0
@@ -209,21 +212,21 @@ fn number(answer: CallAnswer) -> u64
 
 // The ready word is taken back.
 fn withdraw_turn(head: &mut Head) -> u64
-    ensures { λ r. ⌜ ((q m ns : List ℕ) (k : ℕ) → Turned (now (head .entry)) q m ns k Call.withdraw r (now (head .exit)) q m ns) ⌝ }
+    ensures { λ r. ⌜ ((q m ns : List ℕ) (k : ℕ) → Turned (now (head .entry)) q m ns k Call.withdraw r (now (head .exit)) q m ns k) ⌝ }
 {
     number(withdraw(head))
 }
 
 // An SoC.
 fn arm_turn(head: &mut Head, time: u64) -> u64
-    ensures { λ r. ⌜ ((q m ns : List ℕ) (k : ℕ) → Turned (now (head .entry)) q m ns k (Call.arm time) r (now (head .exit)) q m ns) ⌝ }
+    ensures { λ r. ⌜ ((q m ns : List ℕ) (k : ℕ) → Turned (now (head .entry)) q m ns k (Call.arm time) r (now (head .exit)) q m ns k) ⌝ }
 {
     number(arm(head, time))
 }
 
 // The SoC between two readings.
 fn range_turn(head: &Head, earliest: u64, latest: u64) -> u64
-    ensures { λ r. ⌜ ((q m ns : List ℕ) (k : ℕ) → Turned (now (head .entry)) q m ns k (Call.range earliest latest) r (now (head .entry)) q m ns) ⌝ }
+    ensures { λ r. ⌜ ((q m ns : List ℕ) (k : ℕ) → Turned (now (head .entry)) q m ns k (Call.range earliest latest) r (now (head .entry)) q m ns k) ⌝ }
 {
     match soc_range(head, earliest, latest) {
         RangeAnswer::Taken(_) => {
@@ -237,7 +240,7 @@ fn range_turn(head: &Head, earliest: u64, latest: u64) -> u64
 
 // The margin of a reading.
 fn margin_turn(head: &Head, time: u64) -> u64
-    ensures { λ r. ⌜ ((q m ns : List ℕ) (k : ℕ) → Turned (now (head .entry)) q m ns k (Call.margin time) r (now (head .entry)) q m ns) ⌝ }
+    ensures { λ r. ⌜ ((q m ns : List ℕ) (k : ℕ) → Turned (now (head .entry)) q m ns k (Call.margin time) r (now (head .entry)) q m ns k) ⌝ }
 {
     match soc_margin(head, time) {
         MarginAnswer::Taken(_) => {
@@ -251,23 +254,52 @@ fn margin_turn(head: &Head, time: u64) -> u64
 
 // The oldest entry is handed out.
 fn hand_out_turn(head: &mut Head, queue: &[u8; 640]) -> u64
-    ensures { λ r. ⌜ ((m ns : List ℕ) (k : ℕ) → Turned (now (head .entry)) (now (queue .entry)) m ns k Call.handOut r (now (head .exit)) (now (queue .entry)) m ns) ⌝ }
+    ensures { λ r. ⌜ ((m ns : List ℕ) (k : ℕ) → Turned (now (head .entry)) (now (queue .entry)) m ns k Call.handOut r (now (head .exit)) (now (queue .entry)) m ns k) ⌝ }
 {
     hand_out(head, queue);
     0
 }
 
 // A watched node was heard.
-fn heard_turn(nodes: &mut NodeWords, count: usize, node: u8, time: u64) -> u64
-    ensures { λ r. ⌜ ((ws q m : List ℕ) → Turned ws q m (now (nodes .entry)) count (Call.heard node time (watchedOf (nodesOf (now (nodes .entry))) count)) r ws q m (now (nodes .exit))) ⌝ }
+fn heard_turn(head: &mut Head, nodes: &mut NodeWords, count: usize, node: u8, time: u64) -> u64
+    ensures { λ r. ⌜ ((q m : List ℕ) → Turned (now (head .entry)) q m (now (nodes .entry)) count (Call.heard node time (run (nodesOf (now (nodes .entry))) count)) r
+        (now (head .exit)) q m (now (nodes .exit)) count) ⌝ }
 {
-    number(heard(nodes, count, node, time))
+    number(heard(head, nodes, count, node, time))
+}
+
+// A node is watched from now on. Before and after it the nodes have their 96 words.
+fn add_turn(
+    head: &mut Head,
+    nodes: &mut NodeWords,
+    count: &mut usize,
+    node: u8,
+    timeout: u64,
+) -> u64
+    ensures { λ r. ⌜ ((q m : List ℕ) → Turned (now (head .entry)) q m (now (nodes .entry)) (now (count .entry)) (Call.add node timeout (run (nodesOf (now (nodes .entry))) (now (count .entry)))) r
+        (now (head .exit)) q m (now (nodes .exit)) (now (count .exit))) ⌝ }
+{
+    all_places(nodes);
+    let answer = add(head, nodes, count, node, timeout);
+    all_places(nodes);
+    number(answer)
+}
+
+// A node is watched no more.
+fn remove_turn(head: &mut Head, nodes: &mut NodeWords, count: &mut usize, node: u8) -> u64
+    ensures { λ r. ⌜ ((q m : List ℕ) → Turned (now (head .entry)) q m (now (nodes .entry)) (now (count .entry)) (Call.remove node (run (nodesOf (now (nodes .entry))) (now (count .entry)))) r
+        (now (head .exit)) q m (now (nodes .exit)) (now (count .exit))) ⌝ }
+{
+    all_places(nodes);
+    let answer = remove(head, nodes, count, node);
+    all_places(nodes);
+    number(answer)
 }
 
 // Values, and where the row says so the history from its own part of the bytes.
 fn load_turn(head: &mut Head, history: &mut [u8; 5080], bytes: &[u8], row: Row) -> u64
     requires { ⌜ row .tag ≡ 7 ⌝ }
-    ensures { λ r. ⌜ ((q ns : List ℕ) (k : ℕ) → Turned (now (head .entry)) q (now (history .entry)) ns k (callOf row (watchedOf (nodesOf ns) k) (now (bytes .entry))) r (now (head .exit)) q (now (history .exit)) ns) ⌝ }
+    ensures { λ r. ⌜ ((q ns : List ℕ) (k : ℕ) → Turned (now (head .entry)) q (now (history .entry)) ns k (callOf row (run (nodesOf ns) k) (now (bytes .entry))) r (now (head .exit)) q (now (history .exit)) ns k) ⌝ }
 {
     let from = cut(row.i, bytes.len());
     let to = from + cut(row.j, bytes.len() - from);
@@ -284,8 +316,8 @@ fn tick_turn(
     count: usize,
     time: u64,
 ) -> u64
-    ensures { λ r. ⌜ Turned (now (head .entry)) (now (queue .entry)) (now (history .entry)) (now (nodes .entry)) count (Call.tick time (watchedOf (nodesOf (now (nodes .entry))) count)) r
-        (now (head .exit)) (now (queue .exit)) (now (history .exit)) (now (nodes .exit)) ⌝ }
+    ensures { λ r. ⌜ Turned (now (head .entry)) (now (queue .entry)) (now (history .entry)) (now (nodes .entry)) count (Call.tick time (run (nodesOf (now (nodes .entry))) count)) r
+        (now (head .exit)) (now (queue .exit)) (now (history .exit)) (now (nodes .exit)) count ⌝ }
 {
     match process_tick(head, queue, history, nodes, count, time) {
         TickAnswer::Taken(_) => {
@@ -299,8 +331,8 @@ fn tick_turn(
 
 // A call that is lent the head alone.
 fn head_call(head: &mut Head, row: Row) -> u64
-    requires { ⌜ (row .tag ≡ 5 → ⊥) × (row .tag ≡ 6 → ⊥) × (row .tag ≡ 7 → ⊥) × (row .tag ≡ 9 → ⊥) ⌝ }
-    ensures { λ r. ⌜ ((q m ns bytes : List ℕ) (k : ℕ) → Turned (now (head .entry)) q m ns k (callOf row (watchedOf (nodesOf ns) k) bytes) r (now (head .exit)) q m ns) ⌝ }
+    requires { ⌜ (row .tag ≡ 5 → ⊥) × (row .tag ≡ 6 → ⊥) × (row .tag ≡ 7 → ⊥) × (row .tag ≡ 9 → ⊥) × (row .tag ≡ 13 → ⊥) × (row .tag ≡ 14 → ⊥) ⌝ }
+    ensures { λ r. ⌜ ((q m ns bytes : List ℕ) (k : ℕ) → Turned (now (head .entry)) q m ns k (callOf row (run (nodesOf ns) k) bytes) r (now (head .exit)) q m ns k) ⌝ }
 {
     if row.tag == 0 {
         return nmt_turn(head, row.a);
@@ -328,21 +360,21 @@ fn head_call(head: &mut Head, row: Row) -> u64
     arm_turn(head, row.a)
 }
 
-// The call of a row; heard and a tick are lent the watched nodes.
+// The call of a row; heard, a tick, add and remove are lent the watched nodes, the last two their number too.
 fn call(
     head: &mut Head,
     nodes: &mut NodeWords,
-    count: usize,
+    count: &mut usize,
     queue: &mut [u8; 640],
     history: &mut [u8; 5080],
     bytes: &[u8],
     row: Row,
 ) -> u64
-    ensures { λ r. ⌜ Turned (now (head .entry)) (now (queue .entry)) (now (history .entry)) (now (nodes .entry)) count (callOf row (watchedOf (nodesOf (now (nodes .entry))) count) (now (bytes .entry))) r
-        (now (head .exit)) (now (queue .exit)) (now (history .exit)) (now (nodes .exit)) ⌝ }
+    ensures { λ r. ⌜ Turned (now (head .entry)) (now (queue .entry)) (now (history .entry)) (now (nodes .entry)) (now (count .entry)) (callOf row (run (nodesOf (now (nodes .entry))) (now (count .entry))) (now (bytes .entry))) r
+        (now (head .exit)) (now (queue .exit)) (now (history .exit)) (now (nodes .exit)) (now (count .exit)) ⌝ }
 {
     if row.tag == 5 {
-        return heard_turn(nodes, count, byte_of(row.a), row.b);
+        return heard_turn(head, nodes, *count, byte_of(row.a), row.b);
     }
     if row.tag == 6 {
         return hand_out_turn(head, queue);
@@ -351,7 +383,13 @@ fn call(
         return load_turn(head, history, bytes, row);
     }
     if row.tag == 9 {
-        return tick_turn(head, queue, history, nodes, count, row.a);
+        return tick_turn(head, queue, history, nodes, *count, row.a);
+    }
+    if row.tag == 13 {
+        return add_turn(head, nodes, count, byte_of(row.a), row.b);
+    }
+    if row.tag == 14 {
+        return remove_turn(head, nodes, count, byte_of(row.a));
     }
     head_call(head, row)
 }
@@ -422,10 +460,11 @@ fn play(
             made,
         };
     }
-    let number = call(head, nodes, count, queue, history, bytes, row);
+    let mut watched = count;
+    let number = call(head, nodes, &mut watched, queue, history, bytes, row);
     put(out, made, number);
     Counts {
-        watched: count,
+        watched,
         made: made + 1,
     }
 }

@@ -23,7 +23,7 @@ use Rattle.head.specs.declared.state.ObjectValue.the-variants.{Unsigned32, Miss
 use Rattle.head.specs.declared.state.SocWatch.{SocWatch}
 use Rattle.head.specs.declared.state.Dictionary.{Dictionary}
 use Rattle.head.specs.Places as at
-use Rattle.head.specs.Words.{word, stateOf, nmtOf, dllState, errorsOf, socOf, odOf, queueOf, historyOf, headOf}
+use Rattle.head.specs.Words.{word, stateOf, nmtOf, dllState, errorsOf, socOf, odOf, queueOf, historyOf, earliestOf, headOf}
 use Rattle.head.proofs.Laws.{state-back, dll-back}
 use Rattle.examples.specs.Same.{Exactly, sameNmt, sameDll, sameCounter, sameErrors, sameDeadline, sameSoc, sameObject, sameOd, sameQueue, sameHistory}
 
@@ -152,7 +152,7 @@ exact-history x y =
     (λ h. λ i. record { newest = h .0 i; count = h .1 i })
     (λ e. (ap (λ z. z .newest) e, ap (λ z. z .count) e))
 
--- a head is its seven parts
+-- a head is its eight parts
 pub exact-head :
     (a b : List ℕ) →
     Exactly
@@ -162,21 +162,23 @@ pub exact-head :
     && sameSoc (socOf a) (socOf b)
     && sameOd (odOf a) (odOf b)
     && sameQueue (queueOf a) (queueOf b)
-    && sameHistory (historyOf a) (historyOf b))
+    && sameHistory (historyOf a) (historyOf b)
+    && sameDeadline (earliestOf a) (earliestOf b))
     (headOf a ≡ headOf b)
 unfolding headOf
 exact-head a b =
     exact-by
-    (exact-and (exact-and (exact-and (exact-and (exact-and (exact-and (exact-nmt _ _) (exact-dll _ _)) (exact-errors _ _)) (exact-soc _ _)) (exact-od _ _))
-    (exact-queue _ _)) (exact-history _ _))
+    (exact-and (exact-and (exact-and (exact-and (exact-and (exact-and (exact-and (exact-nmt _ _) (exact-dll _ _)) (exact-errors _ _)) (exact-soc _ _)) (exact-od _ _))
+    (exact-queue _ _)) (exact-history _ _)) (exact-deadline _ _))
     (λ h. λ i.
     record {
-      nmt = h .0 .0 .0 .0 .0 .0 i;
-      dll = record { state = h .0 .0 .0 .0 .0 .1 i };
-      errors = h .0 .0 .0 .0 .1 i;
-      soc = h .0 .0 .0 .1 i;
-      od = h .0 .0 .1 i;
-      queue = h .0 .1 i;
-      history = h .1 i;
+      nmt = h .0 .0 .0 .0 .0 .0 .0 i;
+      dll = record { state = h .0 .0 .0 .0 .0 .0 .1 i };
+      errors = h .0 .0 .0 .0 .0 .1 i;
+      soc = h .0 .0 .0 .0 .1 i;
+      od = h .0 .0 .0 .1 i;
+      queue = h .0 .0 .1 i;
+      history = h .0 .1 i;
+      earliest = h .1 i;
     })
-    (λ e. ((((((ap (λ z. z .nmt) e, ap (λ z. z .dll .state) e), ap (λ z. z .errors) e), ap (λ z. z .soc) e), ap (λ z. z .od) e), ap (λ z. z .queue) e), ap (λ z. z .history) e))
+    (λ e. (((((((ap (λ z. z .nmt) e, ap (λ z. z .dll .state) e), ap (λ z. z .errors) e), ap (λ z. z .soc) e), ap (λ z. z .od) e), ap (λ z. z .queue) e), ap (λ z. z .history) e), ap (λ z. z .earliest) e))

@@ -14,12 +14,11 @@ use Rattle.entries.specs.declared.emergency_queue.EmergencyQueue.{EmergencyQueu
 use Rattle.entries.specs.declared.error_history.ErrorHistory.{ErrorHistory}
 use Rattle.head.specs.declared.state.Dictionary.{Dictionary}
 use Rattle.head.specs.Words.{errorsOf, queueOf, historyOf, headOf}
-use Rattle.watched.specs.declared.nodes.WatchedNode.{WatchedNode}
 use Rattle.node.specs.declared.calls.CallAnswer.{CallAnswer}
 use Rattle.node.specs.declared.calls.CallAnswer.the-variants as answer
 use Rattle.node.specs.Plain.{Plain, Call, Answer, taken, Step, begins}
 use Rattle.node.specs.Steps.{fresh, started}
-use Rattle.watched.specs.Watched.{wellFormed, watchedOf}
+use Rattle.watched.specs.Watched.{wellFormed, Run, run}
 use Rattle.watched.specs.Nodes.{nodesOf}
 use Rattle.node.specs.Run.{step}
 use Rattle.counters.specs.Counters.{sameForAll, thresholdsFit}
@@ -48,8 +47,8 @@ pub begin : (e : Example) (ws : List ℕ) → Stands ws (e .before) → comesOf 
 begin e ws s h q m =
     record { whole = s .whole q m; queue = ap (λ z. z .queue) (s .places); history = ap (λ z. z .history) (s .places); coming = h }
 
--- What a call came to, of which the table states x: head, watched nodes, and that it was found so.
-pub record Arrived (x : Coming) (ws q m : List ℕ) (l : List WatchedNode) (r : Bool) : Type 0 where
+-- What a call came to, of which the table states x: head, run, and that it was found so.
+pub record Arrived (x : Coming) (ws q m : List ℕ) (l : Run) (r : Bool) : Type 0 where
   pub whole : plain (headOf ws) q m ≡ x .all .head
   pub lent : l ≡ x .all .lent
   pub same : r ≡ true
@@ -62,7 +61,7 @@ rest-same e = cc
 
 module _
     {ws q m : List ℕ} {p : Plain} {c : Call} {cs : List Call} {x : Coming} {xs : List Coming}
-    {a : Answer} {after ws′ q′ m′ : List ℕ} {l : List WatchedNode} {r : Bool}
+    {a : Answer} {after ws′ q′ m′ : List ℕ} {l : Run} {r : Bool}
     (w : Along ws q m p (c ∷ cs) (x ∷ xs)) (k : Came ws q m c a after ws′ q′ m′ l r) (says : x .all .answer ≡ a) where
   stepped : step p c ≡ x .all
   stepped = ap (λ (y : Coming). y .all) (first-same (w .coming))
@@ -110,13 +109,9 @@ also {a} {b} e f = (λ i. e i && b) ∙ f
 
 -- the call is the table's, where what is lent to it is
 pub at-call :
-    {ws q m : List ℕ} {c d : Call} {a : Answer} {after ws′ q′ m′ : List ℕ} {l : List WatchedNode} {r : Bool} →
+    {ws q m : List ℕ} {c d : Call} {a : Answer} {after ws′ q′ m′ : List ℕ} {l : Run} {r : Bool} →
     c ≡ d → Came ws q m c a after ws′ q′ m′ l r → Came ws q m d a after ws′ q′ m′ l r
 at-call {ws} {q} {m} {c} {d} {a} {after} {ws′} {q′} {m′} {l} {r} e k = subst (λ (c : Call). Came ws q m c a after ws′ q′ m′ l r) e k
-
-pub no-nodes : (ns : List ℕ) → watchedOf (nodesOf ns) 0 ≡ []
-unfolding listed
-no-nodes ns = refl
 
 -- parts of what the words stand for
 module _ (ws q m : List ℕ) (p : Plain) (e : plain (headOf ws) q m ≡ p) where
@@ -138,12 +133,12 @@ begun-with :
     od ≡ values 0 0 0 0 0 →
     StartedIn ws ns 0 1 (flags 0) 5 1 od (sameForAll 15) a ws′ ns′ →
     (said a ≡ taken) × ((q m : List ℕ) → Along ws′ q m (swReset .before) (swReset .calls) (swReset .after))
-unfolding started wellFormed listed thresholdsFit
+unfolding started fresh wellFormed nodesOf listed thresholdsFit
 begun-with ws ns od answer.Taken ws′ ns′ e s = (
   refl,
   λ q m.
       record {
-        whole = same-begun (s .on .begins .begun q m) ∙ ap (λ (o : Dictionary). fresh (startOf 1 (flags 0) 5 1 o (sameForAll 15) [])) e;
+        whole = same-begun (s .on .begins .begun q m) ∙ ap (λ (o : Dictionary). fresh (startOf 1 (flags 0) 5 1 o (sameForAll 15) (run (nodesOf ns) 0))) e;
         queue = s .on .places .0;
         history = s .on .places .1;
         coming = holds 0;

@@ -17,14 +17,14 @@ use Rattle.head.specs.declared.state.Deadline.the-variants.{At, Nothing}
 use Rattle.head.specs.Head.{Head, socWatch}
 use Rattle.head.specs.Places as at
 use Rattle.head.specs.Words.{headOf}
-use Rattle.head.specs.Written.{counterWritten, socWritten, queueWritten, historyWritten}
+use Rattle.head.specs.Written.{counterWritten, socWritten, queueWritten, historyWritten, earliestWritten}
 use Rattle.head.proofs.Laws.{state-back, yes-one, time-back}
 use Rattle.node.specs.Plain.{Plain}
 use Rattle.node.specs.Steps.{plainOf}
 use Rattle.node.specs.Refines.{plain}
-use Rattle.watched.specs.Watched.{watchedOf}
+use Rattle.watched.specs.Watched.{run}
 use Rattle.watched.specs.Nodes.{nodesOf}
-use Rattle.node.specs.Examples.{values, countersOf, resting, counting, cycling, crossingTick, watching}
+use Rattle.node.specs.Examples.{values, countersOf, resting, counting, cycling, crossingTick, noNodes, watchingOne, awaiting}
 use Rattle.examples.specs.Shown.{placed, Stands, restingWords}
 
 -- an empty queue and an empty history are empty whatever the memory
@@ -39,7 +39,7 @@ stands ws p e c o n =
       places = e;
       whole =
           λ q m.
-          ap (λ (h : Head). plain h q m) e ∙ (λ i. plainOf (p .nmt) (p .dll) (p .errors) (p .soc) (p .od) (c i) (o i) (n i));
+          ap (λ (h : Head). plain h q m) e ∙ (λ i. plainOf (p .nmt) (p .dll) (p .errors) (p .soc) (p .od) (c i) (o i) (n i) (p .earliest));
     }
 
 pub resting-stands : (s : NmtState) (enabled ready : Bool) (ws : List ℕ) → ws ≡ restingWords s enabled ready (values 0 0 0 0 0) → Stands ws (resting s enabled ready)
@@ -54,6 +54,15 @@ pub counting-stands :
     Stands ws (counting (countersOf a x b c d))
 unfolding headOf restingWords readState
 counting-stands a x b c d ws e = stands ws (counting (countersOf a x b c d)) (ap headOf e) refl refl refl
+
+pub awaiting-stands :
+    (t c d : ℕ) (ws : List ℕ) →
+    ws ≡ earliestWritten (counterWritten (restingWords NmtOperational false true (values 0 0 0 0 0)) HeartbeatTimeout (counterOf c d 15 0)) (At t) →
+    Stands ws (awaiting t (countersOf 0 0 0 c d))
+unfolding headOf restingWords readState
+awaiting-stands t c d ws e =
+    stands ws (awaiting t (countersOf 0 0 0 c d))
+    (ap headOf e ∙ (λ i. placed (awaiting (time-back t i) (countersOf 0 0 0 c d)) (queue 0 0 1) (errorHistory 0 0))) refl refl refl
 
 pub cycling-stands :
     (deadline level lost : ℕ) (ws : List ℕ) →
@@ -80,6 +89,10 @@ unfolding headOf restingWords readState
 crossed-placed ws e = ap headOf e
 
 pub watching-written :
-    (t : ℕ) (ns : List ℕ) → ns ≡ set (set (set (replicate 96 0) 0 5) 1 50) 2 t → watchedOf (nodesOf ns) 1 ≡ watching t
+    (t : ℕ) (ns : List ℕ) → ns ≡ set (set (set (replicate 96 0) 0 5) 1 50) 2 t → run (nodesOf ns) 1 ≡ watchingOne t
 unfolding nodesOf listed
-watching-written t ns e = ap (λ (l : List ℕ). watchedOf (nodesOf l) 1) e
+watching-written t ns e = ap (λ (l : List ℕ). run (nodesOf l) 1) e
+
+pub none-watched : (ns : List ℕ) → ns ≡ replicate 96 0 → run (nodesOf ns) 0 ≡ noNodes
+unfolding nodesOf listed
+none-watched ns e = ap (λ (l : List ℕ). run (nodesOf l) 0) e

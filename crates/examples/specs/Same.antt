@@ -17,6 +17,7 @@ use Rattle.head.specs.declared.state.ObjectValue.{ObjectValue}
 use Rattle.head.specs.declared.state.ObjectValue.the-variants.{Unsigned32, Missing}
 use Rattle.head.specs.declared.state.SocWatch.{SocWatch}
 use Rattle.head.specs.declared.state.Dictionary.{Dictionary}
+use Rattle.watched.specs.declared.nodes.WatchedNode.{WatchedNode}
 
 -- r is true exactly where P holds
 pub record Exactly (r : Bool) (P : Type 0) : Type 0 where
@@ -87,3 +88,7 @@ sameQueue x y = eqb (x .oldest) (y .oldest) && eqb (x .length) (y .length) && eq
 
 abbrev pub sameHistory : ErrorHistory → ErrorHistory → Bool
 sameHistory x y = eqb (x .newest) (y .newest) && eqb (x .count) (y .count)
+
+-- a place that holds nothing
+abbrev pub blank : WatchedNode → Bool
+blank w = eqb (w .node) 0 && eqb (w .timeout) 0 && eqb (w .«last_heard») 0

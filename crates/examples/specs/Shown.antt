@@ -17,9 +17,9 @@ use Rattle.head.specs.Head.{Head, ofParts}
 use Rattle.head.specs.Places as at
 use Rattle.head.specs.Words.{headOf}
 use Rattle.head.specs.Written.{nmtWritten, identityWritten, thresholdsWritten, odWritten}
-use Rattle.watched.specs.declared.nodes.WatchedNode.{WatchedNode}
+use Rattle.watched.specs.Watched.{Run}
 use Rattle.node.specs.Plain.{Plain, Call, Answer, taken, Step}
-use Rattle.node.specs.Steps.{answers}
+use Rattle.node.specs.Steps.{noRun, answers}
 use Rattle.node.specs.Run.{step}
 use Rattle.node.specs.Refines.{plain, rings, joinsAll}
 use Rattle.node.specs.Examples.{Coming, Example, machine}
@@ -27,7 +27,7 @@ use Rattle.examples.specs.Same.{Exactly}
 
 -- a head with the parts of a plain one, its queue and its history at these places
 abbrev pub placed : Plain → EmergencyQueue → ErrorHistory → Head
-placed p o n = ofParts (p .nmt) (record { state = p .dll }) (p .errors) (p .soc) (p .od) o n
+placed p o n = ofParts (p .nmt) (record { state = p .dll }) (p .errors) (p .soc) (p .od) o n (p .earliest)
 
 -- the words ws stand for p, whatever stands in the memory: queue of 1 and history are empty
 pub record Stands (ws : List ℕ) (p : Plain) : Type 0 where
@@ -39,13 +39,13 @@ unfoldable pub restingWords : NmtState → Bool → Bool → Dictionary → List
 restingWords s enabled ready od =
     set
     (odWritten
-    (thresholdsWritten (identityWritten (nmtWritten (replicate 58 0) (machine s enabled ready)) (machine s enabled ready)) (newCounters (sameForAll 15))) od)
+    (thresholdsWritten (identityWritten (nmtWritten (replicate 60 0) (machine s enabled ready)) (machine s enabled ready)) (newCounters (sameForAll 15))) od)
     at.capacity 1
 
--- Of a call c on the words ws with the memory q and m, which left ws′, q′ and m′ and the watched nodes l, and was compared with an answer and
+-- Of a call c on the words ws with the memory q and m, which left ws′, q′ and m′ and the run l, and was compared with an answer and
 -- with a head: what is left is the plain head's, and r is true exactly where the plain head's answer is the one stated and the head that is
 -- left is the one stated.
-pub record Came (ws q m : List ℕ) (c : Call) (a : Answer) (stated : List ℕ) (ws′ q′ m′ : List ℕ) (l : List WatchedNode) (r : Bool) : Type 0 where
+pub record Came (ws q m : List ℕ) (c : Call) (a : Answer) (stated : List ℕ) (ws′ q′ m′ : List ℕ) (l : Run) (r : Bool) : Type 0 where
   pub head : plain (headOf ws′) q′ m′ ≡ step (plain (headOf ws) q m) c .head
   pub places : rings (headOf ws′) q′ m′ ≡ joinsAll (rings (headOf ws) q m) (step (plain (headOf ws) q m) c .crossings)
   pub lent : l ≡ step (plain (headOf ws) q m) c .lent
@@ -57,11 +57,11 @@ lastOf s (x ∷ xs) = lastOf (x .all) xs
 
 -- the last step that an example states
 abbrev pub last : Example → Step
-last e = lastOf (answers (e .before) taken []) (e .after)
+last e = lastOf (answers (e .before) taken noRun) (e .after)
 
--- Of an example of the table: what is left stands for the head and the watched nodes that it states last, and all that was compared came as
+-- Of an example of the table: what is left stands for the head and the run that it states last, and all that was compared came as
 -- it states.
-pub record Shown (e : Example) (ws q m : List ℕ) (l : List WatchedNode) (r : Bool) : Type 0 where
+pub record Shown (e : Example) (ws q m : List ℕ) (l : Run) (r : Bool) : Type 0 where
   pub head : plain (headOf ws) q m ≡ last e .head
   pub lent : l ≡ last e .lent
   pub same : r ≡ true

@@ -9,8 +9,8 @@ ghost use Rattle.head.specs.Places as at;
 ghost use Rattle.head.specs.Words.{headOf};
 ghost use Rattle.head.specs.Written.{socWritten};
 ghost use Rattle.watched.specs.Nodes.{nodesOf};
-ghost use Rattle.watched.specs.Watched.{watchedOf};
-ghost use Rattle.node.specs.Examples.{machine, values, countersOf, resting, counting, cycling, crossingTick, watching};
+ghost use Rattle.watched.specs.Watched.{run};
+ghost use Rattle.node.specs.Examples.{machine, values, countersOf, resting, counting, cycling, crossingTick, noNodes, watchingOne, awaiting};
 ghost use Rattle.examples.specs.Shown.{placed, Stands, restingWords};
 use counters::counters::CnErrorCounters;
 use counters::counters::CounterKind;
@@ -24,6 +24,7 @@ use head::parts::clear;
 use head::parts::set_capacity;
 use head::parts::set_counter;
 use head::parts::set_dll;
+use head::parts::set_earliest;
 use head::parts::set_history;
 use head::parts::set_identity;
 use head::parts::set_nmt;
@@ -117,6 +118,16 @@ pub fn counting(head: &mut Head, socs: u32, crossings: u32, soc: u32, beats: u32
     set_counter(head, CounterKind::HeartbeatTimeout, counter(beats, 0, beat));
 }
 
+// The same where a watched node would be late at a time, with occurrences and level of HeartbeatTimeout.
+pub fn awaiting(head: &mut Head, earliest: u64, beats: u32, beat: u32)
+    ensures { λ _. ⌜ Stands (now (head .exit)) (awaiting earliest (countersOf 0 0 0 beats beat)) ⌝ }
+{
+    let od = values(0, 0, 0, 0, 0);
+    write(head, NmtState::NmtOperational, false, true, od);
+    set_counter(head, CounterKind::HeartbeatTimeout, counter(beats, 0, beat));
+    set_earliest(head, Deadline::At(earliest));
+}
+
 // WaitSoc, with the last SoC at 10,000.
 fn write_cycle(head: &mut Head, check: bool, next_tick_us: Deadline, changed: bool)
     ensures { λ _. ⌜ now (head .exit) ≡ socWritten (set (now (head .entry)) at.dll 1) (socWatch 10000 check «next_tick_us» changed) ⌝ }
@@ -173,9 +184,16 @@ pub fn crossed(head: &mut Head)
     );
 }
 
-// Node 5 with timeout 50, last heard at a time.
+// No node is watched: every place is cleared.
+pub fn watch_none(nodes: &mut NodeWords)
+    ensures { λ _. ⌜ run (nodesOf (now (nodes .exit))) 0 ≡ noNodes ⌝ }
+{
+    *nodes = [0; 96];
+}
+
+// Node 5 with timeout 50, last heard at a time, and no other.
 pub fn watching(nodes: &mut NodeWords, last_heard: u64)
-    ensures { λ _. ⌜ watchedOf (nodesOf (now (nodes .exit))) 1 ≡ watching «last_heard» ⌝ }
+    ensures { λ _. ⌜ run (nodesOf (now (nodes .exit))) 1 ≡ watchingOne «last_heard» ⌝ }
 {
     *nodes = [0; 96];
     nodes[0] = 5;

@@ -5,6 +5,7 @@ mod comes;
 mod events;
 mod heads;
 mod memory;
+mod runs;
 mod same;
 mod ticks;
 
@@ -22,8 +23,8 @@ fn say(number: u64, same: bool) {
 }
 
 fn main() {
-    let mut head: Head = [0; 58];
-    let mut after: Head = [0; 58];
+    let mut head: Head = [0; 60];
+    let mut after: Head = [0; 60];
     let mut nodes: NodeWords = [0; 96];
     let mut queue = [0u8; 640];
     let mut history = [0u8; 5080];

@@ -1,10 +1,11 @@
 // Whether two heads are the same, part by part.
 ghost use mathlib.Core.Path.{_≡_};
 ghost use Rattle.head.specs.Places as at;
-ghost use Rattle.head.specs.Words.{word, nmtOf, dllState, errorsOf, socOf, odOf, queueOf, historyOf, headOf};
+ghost use Rattle.head.specs.Words.{word, nmtOf, dllState, errorsOf, socOf, odOf, queueOf, historyOf, earliestOf, headOf};
 ghost use Rattle.examples.specs.Same.{Exactly, sameNmt, sameDll, sameCounter, sameErrors, sameDeadline, sameSoc, sameObject, sameOd, sameQueue, sameHistory};
 use counters::counters::ThresholdCounter;
 use head::parts::dll_of;
+use head::parts::earliest_of;
 use head::parts::errors_of;
 use head::parts::history_of;
 use head::parts::nmt_of;
@@ -141,6 +142,14 @@ fn same_history(a: &Head, b: &Head) -> bool
     (x.newest == y.newest) & (x.count == y.count)
 }
 
+fn same_earliest(a: &Head, b: &Head) -> bool
+    ensures { λ r. ⌜ r ≡ sameDeadline (earliestOf (now (a .entry))) (earliestOf (now (b .entry))) ⌝ }
+{
+    let x = earliest_of(a);
+    let y = earliest_of(b);
+    same_deadline(x, y)
+}
+
 pub fn same_head(a: &Head, b: &Head) -> bool
     ensures { λ r. ⌜ Exactly r (headOf (now (a .entry)) ≡ headOf (now (b .entry))) ⌝ }
 {
@@ -151,4 +160,5 @@ pub fn same_head(a: &Head, b: &Head) -> bool
         & same_od(a, b)
         & same_queue(a, b)
         & same_history(a, b)
+        & same_earliest(a, b)
 }

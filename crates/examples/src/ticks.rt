@@ -1,18 +1,20 @@
 // The examples of ticks: each with the document's words, as the table states it.
 ghost use Rattle.node.specs.Examples as table;
 ghost use Rattle.watched.specs.Nodes.{nodesOf};
-ghost use Rattle.watched.specs.Watched.{watchedOf};
+ghost use Rattle.watched.specs.Watched.{run};
 ghost use Rattle.examples.specs.Shown.{Shown};
 use crate::answers::Stated;
 use crate::comes::heard_comes;
-use crate::comes::is_watching;
 use crate::comes::tick_comes;
+use crate::heads::awaiting;
 use crate::heads::counting;
 use crate::heads::crossed;
 use crate::heads::cycling;
+use crate::heads::watch_none;
 use crate::heads::watching;
 use crate::memory::is_recorded;
 use crate::memory::waits;
+use crate::runs::is_watching;
 use head::state::Head;
 use watched::nodes::NodeWords;
 
@@ -24,8 +26,9 @@ pub fn early(
     history: &mut [u8; 5080],
     nodes: &mut NodeWords,
 ) -> bool
-    ensures { λ r. ⌜ Shown table.early (now (head .exit)) (now (queue .exit)) (now (history .exit)) (watchedOf (nodesOf (now (nodes .exit))) 0) r ⌝ }
+    ensures { λ r. ⌜ Shown table.early (now (head .exit)) (now (queue .exit)) (now (history .exit)) (run (nodesOf (now (nodes .exit))) 0) r ⌝ }
 {
+    watch_none(nodes);
     cycling(head, 10500, 0, 0);
     cycling(after, 11100, 0, 0);
     tick_comes(
@@ -48,8 +51,9 @@ pub fn at_limit(
     history: &mut [u8; 5080],
     nodes: &mut NodeWords,
 ) -> bool
-    ensures { λ r. ⌜ Shown table.atLimit (now (head .exit)) (now (queue .exit)) (now (history .exit)) (watchedOf (nodesOf (now (nodes .exit))) 0) r ⌝ }
+    ensures { λ r. ⌜ Shown table.atLimit (now (head .exit)) (now (queue .exit)) (now (history .exit)) (run (nodesOf (now (nodes .exit))) 0) r ⌝ }
 {
+    watch_none(nodes);
     cycling(head, 11100, 0, 0);
     cycling(after, 12100, 0, 0);
     tick_comes(
@@ -72,8 +76,9 @@ pub fn above_limit(
     history: &mut [u8; 5080],
     nodes: &mut NodeWords,
 ) -> bool
-    ensures { λ r. ⌜ Shown table.aboveLimit (now (head .exit)) (now (queue .exit)) (now (history .exit)) (watchedOf (nodesOf (now (nodes .exit))) 0) r ⌝ }
+    ensures { λ r. ⌜ Shown table.aboveLimit (now (head .exit)) (now (queue .exit)) (now (history .exit)) (run (nodesOf (now (nodes .exit))) 0) r ⌝ }
 {
+    watch_none(nodes);
     cycling(head, 11100, 0, 0);
     cycling(after, 12100, 8, 1);
     tick_comes(
@@ -96,8 +101,9 @@ pub fn then_crossing(
     history: &mut [u8; 5080],
     nodes: &mut NodeWords,
 ) -> bool
-    ensures { λ r. ⌜ Shown table.thenCrossing (now (head .exit)) (now (queue .exit)) (now (history .exit)) (watchedOf (nodesOf (now (nodes .exit))) 0) r ⌝ }
+    ensures { λ r. ⌜ Shown table.thenCrossing (now (head .exit)) (now (queue .exit)) (now (history .exit)) (run (nodesOf (now (nodes .exit))) 0) r ⌝ }
 {
+    watch_none(nodes);
     cycling(head, 11100, 0, 0);
     cycling(after, 12100, 8, 1);
     let lost = tick_comes(
@@ -127,7 +133,7 @@ pub fn then_crossing(
         & is_recorded(head, history, 0x8245, 0, 12100000)
 }
 
-// Timeout 50, heard 100: 150 in time, 151 late.
+// Timeout 50, heard 100: 150 in time, 151 late. The earliest moment (document 02, No. 1) is then 151, and behind the last tick 202.
 pub fn late(
     head: &mut Head,
     after: &mut Head,
@@ -135,15 +141,15 @@ pub fn late(
     history: &mut [u8; 5080],
     nodes: &mut NodeWords,
 ) -> bool
-    ensures { λ r. ⌜ Shown table.late (now (head .exit)) (now (queue .exit)) (now (history .exit)) (watchedOf (nodesOf (now (nodes .exit))) 1) r ⌝ }
+    ensures { λ r. ⌜ Shown table.late (now (head .exit)) (now (queue .exit)) (now (history .exit)) (run (nodesOf (now (nodes .exit))) 1) r ⌝ }
 {
     counting(head, 0, 0, 0, 0, 0);
-    counting(after, 0, 0, 0, 0, 0);
+    awaiting(after, 151, 0, 0);
     watching(nodes, 0);
     let heard = heard_comes(head, nodes, 1, 5, 100, after) & is_watching(nodes, 5, 50, 100);
     let in_time = tick_comes(head, queue, history, nodes, 1, 150, Stated::Nothing, after);
     let kept = is_watching(nodes, 5, 50, 100);
-    counting(after, 0, 0, 0, 1, 8);
+    awaiting(after, 202, 1, 8);
     let late = tick_comes(head, queue, history, nodes, 1, 151, Stated::Nothing, after);
     heard & in_time & kept & late & is_watching(nodes, 5, 50, 151)
 }

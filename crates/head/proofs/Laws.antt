@@ -32,10 +32,10 @@ use Rattle.head.specs.declared.state.Object.the-variants.{CycleTime, Tol
 use Rattle.head.specs.declared.state.Statistic.{Statistic}
 use Rattle.head.specs.declared.state.Statistic.the-variants.{Counter1, Counter2, Counter3, Counter5}
 use Rattle.head.specs.declared.state.Deadline.the-variants.{At, Nothing}
-use Rattle.head.specs.Head.{forgetting, Head, socWatch, withRegister, withObject, withStatistic, with-nmt, with-dll, with-errors, with-soc, with-values, with-od, with-queue}
+use Rattle.head.specs.Head.{forgetting, Head, socWatch, withRegister, withObject, withStatistic, with-nmt, with-dll, with-errors, with-soc, with-values, with-od, with-queue, with-earliest}
 use Rattle.head.specs.Places as at
 use Rattle.head.specs.Words.{word, yes, one, timeOf, stateOf, nmtOf, dllState, counterAt, errorsOf, deadlineOf, headOf}
-use Rattle.head.specs.Written.{forgottenWritten, nmtWritten, counterWritten, levelsWritten, socWritten, queueWritten, objectWritten, historyWritten}
+use Rattle.head.specs.Written.{forgottenWritten, nmtWritten, counterWritten, levelsWritten, earliestWritten, socWritten, queueWritten, objectWritten, historyWritten}
 use Rattle.head.proofs.Whole.{whole}
 
 -- what is read of a word that was written
@@ -108,6 +108,13 @@ abbrev HistoryRead : ℕ → ℕ → List ℕ → Type 0
 HistoryRead a b ws =
     headOf (set (set ws at.newest a) at.count b) ≡ with-values (headOf ws) (headOf ws .od) (errorHistory (a % 256) (b % 256))
 
+abbrev EarliestRead : ℕ → ℕ → ℕ → List ℕ → Type 0
+EarliestRead d a b ws =
+    headOf (set (set (set ws at.awaited d) at.earliest a) (at.earliest + 1) b) ≡ with-earliest (headOf ws) (deadlineOf (yes d) (timeOf a b))
+
+abbrev NoEarliestRead : List ℕ → Type 0
+NoEarliestRead ws = headOf (set ws at.awaited 0) ≡ with-earliest (headOf ws) Nothing
+
 -- the watch with its status changed, and the register and counter 5 replaced
 abbrev pub with-signal : Head → ℕ → ℕ → Head
 with-signal h r n =
@@ -130,7 +137,7 @@ SignalRead r n ws = headOf (set (set (set ws at.changed 1) at.register r) at.cou
 abbrev ChangedRead : List ℕ → Type 0
 ChangedRead ws = headOf (set ws at.changed 1) ≡ with-signal (headOf ws) (word ws at.register % 256) (word ws at.counter5)
 
-module _ (ws : List ℕ) (long : length ws ≡ 58) where
+module _ (ws : List ℕ) (long : length ws ≡ 60) where
   nmt-read : (s e r : ℕ) → NmtRead s e r ws
   unfolding headOf
   nmt-read s e r = whole (NmtRead s e r) ws long refl
@@ -261,3 +268,15 @@ module _ (ws : List ℕ) (long : length ws ≡ 58) where
       let n : h .newest % 256 ≡ h .newest = omega arith in
       let c : h .count % 256 ≡ h .count = omega arith in
       history-read (h .newest) (h .count) ∙ (λ i. with-values (headOf ws) (headOf ws .od) (errorHistory (n i) (c i)))
+
+  earliest-read : (d a b : ℕ) → EarliestRead d a b ws
+  unfolding headOf
+  earliest-read d a b = whole (EarliestRead d a b) ws long refl
+
+  no-earliest-read : NoEarliestRead ws
+  unfolding headOf
+  no-earliest-read = whole NoEarliestRead ws long refl
+
+  pub earliest-written : (d : Deadline) → headOf (earliestWritten ws d) ≡ with-earliest (headOf ws) d
+  earliest-written (At t) = earliest-read 1 _ _ ∙ (λ i. with-earliest (headOf ws) (At (time-back t i)))
+  earliest-written Nothing = no-earliest-read

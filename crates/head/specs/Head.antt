@@ -27,6 +27,8 @@ pub record Head : Type 0 where
   pub od : Dictionary
   pub queue : EmergencyQueue
   pub history : ErrorHistory
+  -- "The head shows the earliest moment at which a watched node would be late" (document 02, No. 1)
+  pub earliest : Deadline
 
 abbrev pub socWatch : ℕ → Bool → Deadline → Bool → SocWatch
 socWatch t on d changed =
@@ -80,8 +82,8 @@ withStatistic Counter3 n o =
 withStatistic Counter5 n o =
     dictionary (o .«error_register») (o .«cycle_time») (o .tolerance) (o .«counter_1») (o .«counter_2») (o .«counter_3») n
 
-abbrev pub ofParts : CnNmtStateMachine → DllCsStateMachine → CnErrorCounters → SocWatch → Dictionary → EmergencyQueue → ErrorHistory → Head
-ofParts n d e s o q h = record { nmt = n; dll = d; errors = e; soc = s; od = o; queue = q; history = h }
+abbrev pub ofParts : CnNmtStateMachine → DllCsStateMachine → CnErrorCounters → SocWatch → Dictionary → EmergencyQueue → ErrorHistory → Deadline → Head
+ofParts n d e s o q h x = record { nmt = n; dll = d; errors = e; soc = s; od = o; queue = q; history = h; earliest = x }
 
 -- what a reset forgets of the watch: the deadline and the check
 abbrev pub forgotten : SocWatch → SocWatch
@@ -90,26 +92,29 @@ forgotten s = socWatch (s .«last_soc_reception_time_us») false Nothing (s .«e
 -- the head with one of its parts replaced
 module _ (h : Head) where
   abbrev pub with-nmt : CnNmtStateMachine → Head
-  with-nmt n = ofParts n (h .dll) (h .errors) (h .soc) (h .od) (h .queue) (h .history)
+  with-nmt n = ofParts n (h .dll) (h .errors) (h .soc) (h .od) (h .queue) (h .history) (h .earliest)
 
   abbrev pub with-dll : DllCsStateMachine → Head
-  with-dll d = ofParts (h .nmt) d (h .errors) (h .soc) (h .od) (h .queue) (h .history)
+  with-dll d = ofParts (h .nmt) d (h .errors) (h .soc) (h .od) (h .queue) (h .history) (h .earliest)
 
   -- what a reset forgets: the DLL state too
   abbrev pub forgetting : Head
-  forgetting = ofParts (h .nmt) (record { state = NonCyclic }) (h .errors) (forgotten (h .soc)) (h .od) (h .queue) (h .history)
+  forgetting = ofParts (h .nmt) (record { state = NonCyclic }) (h .errors) (forgotten (h .soc)) (h .od) (h .queue) (h .history) (h .earliest)
 
   abbrev pub with-errors : CnErrorCounters → Head
-  with-errors e = ofParts (h .nmt) (h .dll) e (h .soc) (h .od) (h .queue) (h .history)
+  with-errors e = ofParts (h .nmt) (h .dll) e (h .soc) (h .od) (h .queue) (h .history) (h .earliest)
 
   abbrev pub with-soc : SocWatch → Head
-  with-soc s = ofParts (h .nmt) (h .dll) (h .errors) s (h .od) (h .queue) (h .history)
+  with-soc s = ofParts (h .nmt) (h .dll) (h .errors) s (h .od) (h .queue) (h .history) (h .earliest)
 
   abbrev pub with-values : Dictionary → ErrorHistory → Head
-  with-values o k = ofParts (h .nmt) (h .dll) (h .errors) (h .soc) o (h .queue) k
+  with-values o k = ofParts (h .nmt) (h .dll) (h .errors) (h .soc) o (h .queue) k (h .earliest)
 
   abbrev pub with-od : Dictionary → Head
   with-od o = with-values o (h .history)
 
   abbrev pub with-queue : EmergencyQueue → Head
-  with-queue q = ofParts (h .nmt) (h .dll) (h .errors) (h .soc) (h .od) q (h .history)
+  with-queue q = ofParts (h .nmt) (h .dll) (h .errors) (h .soc) (h .od) q (h .history) (h .earliest)
+
+  abbrev pub with-earliest : Deadline → Head
+  with-earliest d = ofParts (h .nmt) (h .dll) (h .errors) (h .soc) (h .od) (h .queue) (h .history) d

@@ -1,5 +1,4 @@
--- The place of each word of a head, 0 to 57. A time takes two words, its low one and its high one. Word 57 is spare: start leaves it 0, and no call
--- writes it.
+-- The place of each word of a head, 0 to 59. A time takes two words, its low one and its high one.
 -- Assumes nothing.
 use Prim.Native.Nat.{ℕ, _+_, _*_}
 use Rattle.counters.specs.Counters.{place}
@@ -100,3 +99,10 @@ newest = 55
 
 abbrev pub count : ℕ
 count = 56
+
+-- whether there is an earliest moment, and then its time
+abbrev pub awaited : ℕ
+awaited = 57
+
+abbrev pub earliest : ℕ
+earliest = 58

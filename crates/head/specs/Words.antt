@@ -115,6 +115,9 @@ queueOf ws = queue (word ws at.oldest % 256) (word ws at.queued % 256) (word ws 
 abbrev pub historyOf : List ℕ → ErrorHistory
 historyOf ws = errorHistory (word ws at.newest % 256) (word ws at.count % 256)
 
+abbrev pub earliestOf : List ℕ → Deadline
+earliestOf ws = deadlineOf (yes (word ws at.awaited)) (timeAt ws at.earliest)
+
 unfoldable pub headOf : List ℕ → Head
 headOf ws =
     record {
@@ -125,4 +128,5 @@ headOf ws =
       od = odOf ws;
       queue = queueOf ws;
       history = historyOf ws;
+      earliest = earliestOf ws;
     }

@@ -46,10 +46,14 @@ levelsWritten ws s =
 abbrev pub timeWritten : List ℕ → ℕ → ℕ → List ℕ
 timeWritten ws i t = set (set ws i (t % 4294967296)) (i + 1) (t / 4294967296)
 
--- where there is no deadline, its time stays as it was
+-- where there is no moment, its time stays as it was
 abbrev pub deadlineWritten : List ℕ → Deadline → List ℕ
 deadlineWritten ws (At t) = timeWritten (set ws at.due 1) at.deadline t
 deadlineWritten ws Nothing = set ws at.due 0
+
+abbrev pub earliestWritten : List ℕ → Deadline → List ℕ
+earliestWritten ws (At t) = timeWritten (set ws at.awaited 1) at.earliest t
+earliestWritten ws Nothing = set ws at.awaited 0
 
 abbrev pub socWritten : List ℕ → SocWatch → List ℕ
 socWritten ws s =

@@ -4,8 +4,8 @@ ghost use Prim.Native.Nat.{_+_, _≤_, _/_, _%_};
 ghost use lib.ListN.{length, set, replicate};
 ghost use Rattle.dll.specs.Dll.{csStateNumber};
 ghost use Rattle.head.specs.Places as at;
-ghost use Rattle.head.specs.Words.{word, yes, one, timeOf, stateOf, nmtOf, dllState, counterAt, errorsOf, deadlineOf, socOf, objectOf, odOf, queueOf, historyOf};
-ghost use Rattle.head.specs.Written.{forgottenWritten, nmtWritten, counterWritten, levelsWritten, deadlineWritten, socWritten, queueWritten, historyWritten, identityWritten, thresholdsWritten, objectWritten, odWritten};
+ghost use Rattle.head.specs.Words.{word, yes, one, timeOf, stateOf, nmtOf, dllState, counterAt, errorsOf, deadlineOf, socOf, objectOf, odOf, queueOf, historyOf, earliestOf};
+ghost use Rattle.head.specs.Written.{forgottenWritten, nmtWritten, counterWritten, levelsWritten, deadlineWritten, earliestWritten, socWritten, queueWritten, historyWritten, identityWritten, thresholdsWritten, objectWritten, odWritten};
 use crate::state::Deadline;
 use crate::state::Dictionary;
 use crate::state::Head;
@@ -98,16 +98,22 @@ const CAPACITY: usize = 54;
 const NEWEST: usize = 55;
 
 const COUNT: usize = 56;
+// The earliest moment at which a watched node would be late.
+const AWAITED: usize = 57;
+
+const EARLIEST: usize = 58;
+
+const EARLIEST_HIGH: usize = 59;
 
 // Lent as a slice, the words say how many they are.
 fn counted(words: &[u32])
-    requires { ⌜ length (now words) ≡ 58 ⌝ }
-    ensures { λ _. ⌜ length (now (words .entry)) ≡ 58 ⌝ }
+    requires { ⌜ length (now words) ≡ 60 ⌝ }
+    ensures { λ _. ⌜ length (now (words .entry)) ≡ 60 ⌝ }
 {}
 
-// What the proof of a caller that writes needs: a head has 58 words. No instruction is made of it.
+// What the proof of a caller that writes needs: a head has 60 words. No instruction is made of it.
 pub fn whole(head: &Head)
-    ensures { λ _. ⌜ length (now (head .entry)) ≡ 58 ⌝ }
+    ensures { λ _. ⌜ length (now (head .entry)) ≡ 60 ⌝ }
 {
     counted(head);
 }
@@ -434,6 +440,33 @@ pub fn check_off(head: &mut Head)
     head[CHECK] = 0;
 }
 
+// The earliest moment at which a watched node would be late.
+pub fn earliest_of(head: &Head) -> Deadline
+    ensures { λ r. ⌜ r ≡ earliestOf (now (head .entry)) ⌝ }
+{
+    deadline_of(
+        head[AWAITED] != 0,
+        time_of(head[EARLIEST], head[EARLIEST_HIGH]),
+    )
+}
+
+// Where there is no moment, its time stays as it was.
+pub fn set_earliest(head: &mut Head, earliest: Deadline)
+    ensures { λ _. ⌜ now (head .exit) ≡ earliestWritten (now (head .entry)) earliest ⌝ }
+{
+    match earliest {
+        Deadline::At(time) => {
+            head[AWAITED] = 1;
+            head[EARLIEST] = low(time);
+            head[EARLIEST_HIGH] = high(time);
+            return;
+        }
+        Deadline::Nothing => {
+            head[AWAITED] = 0;
+        }
+    }
+}
+
 // What a reset forgets besides state, enabled and ready: the deadline, the check and the DLL state.
 pub fn forget(head: &mut Head)
     ensures { λ _. ⌜ now (head .exit) ≡ forgottenWritten (now (head .entry)) ⌝ }
@@ -451,9 +484,9 @@ pub fn timeout_of(head: &Head) -> u32
 
 // Every word 0.
 pub fn clear(head: &mut Head)
-    ensures { λ _. ⌜ now (head .exit) ≡ replicate 58 0 ⌝ }
+    ensures { λ _. ⌜ now (head .exit) ≡ replicate 60 0 ⌝ }
 {
-    *head = [0; 58];
+    *head = [0; 60];
 }
 
 // What start gives the NMT machine, and no event changes.

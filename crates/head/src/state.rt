@@ -1,7 +1,7 @@
 // What a head keeps of CnContext.
 
 // The words of a head; specs/Places.antt says which is what.
-pub type Head = [u32; 58];
+pub type Head = [u32; 60];
 
 // A moment in microseconds, or nothing.
 pub enum Deadline {

@@ -10,7 +10,7 @@ use native.Mathlib.Numerals.{add-one}
 use lib.Dec.{eqb, leb, ltb}
 use lib.ListN.{length, getD, set, take, drop, length-set, take-append-drop}
 use lib.Seq.{getD-take, length-take-le}
-use borrow.Author.Tests.{ltb-true, leb-true, eqb-true, eqb-false, lt-ltb, le-ltb, eq-eqb, ne-eqb}
+use borrow.Author.Tests.{ltb-true, leb-true, le-leb, eqb-true, eqb-false, lt-ltb, le-ltb, eq-eqb, ne-eqb}
 use Rattle.types.specs.Pick.{pick, both, either}
 use Rattle.types.specs.Types.{node}
 use Rattle.types.specs.declared.frame.error.types.DllError.the-variants.{HeartbeatTimeout}
@@ -20,19 +20,21 @@ use Rattle.counters.specs.Counters.{effect, handled}
 use Rattle.counters.specs.declared.counters.HandledError.{HandledError}
 use Rattle.head.specs.Head.{Head, with-errors}
 use Rattle.watched.specs.declared.nodes.WatchedNode.{WatchedNode}
-use Rattle.watched.specs.Watched.{allOf, noNode, heardNow, watchedNode, watchedOf}
+use Rattle.watched.specs.Watched.{latest, inTime, allOf, fits, wellFormed, noNode, heardNow, watchedNode, watchedOf, Run, watching, wellLent, changing}
 use Rattle.node.specs.Tick.{notBefore, isLate, looked, lateOnes, acts, signalled, timeoutOf, beat, beatAll}
 use Rattle.node.specs.Refines.{plain, Becomes}
-use Rattle.watched.proofs.Lists.{each-turn, from-here, at-end, whole}
+use Rattle.watched.proofs.Lists.{watched-take, each-ahead, each-turn, from-here, at-end, whole}
 use Rattle.heartbeats.specs.Parts.{Finishes, lookedFirst}
 use Rattle.heartbeats.proofs.Beats.{beat-signalled, beat-unsignalled, Beating, beats-begin, beats-over, beats-pass, beats-stop, beats-go-on}
 use Rattle.head.specs.Words.{errorsOf, headOf}
-use Rattle.watched.specs.Nodes.{nodeAt, nodesOf, rests}
+use Rattle.watched.specs.Nodes.{nodeAt, nodesOf, rests, never, soonerBy, soonest}
 use Rattle.node.specs.InPlace.{replied, effectWords}
 use Rattle.node.specs.declared.calls.ErrorTaken.{ErrorTaken}
 use Rattle.node.proofs.Refining.{effect-written}
-use Rattle.watched.proofs.Limits.{all-at}
-use Rattle.watched.proofs.Watching.{places, node-at, heard-written}
+use Rattle.node.proofs.Moments.{now-fits}
+use Rattle.types.proofs.Tests.{both-first, both-second}
+use Rattle.watched.proofs.Limits.{all-at, node-fits}
+use Rattle.watched.proofs.Watching.{places, few, node-at, times-fit, heard-written}
 use Rattle.heartbeats.specs.declared.dealt.Dealt.{Dealt}
 use Rattle.heartbeats.specs.PartWords.{signalWords, lookedTime, lookWords, lookedWords, finishedWords, endsBy, beatWords, beatAllWords}
 use Rattle.heartbeats.specs.PartsIn.{Turns, dealtOf, FinishesIn, TicksIn}
@@ -56,6 +58,19 @@ looked-by t w = by (either (eqb (w .«last_heard») 0) (isLate t w))
     by true = refl
     by false = refl
 
+-- and it is within its limits, as it was
+pub looked-fits : (t : ℕ) (w : WatchedNode) → inTime t ≡ true → fits w ≡ true → fits (looked t w) ≡ true
+looked-fits t w i f = by (either (eqb (w .«last_heard») 0) (isLate t w))
+  where
+    by : (b : Bool) → fits (pick b (heardNow t w) w) ≡ true
+    by true = now-fits t w i f
+    by false = f
+
+pub all-looked-fit : (t : ℕ) (ws : List WatchedNode) → inTime t ≡ true → allOf fits ws ≡ true → allOf fits (map (looked t) ws) ≡ true
+all-looked-fit t [] i f = refl
+all-looked-fit t (w ∷ ws) i f =
+    ap₂ both (looked-fits t w i (both-first (fits w) (allOf fits ws) f)) (all-looked-fit t ws i (both-second (fits w) (allOf fits ws) f))
+
 pub looks-begin : (t : ℕ) (ns : List ℕ) → ns ≡ lookedWords t 0 ns
 unfolding lookedWords
 looks-begin t ns = refl
@@ -77,6 +92,46 @@ module _ (t : ℕ) (ns₀ ns : List ℕ) (i : ℕ) (inside : i < 32) (long : len
 
   pub look-long : length (set ns (3 * i + 2) x) ≡ 96
   look-long = length-set ns (3 * i + 2) x ∙ long
+
+-- the nodes that the look has not reached, and the soonest moment
+module _ (t : ℕ) (ns₀ ns : List ℕ) (k i : ℕ) (formed : wellFormed (watchedOf (nodesOf ns₀) k) ≡ true) (inside : i < k) (b : nodesOf ns ≡ lookedFirst t i (nodesOf ns₀)) where
+  below : k ≤ 32
+  below = few ns₀ k formed
+
+  as-it-was : nodeAt ns i ≡ nodeAt ns₀ i
+  as-it-was =
+      sym (node-at ns i (omega (arith, inside, below)))
+      ∙ each-ahead (looked t) (nodesOf ns₀) (nodesOf ns) i noNode (rw (places ns₀) (omega (arith, inside, below))) b
+      ∙ node-at ns₀ i (omega (arith, inside, below))
+
+  -- a node as the look at its words leaves it
+  abbrev seen : ℕ → WatchedNode
+  seen x = heardNow x (nodeAt ns i)
+
+  module _ (x : ℕ) (e : x ≡ lookedTime t (getD ns (3 * i + 1) 0) (getD ns (3 * i + 2) 0)) where
+    is-looked : seen x ≡ looked t (nodeAt ns₀ i)
+    is-looked = ap seen e ∙ looked-by t (nodeAt ns i) ∙ ap (looked t) as-it-was
+
+    pub look-fits : t ≤ latest → (getD ns (3 * i + 1) 0 ≤ latest) × (x ≤ latest)
+    look-fits h =
+        times-fit (seen x) (ap fits is-looked ∙ looked-fits t (nodeAt ns₀ i) (le-leb t latest h) (node-fits ns₀ k below formed i inside))
+
+    pub look-sooner :
+        (y s : ℕ) → y ≡ soonest s (map (looked t) (drop i (take k (nodesOf ns₀)))) → (z : ℕ) → z ≡ soonerBy s (seen x) →
+        y ≡ soonest z (map (looked t) (drop (i + 1) (take k (nodesOf ns₀))))
+    look-sooner y s g z f =
+        let w : getD (nodesOf ns₀) i noNode ≡ nodeAt ns₀ i = node-at ns₀ i (omega (arith, inside, below)) in
+        g ∙ ap (λ (l : List WatchedNode). soonest s (map (looked t) l)) (from-here (nodesOf ns₀) k (places ns₀) below i noNode inside)
+        ∙ ap (λ (v : WatchedNode). soonest (soonerBy s v) (map (looked t) (drop (i + 1) (take k (nodesOf ns₀))))) (ap (looked t) w ∙ sym is-looked)
+        ∙ ap (λ (z : ℕ). soonest z (map (looked t) (drop (i + 1) (take k (nodesOf ns₀))))) (sym f)
+
+module _ (t : ℕ) (ns : List ℕ) (k : ℕ) (formed : wellFormed (watchedOf (nodesOf ns) k) ≡ true) where
+  pub sooner-begins : soonest never (map (looked t) (watchedOf (nodesOf ns) k)) ≡ soonest never (map (looked t) (drop 0 (take k (nodesOf ns))))
+  sooner-begins = ap (λ (l : List WatchedNode). soonest never (map (looked t) l)) (whole (nodesOf ns) k (places ns) (few ns k formed))
+
+  pub sooner-ends : (i y s : ℕ) → y ≡ soonest s (map (looked t) (drop i (take k (nodesOf ns)))) → k ≤ i → s ≡ y
+  sooner-ends i y s e h =
+      sym (e ∙ ap (λ (l : List WatchedNode). soonest s (map (looked t) l)) (at-end (nodesOf ns) k (places ns) (few ns k formed) i h))
 
 -- what is read at a node's words is read of the node
 pub before-at : (t : ℕ) (ns : List ℕ) (i : ℕ) → i < 32 → (b : Bool) → b ≡ notBefore t (nodeAt ns i) → b ≡ notBefore t (getD (nodesOf ns) i noNode)
@@ -171,14 +226,15 @@ module _ (t : ℕ) where
   map-same (v ∷ vs) h =
       ap₂ (λ (v : WatchedNode) (l : List WatchedNode). v ∷ l) (rest-looked v (both-left (rests t v) _ h)) (map-same vs (both-right (rests t v) _ h))
 
-  pub rest-nodes : (ns : List ℕ) (k : ℕ) → k ≤ 32 → allOf (rests t) (watchedOf (nodesOf ns) k) ≡ true → lookedFirst t k (nodesOf ns) ≡ nodesOf ns
-  rest-nodes ns k few h =
-      ap (λ (l : List WatchedNode). l ++ drop k (nodesOf ns))
-      (map-same (take k (nodesOf ns)) (sym (ap (allOf (rests t)) (whole (nodesOf ns) k (places ns) few)) ∙ h))
-      ∙ take-append-drop k (nodesOf ns)
+  pub rest-run : (r : Run) → r .number ≤ length (r .places) → allOf (rests t) (watching r) ≡ true → changing (map (looked t)) r ≡ r
+  rest-run r few h =
+      ap (λ (l : List WatchedNode). record { places = l; number = r .number })
+      (ap (λ (l : List WatchedNode). l ++ drop (r .number) (r .places))
+      (map-same (take (r .number) (r .places)) (sym (ap (allOf (rests t)) (watched-take (r .places) (r .number) few)) ∙ h))
+      ∙ take-append-drop (r .number) (r .places))
 
 -- the error of one late node
-module _ (ws : List ℕ) (long : length ws ≡ 58) (n : ℕ) (r : ErrorTaken) (e : r ≡ replied (handled (errorsOf ws) (HeartbeatTimeout (node n)))) (ws₁ : List ℕ) (e₁ : ws₁ ≡ effectWords ws (effect (HeartbeatTimeout (node n)))) (a : Bool) (z : a ≡ acts (r .action)) (f : Dealt) (ws′ : List ℕ) where
+module _ (ws : List ℕ) (long : length ws ≡ 60) (n : ℕ) (r : ErrorTaken) (e : r ≡ replied (handled (errorsOf ws) (HeartbeatTimeout (node n)))) (ws₁ : List ℕ) (e₁ : ws₁ ≡ effectWords ws (effect (HeartbeatTimeout (node n)))) (a : Bool) (z : a ≡ acts (r .action)) (f : Dealt) (ws′ : List ℕ) where
   module _ (w : WatchedNode) (x : w .node ≡ n) where
     abbrev R : HandledError
     R = handled (errorsOf ws) (timeoutOf w)

@@ -30,10 +30,10 @@ module _ (h : Head) where
   pub event-becomes :
       (event : NmtEvent) (a : NmtAnswer) →
       Nmt.outcome a ≡ Nmt.processed (h .nmt) event →
-      Becomes h (λ p. eventInTick p event) (ofParts (a .machine) (h .dll) (h .errors) (checkOff (h .soc)) (h .od) (h .queue) (h .history))
+      Becomes h (λ p. eventInTick p event) (ofParts (a .machine) (h .dll) (h .errors) (checkOff (h .soc)) (h .od) (h .queue) (h .history) (h .earliest))
   event-becomes event a e = (
     λ q m i.
-        plainOf (e i .machine) (h .dll .state) (h .errors) (checkOff (h .soc)) (h .od) (capacityOf (h .queue)) (waiting q (h .queue)) (history m (h .history)),
+        plainOf (e i .machine) (h .dll .state) (h .errors) (checkOff (h .soc)) (h .od) (capacityOf (h .queue)) (waiting q (h .queue)) (history m (h .history)) (h .earliest),
     record { queue = refl; history = refl },
   )
 

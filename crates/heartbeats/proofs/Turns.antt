@@ -43,7 +43,7 @@ pub turned :
 turned ws f k to known ws′ b e n w =
     record { becomes = subst (λ (g : Head). Becomes (headOf ws) f g) (sym (ap headOf w ∙ e)) b; words = w ∙ sym n }
 
-module _ (ws : List ℕ) (long : length ws ≡ 58) where
+module _ (ws : List ℕ) (long : length ws ≡ 60) where
   event-read : (s e r : ℕ) → EventRead s e r ws
   unfolding headOf
   event-read s e r = whole (EventRead s e r) ws long refl
@@ -85,7 +85,7 @@ module _ (ws : List ℕ) (es : DllErrors) (ends : Bool) where
 abbrev signalledHead : Head → Head
 signalledHead h = with-values (with-soc h (changed (h .soc))) (registered (h .od)) (h .history)
 
-module _ (ws : List ℕ) (long : length ws ≡ 58) (ws′ : List ℕ) where
+module _ (ws : List ℕ) (long : length ws ≡ 60) (ws′ : List ℕ) where
   signals :
       (to : List ℕ) (r n : ℕ) (b : Bool) →
       isEven (word ws at.register % 256) ≡ b →

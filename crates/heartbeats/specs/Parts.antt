@@ -3,8 +3,7 @@
 use Prim.Native.Nat.{ℕ}
 use mathlib.Core.Path.{_≡_}
 use mathlib.Core.Bool.{Bool, true, false}
-use mathlib.Core.List.{List, _++_, map}
-use lib.ListN.{take, drop}
+use mathlib.Core.List.{List, map}
 use Rattle.types.specs.Pick.{pick}
 use Rattle.types.specs.Errors.{reported}
 use Rattle.types.specs.declared.nmt.events.NmtEvent.the-variants as event
@@ -13,6 +12,7 @@ use Rattle.types.specs.declared.frame.error.types.DllErrors.{DllErrors}
 use Rattle.counters.specs.Counters.{Effect, counts, losesLink, isLogged, nothing, effect}
 use Rattle.head.specs.Head.{Head}
 use Rattle.watched.specs.declared.nodes.WatchedNode.{WatchedNode}
+use Rattle.watched.specs.Watched.{first}
 use Rattle.node.specs.Tick.{Ticked, looked, eventInTick}
 use Rattle.node.specs.Refines.{plain, SamePlaces, rings, joinsAll}
 
@@ -49,4 +49,4 @@ isQuiet e = quietEffect (effect e)
 
 -- all places of the watched nodes: the look at the first so many; those behind are kept
 abbrev pub lookedFirst : ℕ → ℕ → List WatchedNode → List WatchedNode
-lookedFirst t k ns = map (looked t) (take k ns) ++ drop k ns
+lookedFirst t = first (map (looked t))

@@ -1,15 +1,15 @@
 // The heartbeats of a tick: the look at the watched nodes, and the errors of the late ones.
 ghost use mathlib.Core.Path.{_≡_};
 ghost use mathlib.Core.Bool.{true};
-ghost use mathlib.Core.List.{List};
+ghost use mathlib.Core.List.{List, map};
 ghost use Prim.Native.Nat.{ℕ, _≤_};
 ghost use Rattle.watched.specs.declared.nodes.WatchedNode.{WatchedNode};
 ghost use Rattle.watched.specs.Watched.{allOf, wellFormed, watchedNode, watchedOf};
-ghost use Rattle.node.specs.Tick.{notBefore, isLate, lateOnes, beat, beatAll};
+ghost use Rattle.node.specs.Tick.{notBefore, isLate, looked, lateOnes, beat, beatAll};
 ghost use Rattle.node.specs.Refines.{plain};
 ghost use Rattle.heartbeats.specs.Parts.{lookedFirst};
 ghost use Rattle.head.specs.Words.{headOf};
-ghost use Rattle.watched.specs.Nodes.{nodesOf};
+ghost use Rattle.watched.specs.Nodes.{nodesOf, never, soonest};
 ghost use Rattle.heartbeats.specs.PartWords.{lookedTime, lookedWords, beatWords, beatAllWords};
 ghost use Rattle.heartbeats.specs.PartsIn.{TicksIn};
 use crate::dealt::Dealt;
@@ -23,8 +23,10 @@ use node::timing::time_since;
 use types::frame::error::types::DllError;
 use types::frame::error::types::DllErrors;
 use types::types::NodeId;
+use watched::nodes::NEVER;
 use watched::nodes::NodeWords;
 use watched::nodes::all_places;
+use watched::nodes::sooner;
 
 // A node that was heard once, and then not for longer than its timeout.
 pub fn is_late(timeout: u64, last_heard: u64, time: u64) -> bool
@@ -52,17 +54,25 @@ pub fn looked(timeout: u64, last_heard: u64, time: u64) -> u64
     last_heard
 }
 
-pub fn look_all(nodes: &mut NodeWords, count: usize, time: u64)
-    requires { ⌜ count ≤ 32 ⌝ }
-    ensures { λ _. ⌜ (now (nodes .exit) ≡ lookedWords time count (now (nodes .entry))) × (nodesOf (now (nodes .exit)) ≡ lookedFirst time count (nodesOf (now (nodes .entry)))) ⌝ }
+// All nodes, and the soonest moment at which one would be late then.
+pub fn look_all(nodes: &mut NodeWords, count: usize, time: u64) -> u64
+    requires { ⌜ (time ≤ 4611686018427387903) × (wellFormed (watchedOf (nodesOf (now nodes)) count) ≡ true) ⌝ }
+    ensures { λ r. ⌜ (now (nodes .exit) ≡ lookedWords time count (now (nodes .entry)))
+        × (nodesOf (now (nodes .exit)) ≡ lookedFirst time count (nodesOf (now (nodes .entry))))
+        × (r ≡ soonest never (map (looked time) (watchedOf (nodesOf (now (nodes .entry))) count))) ⌝ }
 {
     all_places(nodes);
+    let mut soonest = NEVER;
     let mut i: usize = 0;
     while i < count {
         let at = 3 * i;
-        nodes[at + 2] = looked(nodes[at + 1], nodes[at + 2], time);
+        let timeout = nodes[at + 1];
+        let last_heard = looked(timeout, nodes[at + 2], time);
+        nodes[at + 2] = last_heard;
+        soonest = sooner(soonest, timeout, last_heard);
         i += 1;
     }
+    soonest
 }
 
 // Where a node has a timeout and was heard, the time is not before that.

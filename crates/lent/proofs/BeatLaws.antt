@@ -129,7 +129,7 @@ came-in ws b = pick (b .crossed) (finishedWords true (signalWords (counted-in ws
 abbrev fresh-in : List ℕ → ℕ → Beats
 fresh-in ws n = record { counter = beatsAt ws; crossed = false; node = n }
 
-module _ (ws : List ℕ) (long : length ws ≡ 58) where
+module _ (ws : List ℕ) (long : length ws ≡ 60) where
   same-counter : ws ≡ counted-in ws (beatsAt ws)
   same-counter = whole (λ (ws : List ℕ). ws ≡ counted-in ws (beatsAt ws)) ws long refl
 
@@ -141,8 +141,8 @@ module _ (ws : List ℕ) (long : length ws ≡ 58) where
   last-counter : (c d : ThresholdCounter) → counted-in (counted-in ws c) d ≡ counted-in ws d
   last-counter c d = whole (λ (ws : List ℕ). counted-in (counted-in ws c) d ≡ counted-in ws d) ws long refl
 
-  still-long : (c : ThresholdCounter) → length (counted-in ws c) ≡ 58
-  still-long c = whole (λ (ws : List ℕ). length (counted-in ws c) ≡ 58) ws long refl
+  still-long : (c : ThresholdCounter) → length (counted-in ws c) ≡ 60
+  still-long c = whole (λ (ws : List ℕ). length (counted-in ws c) ≡ 60) ws long refl
 
   -- the error of one late node
   module _ (w : WatchedNode) where
@@ -189,7 +189,7 @@ module _ (t : ℕ) where
       one false true = check-keeps (b .counter)
       one false false = refl
 
-  comes-in : (ws : List ℕ) → length ws ≡ 58 → (n : ℕ) (vs : List WatchedNode) → beatAllWords ws (lateOnes t vs) ≡ came-in ws (folded (beatenBy t) (fresh-in ws n) vs)
+  comes-in : (ws : List ℕ) → length ws ≡ 60 → (n : ℕ) (vs : List WatchedNode) → beatAllWords ws (lateOnes t vs) ≡ came-in ws (folded (beatenBy t) (fresh-in ws n) vs)
   unfolding folded beatAllWords
   comes-in ws long n [] = same-counter ws long
   comes-in ws long n (w ∷ vs) = by (isLate t w) (comes-in ws long n vs) (hit (afterError (beatsAt ws) .reached) refl (comes-in (next-in ws long w) (still-long ws long (afterError (beatsAt ws) .counter)) (w .node) vs))
@@ -218,7 +218,7 @@ module _ (t : ℕ) where
           ap ahead (ends-in ws long w false e) ∙ ap (λ (l : List ℕ). beatAllWords l (lateOnes t vs)) (beat-in ws long w false e)
           ∙ more ∙ next-came ws long w (folded (beatenBy t) (fresh-in (next-in ws long w) (w .node)) vs) ∙ ap (λ (b : Beats). came-in ws (folded (beatenBy t) b vs)) same
 
-module _ (ws : List ℕ) (long : length ws ≡ 58) (b : Beats) where
+module _ (ws : List ℕ) (long : length ws ≡ 60) (b : Beats) where
   module _ (t : ℕ) (vs : List WatchedNode) (e : b ≡ beatsAll ws t vs) where
     carried : b ≡ folded (beatenBy t) (fresh-in ws 0) vs
     carried = e ∙ beats-carried _ vs

@@ -3,4 +3,5 @@ pub mod Seeing
 pub mod SeenLaws
 pub mod BeatLaws
 pub mod JudgedLaws
+pub mod ArrivalLaws
 pub mod Links

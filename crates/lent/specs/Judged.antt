@@ -1,10 +1,10 @@
--- What the function leaves that judges a call by what was found of the nodes, whatever nodes the walk has seen: the call's contract, with the nodes as it
--- has them set.
+-- What the function leaves that judges a call by what was found of the run, whatever run the walk has seen: the call's contract, with the run as it
+-- has it set.
 -- Assumes nothing.
 use Prim.Native.Nat.{ℕ}
 use mathlib.Core.Path.{_≡_}
 use mathlib.Core.Bool.{Bool}
-use mathlib.Core.List.{List, map}
+use mathlib.Core.List.{List}
 use Rattle.types.specs.Pick.{pick}
 use Rattle.types.specs.declared.nmt.flags.FeatureFlags.{FeatureFlags}
 use Rattle.counters.specs.declared.counters.Thresholds.{Thresholds}
@@ -17,28 +17,34 @@ use Rattle.start.specs.Started.{StartedOn}
 use Rattle.heartbeats.specs.declared.dealt.Dealt.{Dealt}
 use Rattle.tick.specs.declared.tick.TickAnswer.the-variants.{Taken}
 use Rattle.tick.specs.TickIn.{TickedOn}
-use Rattle.lent.specs.declared.run.Findings.{Findings}
+use Rattle.watched.specs.Watched.{run}
+use Rattle.lent.specs.declared.run.Surveyed.{Surveyed}
+use Rattle.lent.specs.declared.run.Settling.{Settling}
 use Rattle.lent.specs.declared.run.Setting.{Setting}
 use Rattle.lent.specs.declared.run.Setting.the-variants.{Nothing, Looked}
 use Rattle.lent.specs.declared.calls.Done.{Done}
 use Rattle.lent.specs.declared.ticks.TickDone.{TickDone}
-use Rattle.lent.specs.Runs.{forStart, forHeard, forTick, foundAll, settled}
+use Rattle.lent.specs.Runs.{forStart, forHeard, forTick, surveyed, settlingOf, settledAll}
 
 -- a call that is declined sets nothing
-abbrev pub doneBy : CallAnswer → Setting → Done
-doneBy answer.Taken s = record { answer = answer.Taken; setting = s }
-doneBy (answer.Refused r) s = record { answer = answer.Refused r; setting = Nothing }
+abbrev pub settlesNothing : Settling
+settlesNothing = settlingOf 0 Nothing
 
-abbrev pub Hears : ℕ → ℕ → Findings → Done → Type 0
-Hears n t s r = (vs : List WatchedNode) → s ≡ foundAll (forHeard n) vs → HeardOn vs n t (r .answer) (map (settled (r .setting)) vs)
+abbrev pub doneBy : CallAnswer → ℕ → Setting → Done
+doneBy answer.Taken k y = record { answer = answer.Taken; settling = settlingOf k y }
+doneBy (answer.Refused r) k y = record { answer = answer.Refused r; settling = settlesNothing }
 
-abbrev pub Starts : List ℕ → ℕ → FeatureFlags → ℕ → ℕ → Dictionary → Thresholds → Findings → Done → List ℕ → Type 0
-Starts ws n f t c o ts s r ws′ =
-    (vs : List WatchedNode) → s ≡ foundAll forStart vs → StartedOn ws vs n f t c o ts (r .answer) ws′ (map (settled (r .setting)) vs)
+abbrev pub Hears : List ℕ → ℕ → ℕ → ℕ → Surveyed → Done → List ℕ → Type 0
+Hears ws k n t s r ws′ =
+    (vs : List WatchedNode) → s ≡ surveyed (forHeard k n t) vs → HeardOn ws (run vs k) n t (r .answer) ws′ (run (settledAll (r .settling) vs) k)
 
-abbrev pub TicksBy : List ℕ → List ℕ → List ℕ → ℕ → Findings → TickDone → List ℕ → List ℕ → List ℕ → Type 0
-TicksBy ws q m t s r ws′ q′ m′ =
-    (vs : List WatchedNode) → s ≡ foundAll (forTick ws t) vs → TickedOn ws q m vs t (r .answer) ws′ q′ m′ (map (settled (r .setting)) vs)
+abbrev pub Starts : List ℕ → ℕ → ℕ → FeatureFlags → ℕ → ℕ → Dictionary → Thresholds → Surveyed → Done → List ℕ → Type 0
+Starts ws k n f t c o ts s r ws′ =
+    (vs : List WatchedNode) → s ≡ surveyed (forStart k) vs → StartedOn ws (run vs k) n f t c o ts (r .answer) ws′ (run (settledAll (r .settling) vs) k)
 
-abbrev pub tickDone : Dealt → Bool → ℕ → TickDone
-tickDone d checks t = record { answer = Taken (d .logged); setting = pick checks (Looked t) Nothing }
+abbrev pub TicksBy : List ℕ → List ℕ → List ℕ → ℕ → ℕ → Surveyed → TickDone → List ℕ → List ℕ → List ℕ → Type 0
+TicksBy ws q m k t s r ws′ q′ m′ =
+    (vs : List WatchedNode) → s ≡ surveyed (forTick ws k t) vs → TickedOn ws q m (run vs k) t (r .answer) ws′ q′ m′ (run (settledAll (r .settling) vs) k)
+
+abbrev pub tickDone : Dealt → ℕ → Bool → ℕ → TickDone
+tickDone d k checks t = record { answer = Taken (d .logged); settling = settlingOf k (pick checks (Looked t) Nothing) }

@@ -1,25 +1,29 @@
-// The watched nodes as a lent run of records: what a walk over them finds out, and what a walk sets.
+// The watched nodes as a lent run of records, with the number watched beside it: what a walk over its places finds out, and what a walk sets.
 ghost use mathlib.Core.Path.{_≡_};
-ghost use mathlib.Core.List.{map};
 ghost use lib.Dec.{eqb, ltb};
-ghost use Rattle.types.specs.Pick.{both, either};
+ghost use Rattle.types.specs.Pick.{pick, both, either};
 ghost use Rattle.watched.specs.Watched.{fits};
+ghost use Rattle.watched.specs.Nodes.{soonerBy};
 ghost use Rattle.node.specs.Tick.{notBefore};
-ghost use Rattle.lent.specs.Runs.{asked, forStart, forHeard, forTick, passes, upTo33, triedBy, beatenBy, foundBy, foundAll, settled};
+ghost use Rattle.lentlaws.specs.Scan.{scanned};
+ghost use Rattle.lent.specs.Runs.{asked, forStart, forHeard, forTick, passes, upTo33, triedBy, beatenBy, inReach, foundBy, surveyedBy, surveyed, settled, setNext, settledAll};
 use counters::counters::CounterKind;
 use counters::counters::ThresholdCounter;
 use head::parts::counter_of;
+use head::parts::state_at;
 use head::state::Head;
 use heartbeats::heartbeats::heard_by;
 use heartbeats::heartbeats::is_late;
 use heartbeats::heartbeats::looked;
+use node::heard::within;
+use tick::tick::checks_heartbeats;
+use watched::nodes::NEVER;
 use watched::nodes::WatchedNode;
 use watched::nodes::follows;
+use watched::nodes::sooner;
 
 // Number 3, node by node.
 pub struct Tried {
-    // So many nodes; 33 where there are more than 32.
-    pub count: u8,
     // The number of the last one.
     pub last: u8,
     // Ascending, and each within its limits.
@@ -34,19 +38,6 @@ pub struct Beats {
     pub node: u8,
 }
 
-// What a walk over the nodes finds out.
-pub struct Findings {
-    // Asked for: a node, and a time.
-    pub node: u8,
-    pub time: u64,
-    pub tried: Tried,
-    // The node is among them.
-    pub watched: bool,
-    // The time is before no node's last one (number 6).
-    pub after: bool,
-    pub beats: Beats,
-}
-
 // What a call sets: nothing, all last-heard times to 0, that of one node, or those that a tick sets.
 pub enum Setting {
     Nothing,
@@ -55,64 +46,133 @@ pub enum Setting {
     Looked(u64),
 }
 
-// Before the first node.
-fn ask(node: u8, time: u64, counter: ThresholdCounter) -> Findings
-    ensures { λ r. ⌜ r ≡ asked node time counter ⌝ }
+// What a walk over the watched nodes finds out.
+pub struct Findings {
+    // Asked for: a node, a time, and what is to be set.
+    pub node: u8,
+    pub time: u64,
+    pub setting: Setting,
+    pub tried: Tried,
+    // The node is among them.
+    pub watched: bool,
+    // The time is before no node's last one (number 6).
+    pub after: bool,
+    pub beats: Beats,
+    // The soonest moment at which a node would be late, once all are set.
+    pub soonest: u64,
+}
+
+// What a walk over the places of a run finds out.
+pub struct Surveyed {
+    // So many of the places ahead are watched.
+    pub left: usize,
+    // So many places; 33 where there are more than 32.
+    pub places: u8,
+    pub found: Findings,
+}
+
+// What the walk back sets: so many places, and how.
+pub struct Settling {
+    pub left: usize,
+    pub setting: Setting,
+}
+
+// A place as it is set, and what is to be set behind it.
+pub struct Settled {
+    pub node: WatchedNode,
+    pub settling: Settling,
+}
+
+// Before the first place.
+pub fn ask(
+    number: usize,
+    node: u8,
+    time: u64,
+    setting: Setting,
+    counter: ThresholdCounter,
+) -> Surveyed
+    ensures { λ r. ⌜ r ≡ asked number node time setting counter ⌝ }
 {
-    Findings {
-        node,
-        time,
-        tried: Tried {
-            count: 0,
-            last: 0,
-            formed: true,
-        },
-        watched: false,
-        after: true,
-        beats: Beats {
-            counter,
-            crossed: false,
-            node: 0,
+    Surveyed {
+        left: number,
+        places: 0,
+        found: Findings {
+            node,
+            time,
+            setting,
+            tried: Tried {
+                last: 0,
+                formed: true,
+            },
+            watched: false,
+            after: true,
+            beats: Beats {
+                counter,
+                crossed: false,
+                node: 0,
+            },
+            soonest: NEVER,
         },
     }
 }
 
 // Of the nodes alone.
-pub fn for_start() -> Findings
-    ensures { λ r. ⌜ r ≡ forStart ⌝ }
+pub fn for_start(number: usize) -> Surveyed
+    ensures { λ r. ⌜ r ≡ forStart number ⌝ }
 {
-    ask(0, 0, ThresholdCounter::new(0))
+    ask(number, 0, 0, Setting::Unheard, ThresholdCounter::new(0))
 }
 
 // Of a node too.
-pub fn for_heard(node: u8) -> Findings
-    ensures { λ r. ⌜ r ≡ forHeard node ⌝ }
+pub fn for_heard(number: usize, node: u8, time: u64) -> Surveyed
+    ensures { λ r. ⌜ r ≡ forHeard number node time ⌝ }
 {
-    ask(node, 0, ThresholdCounter::new(0))
+    ask(
+        number,
+        node,
+        0,
+        Setting::Heard(node, time),
+        ThresholdCounter::new(0),
+    )
+}
+
+// The times are set where heartbeats are checked.
+pub fn look_if(checks: bool, time: u64) -> Setting
+    ensures { λ r. ⌜ r ≡ pick checks (Setting.Looked time) Setting.Nothing ⌝ }
+{
+    if checks {
+        return Setting::Looked(time);
+    }
+    Setting::Nothing
 }
 
 // Of a time too, with the head's heartbeat counter.
-pub fn for_tick(head: &Head, time: u64) -> Findings
-    ensures { λ r. ⌜ r ≡ forTick (now (head .entry)) time ⌝ }
+pub fn for_tick(head: &Head, number: usize, time: u64) -> Surveyed
+    ensures { λ r. ⌜ r ≡ forTick (now (head .entry)) number time ⌝ }
 {
-    ask(0, time, counter_of(head, CounterKind::HeartbeatTimeout))
+    let counter = counter_of(head, CounterKind::HeartbeatTimeout);
+    let setting = look_if(checks_heartbeats(state_at(head)), time);
+    ask(number, 0, time, setting, counter)
 }
 
-// Number 3 does not stand.
-pub fn passes(tried: Tried) -> bool
-    ensures { λ r. ⌜ r ≡ passes tried ⌝ }
+// Number 3 does not stand: 32 places, the number within them, and its nodes well formed.
+pub fn passes(survey: Surveyed) -> bool
+    ensures { λ r. ⌜ r ≡ passes survey ⌝ }
 {
-    if tried.count <= 32 {
-        return tried.formed;
+    if survey.places != 32 {
+        return false;
     }
-    false
+    if survey.left != 0 {
+        return false;
+    }
+    survey.found.tried.formed
 }
 
-// One node more, up to 33.
-fn one_more(count: u8) -> u8
-    ensures { λ r. ⌜ r ≡ upTo33 count ⌝ }
+// One place more, up to 33.
+fn one_more(places: u8) -> u8
+    ensures { λ r. ⌜ r ≡ upTo33 places ⌝ }
 {
-    if count < 33 { count + 1 } else { count }
+    if places < 33 { places + 1 } else { places }
 }
 
 // A node with a higher number than the last, and within its limits.
@@ -128,10 +188,8 @@ fn rises(formed: bool, last: u8, w: WatchedNode) -> bool
 fn try_node(tried: Tried, w: WatchedNode) -> Tried
     ensures { λ r. ⌜ r ≡ triedBy tried w ⌝ }
 {
-    let count = one_more(tried.count);
     let formed = rises(tried.formed, tried.last, w);
     Tried {
-        count,
         last: w.node,
         formed,
     }
@@ -176,40 +234,6 @@ fn and_after(after: bool, w: WatchedNode, time: u64) -> bool
 }
 
 // One node.
-pub fn see(found: Findings, w: WatchedNode) -> Findings
-    ensures { λ r. ⌜ r ≡ foundBy found w ⌝ }
-{
-    let node = found.node;
-    let time = found.time;
-    let tried = found.tried;
-    let tried = try_node(tried, w);
-    let watched = is_or(found.watched, w, node);
-    let after = and_after(found.after, w, time);
-    let beats = found.beats;
-    let beats = beat(beats, w, time);
-    Findings {
-        node,
-        time,
-        tried,
-        watched,
-        after,
-        beats,
-    }
-}
-
-// All nodes, in order; none is changed.
-pub fn survey(nodes: &mut [WatchedNode], mut found: Findings) -> Findings
-    ensures { λ r. ⌜ (now (nodes .exit) ≡ now (nodes .entry)) × (r ≡ foundAll found (now (nodes .entry))) ⌝ }
-{
-    let mut i = 0;
-    while i < nodes.len() {
-        found = see(found, nodes[i]);
-        i += 1;
-    }
-    found
-}
-
-// One node.
 pub fn set(setting: Setting, mut w: WatchedNode) -> WatchedNode
     ensures { λ r. ⌜ r ≡ settled setting w ⌝ }
 {
@@ -233,13 +257,105 @@ pub fn set(setting: Setting, mut w: WatchedNode) -> WatchedNode
     }
 }
 
-// All nodes.
-pub fn settle(nodes: &mut [WatchedNode], setting: Setting)
-    ensures { λ _. ⌜ now (nodes .exit) ≡ map (settled setting) (now (nodes .entry)) ⌝ }
+// The soonest moment with one more node, as it will be set. A time that no call takes is read as the latest one: number 3 or 5 declines it.
+fn soonest_with(soonest: u64, setting: Setting, w: WatchedNode) -> u64
+    ensures { λ r. ⌜ r ≡ soonerBy soonest (inReach (settled setting w)) ⌝ }
+{
+    let after = set(setting, w);
+    sooner(soonest, within(after.timeout), within(after.last_heard))
+}
+
+// One node.
+pub fn see(found: Findings, w: WatchedNode) -> Findings
+    ensures { λ r. ⌜ r ≡ foundBy found w ⌝ }
+{
+    let node = found.node;
+    let time = found.time;
+    let setting = found.setting;
+    let tried = found.tried;
+    let tried = try_node(tried, w);
+    let watched = is_or(found.watched, w, node);
+    let after = and_after(found.after, w, time);
+    let beats = found.beats;
+    let beats = beat(beats, w, time);
+    let soonest = soonest_with(found.soonest, setting, w);
+    Findings {
+        node,
+        time,
+        setting,
+        tried,
+        watched,
+        after,
+        beats,
+        soonest,
+    }
+}
+
+// One place: past the number it is not tried.
+pub fn see_place(survey: Surveyed, w: WatchedNode) -> Surveyed
+    ensures { λ r. ⌜ r ≡ surveyedBy survey w ⌝ }
+{
+    let places = one_more(survey.places);
+    let found = survey.found;
+    let left = survey.left;
+    if left == 0 {
+        return Surveyed {
+            left,
+            places,
+            found,
+        };
+    }
+    let found = see(found, w);
+    Surveyed {
+        left: left - 1,
+        places,
+        found,
+    }
+}
+
+// All places, in order; none is changed.
+pub fn survey(nodes: &mut [WatchedNode], mut seen: Surveyed) -> Surveyed
+    ensures { λ r. ⌜ (now (nodes .exit) ≡ now (nodes .entry)) × (r ≡ surveyed seen (now (nodes .entry))) ⌝ }
 {
     let mut i = 0;
     while i < nodes.len() {
-        nodes[i] = set(setting, nodes[i]);
+        seen = see_place(seen, nodes[i]);
+        i += 1;
+    }
+    seen
+}
+
+// One place: past the number it stays as it is.
+pub fn set_next(settling: Settling, w: WatchedNode) -> Settled
+    ensures { λ r. ⌜ r ≡ setNext settling w ⌝ }
+{
+    let setting = settling.setting;
+    let left = settling.left;
+    if left == 0 {
+        return Settled {
+            node: w,
+            settling: Settling { left, setting },
+        };
+    }
+    let node = set(setting, w);
+    Settled {
+        node,
+        settling: Settling {
+            left: left - 1,
+            setting,
+        },
+    }
+}
+
+// All places.
+pub fn settle(nodes: &mut [WatchedNode], mut settling: Settling)
+    ensures { λ _. ⌜ now (nodes .exit) ≡ settledAll settling (now (nodes .entry)) ⌝ }
+{
+    let mut i = 0;
+    while i < nodes.len() {
+        let next = set_next(settling, nodes[i]);
+        nodes[i] = next.node;
+        settling = next.settling;
         i += 1;
     }
 }

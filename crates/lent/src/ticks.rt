@@ -13,22 +13,27 @@ ghost use Rattle.tick.specs.TickWords.{tickWords};
 ghost use Rattle.heartbeats.specs.PartsIn.{TicksIn};
 ghost use Rattle.lent.specs.Runs.{beatsAll};
 ghost use Rattle.tick.specs.TickIn.{TickedOn};
-ghost use Rattle.lent.specs.Judged.{TicksBy, tickDone};
+ghost use Rattle.watched.specs.Watched.{run};
+ghost use Rattle.lent.specs.Judged.{TicksBy, tickDone, settlesNothing};
 use crate::run::Beats;
-use crate::run::Findings;
 use crate::run::Setting;
+use crate::run::Settling;
+use crate::run::Surveyed;
 use crate::run::for_tick;
+use crate::run::look_if;
 use crate::run::passes;
 use crate::run::settle;
 use crate::run::survey;
 use counters::counters::CounterKind;
 use head::parts::set_counter;
+use head::parts::set_earliest;
 use head::parts::state_at;
 use head::parts::whole;
 use head::state::Head;
 use heartbeats::dealt::Dealt;
 use heartbeats::dealt::finish;
 use heartbeats::dealt::signal;
+use node::heard::moment;
 use tick::deadline::by_deadline;
 use tick::tick::TickAnswer;
 use tick::tick::checks_heartbeats;
@@ -42,33 +47,32 @@ use watched::time::in_time;
 // What a tick answers, and what it sets.
 pub struct TickDone {
     pub answer: TickAnswer,
-    pub setting: Setting,
+    pub settling: Settling,
 }
 
 fn not_taken(refusal: Refusal) -> TickDone
-    ensures { λ r. ⌜ r ≡ record { answer = TickAnswer.Refused refusal; setting = Setting.Nothing } ⌝ }
+    ensures { λ r. ⌜ r ≡ record { answer = TickAnswer.Refused refusal; settling = settlesNothing } ⌝ }
 {
     TickDone {
         answer: TickAnswer::Refused(refusal),
-        setting: Setting::Nothing,
+        settling: Settling {
+            left: 0,
+            setting: Setting::Nothing,
+        },
     }
 }
 
-// The times are set where heartbeats are checked.
-fn taken(dealt: Dealt, checks: bool, time: u64) -> TickDone
-    ensures { λ r. ⌜ r ≡ tickDone dealt checks time ⌝ }
+fn taken(dealt: Dealt, number: usize, checks: bool, time: u64) -> TickDone
+    ensures { λ r. ⌜ r ≡ tickDone dealt number checks time ⌝ }
 {
     let logged = dealt.logged;
-    let answer = TickAnswer::Taken(logged);
-    if checks {
-        return TickDone {
-            answer,
-            setting: Setting::Looked(time),
-        };
-    }
+    let setting = look_if(checks, time);
     TickDone {
-        answer,
-        setting: Setting::Nothing,
+        answer: TickAnswer::Taken(logged),
+        settling: Settling {
+            left: number,
+            setting,
+        },
     }
 }
 
@@ -128,30 +132,32 @@ fn phases(
     by_deadline(head, queue, history, time)
 }
 
-// The tick, by what was found of the nodes.
+// The tick, by what was found of the run.
 pub fn tick_by(
     head: &mut Head,
     queue: &mut [u8; 640],
     history: &mut [u8; 5080],
+    number: usize,
     time: u64,
-    found: Findings,
+    seen: Surveyed,
 ) -> TickDone
-    ensures { λ r. ⌜ TicksBy (now (head .entry)) (now (queue .entry)) (now (history .entry)) time found r (now (head .exit)) (now (queue .exit)) (now (history .exit)) ⌝ }
+    ensures { λ r. ⌜ TicksBy (now (head .entry)) (now (queue .entry)) (now (history .entry)) number time seen r (now (head .exit)) (now (queue .exit)) (now (history .exit)) ⌝ }
 {
-    let tried = found.tried;
-    if !passes(tried) {
+    if !passes(seen) {
         return not_taken(Refusal::WatchedNodes);
     }
     if !in_time(time) {
         return not_taken(Refusal::TimeLimit);
     }
     let checks = checks_heartbeats(state_at(head));
-    if !after_heard(checks, found.after) {
+    if !after_heard(checks, seen.found.after) {
         return not_taken(Refusal::BeforeHeard);
     }
-    let beats = found.beats;
+    let beats = seen.found.beats;
     let dealt = phases(head, queue, history, checks, beats, time);
-    taken(dealt, checks, time)
+    whole(head);
+    set_earliest(head, moment(seen.found.soonest));
+    taken(dealt, number, checks, time)
 }
 
 // A tick at a time in microseconds, on a head with its memory and the watched nodes.
@@ -160,12 +166,13 @@ pub fn process_tick(
     queue: &mut [u8; 640],
     history: &mut [u8; 5080],
     nodes: &mut [WatchedNode],
+    number: usize,
     time: u64,
 ) -> TickAnswer
-    ensures { λ r. ⌜ TickedOn (now (head .entry)) (now (queue .entry)) (now (history .entry)) (now (nodes .entry)) time r (now (head .exit)) (now (queue .exit)) (now (history .exit)) (now (nodes .exit)) ⌝ }
+    ensures { λ r. ⌜ TickedOn (now (head .entry)) (now (queue .entry)) (now (history .entry)) (run (now (nodes .entry)) number) time r (now (head .exit)) (now (queue .exit)) (now (history .exit)) (run (now (nodes .exit)) number) ⌝ }
 {
-    let found = survey(nodes, for_tick(head, time));
-    let done = tick_by(head, queue, history, time, found);
-    settle(nodes, done.setting);
+    let seen = survey(nodes, for_tick(head, number, time));
+    let done = tick_by(head, queue, history, number, time, seen);
+    settle(nodes, done.settling);
     done.answer
 }

@@ -5,15 +5,11 @@ pub mod Views
 pub mod Change
 pub mod ChangeAnswer
 pub mod Fold
-pub mod Each
 pub mod ScanLaws
 pub mod Scan
 pub mod ScanBack
 pub mod JudgedHeard
 pub mod JudgedStart
 pub mod JudgedTick
-pub mod JudgedHear
-pub mod JudgedBegin
-pub mod JudgedWatch
 pub mod JudgedAdd
 pub mod JudgedRemove

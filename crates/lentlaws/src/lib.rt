@@ -9,15 +9,14 @@
 //   Runs          a step: a call that is lent the run again, for as long as it lasts
 //   Views         a step: a call that is lent a view, `&`, of what stands behind a `&mut`, with any number of arguments by value
 //   Fold          while i < xs.len() { a = g(a, xs[i]); i += 1; } a        nothing is written; the answer is `folded` (specs/Fold.antt)
-//   Each          while i < xs.len() { xs[i] = g(a, xs[i]); i += 1; }      each record becomes what g makes of it
 //   Scan          while i < xs.len() { let s = g(a, xs[i]); xs[i] = s.fst; a = s.snd; i += 1; }
 //                 each record becomes what g makes of it and of what is carried to it: the run becomes `scanned` (specs/Scan.antt)
 //   ScanBack      while 0 < i { i -= 1; let s = g(a, xs[i]); xs[i] = s.fst; a = s.snd; }        the same from the last, `i` from `xs.len()`: `scannedBack`
 //   ScanLaws      of `scanned` and `scannedBack`: the length, two runs one after the other, what stays as it is
-//   JudgedHeard, JudgedStart, JudgedTick, JudgedHear, JudgedBegin, JudgedWatch, JudgedAdd, JudgedRemove
+//   JudgedHeard, JudgedStart, JudgedTick, JudgedAdd, JudgedRemove
 //                 let s = survey(xs, ask(..)); let d = judge(.., s); settle(xs, d.snd); d.fst        one for each list of parameters
 //
-// The last eight differ only in their parameters: scripts/lent_laws.py writes them, and `make test` sees that they are what it writes.
+// The last five differ only in their parameters: scripts/lent_laws.py writes them, and `make test` sees that they are what it writes.
 //
 // How a new function uses a law (crate `lent` has examples):
 //   1. Write it exactly as the law has it; `rt mir NAME` shows what becomes of it. No other `let`, no `for`; the first argument of `survey` is a call

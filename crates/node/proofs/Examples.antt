@@ -13,10 +13,11 @@ use Rattle.counters.specs.Counters.{replaced, afterError, countedError, handled
 use Rattle.counters.specs.Marks.{crosses, errorMarks, cycleMarks}
 use Rattle.entries.specs.Entry.{crossingEntry}
 use Rattle.watched.specs.Watched.{wellFormed}
-use Rattle.node.specs.Steps.{fresh}
+use Rattle.entries.specs.Ring.{listed}
+use Rattle.node.specs.Steps.{earliest, fresh}
 use Rattle.node.specs.Tick.{beat, beatAll, queued, deal, dealAll, socCheck, tickTaken}
 use Rattle.node.specs.Examples.{comesOf, stated, examples}
 
 pub examples-hold : (map comesOf examples ≡ map stated examples) × (length examples ≡ 12)
-unfolding fresh readEvent readCsEvent readError isReset statesEntered resetSequence enter rowOf applied resetBy processed Dll.csProcessed replaced afterError countedError handled crosses lowered anyActive completed errorMarks cycleMarks crossingEntry wellFormed beat beatAll queued deal dealAll socCheck tickTaken
+unfolding listed earliest fresh readEvent readCsEvent readError isReset statesEntered resetSequence enter rowOf applied resetBy processed Dll.csProcessed replaced afterError countedError handled crosses lowered anyActive completed errorMarks cycleMarks crossingEntry wellFormed beat beatAll queued deal dealAll socCheck tickTaken
 examples-hold = (refl, refl)

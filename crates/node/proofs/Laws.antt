@@ -40,16 +40,15 @@ use Rattle.head.specs.declared.state.Deadline.the-variants.{At, Nothing}
 use Rattle.head.specs.declared.state.SocWatch.{SocWatch}
 use Rattle.head.specs.declared.state.Dictionary.{Dictionary}
 use Rattle.node.specs.declared.load.DictionaryUpdate.{DictionaryUpdate}
-use Rattle.watched.specs.declared.nodes.WatchedNode.{WatchedNode}
 use Rattle.node.specs.Plain.{Plain, Step, Call, nmtEvent, dllEvent, error, cycleComplete, withdraw, handOut, load, arm, refused, taken, nmtAnswer, dllAnswer, errorAnswer, cycleAnswer, handOutAnswer}
-use Rattle.watched.specs.Watched.{inTime}
-use Rattle.node.specs.Steps.{forgets, must, tried, plainOf, withNmt, withSoc, answers, declines, nmtTaken, nmtStep, dllTaken, dllStep, errorTaken, errorStep, cycleTaken, withdrawn, handOutStep, updated, updatedHistory, cycleOf, limitOf, armed}
+use Rattle.watched.specs.Watched.{inTime, Run}
+use Rattle.node.specs.Steps.{forgets, must, tried, plainOf, withNmt, withSoc, noRun, answers, declines, nmtTaken, nmtStep, dllTaken, dllStep, errorTaken, errorStep, cycleTaken, withdrawn, handOutStep, updated, updatedHistory, cycleOf, limitOf, armed}
 use Rattle.node.specs.Run.{step}
 use Rattle.node.specs.Refines.{plain, Left, left, historyUpdate, loadedPlaces, loadedMemory, Refines, SamePlaces}
 
 -- what a call left is what its step, worked out, leaves
 pub refined :
-    (h : Head) (q m : List ℕ) (c : Call) (o : Left) (q′ m′ : List ℕ) (l : List WatchedNode) (t : Step) →
+    (h : Head) (q m : List ℕ) (c : Call) (o : Left) (q′ m′ : List ℕ) (l : Run) (t : Step) →
     step (plain h q m) c ≡ t →
     plain (o .head) q′ m′ ≡ t .head →
     o .answer ≡ t .answer →
@@ -64,7 +63,7 @@ refined h q m c o q′ m′ l t s a b d =
 
 -- the contract of a call that is not lent the queue or the history
 abbrev pub Alone : Head → Call → Left → Type 0
-Alone h c o = ((q m : List ℕ) → Refines h q m c o q m []) × SamePlaces h (o .head)
+Alone h c o = ((q m : List ℕ) → Refines h q m c o q m noRun) × SamePlaces h (o .head)
 
 pub same-places : (h : Head) → SamePlaces h h
 same-places h = record { queue = refl; history = refl }
@@ -91,14 +90,14 @@ nmt-taken h n e es t r x y = (
   λ q m.
       let p : Plain = plain h q m in
       let g : Head = with-nmt h (Nmt.processed (h .nmt) e .machine) in
-      refined h q m (nmtEvent n) _ q m [] (nmtTaken p e (Nmt.processed (h .nmt) e)) (ap (nmtStep p) r)
+      refined h q m (nmtEvent n) _ q m noRun (nmtTaken p e (Nmt.processed (h .nmt) e)) (ap (nmtStep p) r)
       (plain-forgets (isReset e) g q m) (λ i. nmtAnswer (x i) (y i)) refl,
   let s = forgets-places (isReset e) (with-nmt h (Nmt.processed (h .nmt) e .machine)) in record { queue = s .queue; history = s .history },
 )
 
 pub nmt-refused : (h : Head) (n : ℕ) (x : Refusal) → readEvent n ≡ event.Refused x → Alone h (nmtEvent n) (left h (refused (refusalNumber x)))
 nmt-refused h n x r = (
-  λ q m. refined h q m (nmtEvent n) _ q m [] (declines (plain h q m) [] (refusalNumber x)) (ap (nmtStep (plain h q m)) r) refl refl refl,
+  λ q m. refined h q m (nmtEvent n) _ q m noRun (declines (plain h q m) noRun (refusalNumber x)) (ap (nmtStep (plain h q m)) r) refl refl refl,
   same-places h,
 )
 
@@ -110,7 +109,7 @@ pub dll-taken :
 dll-taken h n expected e a r o = (
   λ q m.
       let p : Plain = plain h q m in
-      refined h q m (dllEvent n expected) _ q m [] (dllTaken p (Dll.csOutcome a)) (ap (dllStep p expected) r ∙ ap (dllTaken p) (sym o)) refl refl refl,
+      refined h q m (dllEvent n expected) _ q m noRun (dllTaken p (Dll.csOutcome a)) (ap (dllStep p expected) r ∙ ap (dllTaken p) (sym o)) refl refl refl,
   record { queue = refl; history = refl },
 )
 
@@ -119,7 +118,7 @@ pub dll-refused :
     readCsEvent n ≡ cs-event.Refused x →
     Alone h (dllEvent n expected) (left h (refused (refusalNumber x)))
 dll-refused h n expected x r = (
-  λ q m. refined h q m (dllEvent n expected) _ q m [] (declines (plain h q m) [] (refusalNumber x)) (ap (dllStep (plain h q m) expected) r) refl refl refl,
+  λ q m. refined h q m (dllEvent n expected) _ q m noRun (declines (plain h q m) noRun (refusalNumber x)) (ap (dllStep (plain h q m) expected) r) refl refl refl,
   same-places h,
 )
 
@@ -132,7 +131,7 @@ pub error-taken :
 error-taken h kind a b e r t s = (
   λ q m.
       let p : Plain = plain h q m in
-      refined h q m (error kind a b) _ q m [] (errorTaken p r (errorMarks (h .errors) e))
+      refined h q m (error kind a b) _ q m noRun (errorTaken p r (errorMarks (h .errors) e))
       (ap (errorStep p) t ∙ ap (λ (r : HandledError). errorTaken p r (errorMarks (h .errors) e)) (sym s)) refl refl refl,
   record { queue = refl; history = refl },
 )
@@ -142,7 +141,7 @@ pub error-refused :
     readError kind a b ≡ error-read.Refused x →
     Alone h (error kind a b) (left h (refused (refusalNumber x)))
 error-refused h kind a b x t = (
-  λ q m. refined h q m (error kind a b) _ q m [] (declines (plain h q m) [] (refusalNumber x)) (ap (errorStep (plain h q m)) t) refl refl refl,
+  λ q m. refined h q m (error kind a b) _ q m noRun (declines (plain h q m) noRun (refusalNumber x)) (ap (errorStep (plain h q m)) t) refl refl refl,
   same-places h,
 )
 
@@ -153,7 +152,7 @@ pub cycle-taken :
 cycle-taken h r s = (
   λ q m.
       let p : Plain = plain h q m in
-      refined h q m cycleComplete _ q m [] (cycleTaken p r (cycleMarks (h .errors)))
+      refined h q m cycleComplete _ q m noRun (cycleTaken p r (cycleMarks (h .errors)))
       (ap (λ (r : CompletedCycle). cycleTaken p r (cycleMarks (h .errors))) (sym s)) refl refl refl,
   record { queue = refl; history = refl },
 )
@@ -161,12 +160,12 @@ cycle-taken h r s = (
 -- withdraw: number 8 at ReadyToOperate, taken elsewhere
 abbrev withdrawBy : Plain → NmtState → Step
 withdrawBy p s =
-    tried (must (not (sameState s NmtReadyToOperate)) 8 ∷ []) (declines p []) (answers (withNmt p (withdrawn (p .nmt))) taken [])
+    tried (must (not (sameState s NmtReadyToOperate)) 8 ∷ []) (declines p noRun) (answers (withNmt p (withdrawn (p .nmt))) taken noRun)
 
 pub withdraw-refused :
     (h : Head) → h .nmt .«current_state» ≡ NmtReadyToOperate → Alone h withdraw (left h (refused 8))
 withdraw-refused h e = (
-  λ q m. refined h q m withdraw _ q m [] (declines (plain h q m) [] 8) (ap (withdrawBy (plain h q m)) e) refl refl refl,
+  λ q m. refined h q m withdraw _ q m noRun (declines (plain h q m) noRun 8) (ap (withdrawBy (plain h q m)) e) refl refl refl,
   same-places h,
 )
 
@@ -177,8 +176,8 @@ pub withdraw-taken :
 withdraw-taken h e = (
   λ q m.
       let p : Plain = plain h q m in
-      let t : Step = answers (withNmt p (withdrawn (p .nmt))) taken [] in
-      refined h q m withdraw _ q m [] t (ap (λ (b : Bool). pick b t (declines p [] 8)) e) refl refl refl,
+      let t : Step = answers (withNmt p (withdrawn (p .nmt))) taken noRun in
+      refined h q m withdraw _ q m noRun t (ap (λ (b : Bool). pick b t (declines p noRun 8)) e) refl refl refl,
   record { queue = refl; history = refl },
 )
 
@@ -187,8 +186,8 @@ pub arm-refused : (h : Head) (t : ℕ) → inTime t ≡ false → Alone h (arm t
 arm-refused h t e = (
   λ q m.
       let p : Plain = plain h q m in
-      refined h q m (arm t) _ q m [] (declines p [] 5)
-      (ap (λ (b : Bool). pick b (answers (withSoc p (armed (p .soc) (p .od) t)) taken []) (declines p [] 5)) e) refl refl refl,
+      refined h q m (arm t) _ q m noRun (declines p noRun 5)
+      (ap (λ (b : Bool). pick b (answers (withSoc p (armed (p .soc) (p .od) t)) taken noRun) (declines p noRun 5)) e) refl refl refl,
   same-places h,
 )
 
@@ -200,9 +199,9 @@ pub arm-taken :
 arm-taken h t s e a = (
   λ q m.
       let p : Plain = plain h q m in
-      refined h q m (arm t) _ q m [] (answers (withSoc p s) taken [])
-      (ap (λ (b : Bool). pick b (answers (withSoc p (armed (p .soc) (p .od) t)) taken []) (declines p [] 5)) e
-      ∙ ap (λ (s : SocWatch). answers (withSoc p s) taken []) (sym a))
+      refined h q m (arm t) _ q m noRun (answers (withSoc p s) taken noRun)
+      (ap (λ (b : Bool). pick b (answers (withSoc p (armed (p .soc) (p .od) t)) taken noRun) (declines p noRun 5)) e
+      ∙ ap (λ (s : SocWatch). answers (withSoc p s) taken noRun) (sym a))
       refl refl refl,
   record { queue = refl; history = refl },
 )
@@ -211,7 +210,7 @@ arm-taken h t s e a = (
 pub hand-out-taken :
     (h : Head) (q : List ℕ) (r : HandedOut) →
     r ≡ Queue.handedOut q (h .queue) →
-    ((m : List ℕ) → Refines h q m handOut (left (with-queue h (r .queue)) (handOutAnswer (r .entry))) q m [])
+    ((m : List ℕ) → Refines h q m handOut (left (with-queue h (r .queue)) (handOutAnswer (r .entry))) q m noRun)
     × (r .queue ≡ Queue.handedOut q (h .queue) .queue)
     × (h .history ≡ h .history)
 hand-out-taken h q r e =
@@ -222,8 +221,8 @@ hand-out-taken h q r e =
     let first : r .entry ≡ nth (Queue.waiting q (h .queue)) 0 =
     ap (λ (r : HandedOut). r .entry) e ∙ handed-first q (h .queue) in (
       λ m.
-          refined h q m handOut _ q m [] (handOutStep (plain h q m)) refl
-          (λ i. plainOf (h .nmt) (h .dll .state) (h .errors) (h .soc) (h .od) (capacity i) (waits i) (History.history m (h .history)))
+          refined h q m handOut _ q m noRun (handOutStep (plain h q m)) refl
+          (λ i. plainOf (h .nmt) (h .dll .state) (h .errors) (h .soc) (h .od) (capacity i) (waits i) (History.history m (h .history)) (h .earliest))
           (ap handOutAnswer first) refl,
       ap (λ (r : HandedOut). r .queue) e,
       refl,
@@ -235,7 +234,7 @@ module _ (h : Head) (m s : List ℕ) (values : DictionaryUpdate) (o : Dictionary
       (m′ : List ℕ) (named : Bool) (k : ErrorHistory) →
       k ≡ loadedPlaces named s (h .history) →
       m′ ≡ loadedMemory named m s →
-      ((q : List ℕ) → Refines h q m (load values (historyUpdate named s)) (left (with-values h o k) taken) q m′ [])
+      ((q : List ℕ) → Refines h q m (load values (historyUpdate named s)) (left (with-values h o k) taken) q m′ noRun)
       × (h .queue ≡ h .queue)
       × (k ≡ loadedPlaces named s (h .history))
       × (m′ ≡ loadedMemory named m s)
@@ -243,8 +242,8 @@ module _ (h : Head) (m s : List ℕ) (values : DictionaryUpdate) (o : Dictionary
     λ q.
         let lists : History.history m′ k ≡ updatedHistory (History.history m (h .history)) (historyUpdate named s) =
         listed-by named m′ k places bytes in
-        refined h q m (load values (historyUpdate named s)) _ q m′ [] (step (plain h q m) (load values (historyUpdate named s))) refl
-        (λ i. plainOf (h .nmt) (h .dll .state) (h .errors) (h .soc) (e i) (Queue.capacityOf (h .queue)) (Queue.waiting q (h .queue)) (lists i))
+        refined h q m (load values (historyUpdate named s)) _ q m′ noRun (step (plain h q m) (load values (historyUpdate named s))) refl
+        (λ i. plainOf (h .nmt) (h .dll .state) (h .errors) (h .soc) (e i) (Queue.capacityOf (h .queue)) (Queue.waiting q (h .queue)) (lists i) (h .earliest))
         refl refl,
     refl,
     places,

@@ -1,6 +1,8 @@
 pub mod Laws
 pub mod Refining
 pub mod Watch
+pub mod Moments
+pub mod OnRuns
 pub mod Hearing
 pub mod Loading
 pub mod Signed

@@ -5,10 +5,10 @@ use Prim.Native.Nat.{ℕ}
 use mathlib.Core.List.{List, []}
 use denote.Ref.{now}
 use Rattle.entries.specs.declared.status_response.FoundEntry.{FoundEntry}
-use Rattle.head.specs.Head.{Head}
 use Rattle.node.specs.declared.calls.CallAnswer.{CallAnswer}
-use Rattle.watched.specs.Watched.{watchedOf}
+use Rattle.watched.specs.Watched.{run}
 use Rattle.node.specs.Plain.{Call, taken, cycleAnswer, handOutAnswer}
+use Rattle.node.specs.Steps.{noRun}
 use Rattle.node.specs.Refines.{Refines, left, historyUpdate}
 use Rattle.head.specs.Words.{headOf}
 use Rattle.watched.specs.Nodes.{nodesOf}
@@ -33,61 +33,60 @@ use Rattle.node.proofs.range.soc_margin.Reads as soc-margin-reads
 -- κs: the lifetimes; a: the arguments; o: what is returned; x: what is lent, as it is left
 pub nmt-event-refines :
     (κs : _) (a : _) (o : NmtEventAnswer) (x : _) → nmt-event-reads.Learnt κs a o x → (q m : List ℕ) →
-    Refines (headOf (now (a .0))) q m (Call.nmtEvent (a .1 .0)) (left (headOf (now (x .0))) (nmtSaid o)) q m []
+    Refines (headOf (now (a .0))) q m (Call.nmtEvent (a .1 .0)) (left (headOf (now (x .0))) (nmtSaid o)) q m noRun
 nmt-event-refines κs a o x e = e .refines
 
 pub dll-event-refines :
     (κs : _) (a : _) (o : DllEventAnswer) (x : _) → dll-event-reads.Learnt κs a o x → (q m : List ℕ) →
-    Refines (headOf (now (a .0))) q m (Call.dllEvent (a .1 .0) (a .1 .1 .0)) (left (headOf (now (x .0))) (dllSaid o)) q m []
+    Refines (headOf (now (a .0))) q m (Call.dllEvent (a .1 .0) (a .1 .1 .0)) (left (headOf (now (x .0))) (dllSaid o)) q m noRun
 dll-event-refines κs a o x e = e .refines
 
 pub handle-error-refines :
     (κs : _) (a : _) (o : ErrorAnswer) (x : _) → handle-error-reads.Learnt κs a o x → (q m : List ℕ) →
-    Refines (headOf (now (a .0))) q m (Call.error (a .1 .0) (a .1 .1 .0) (a .1 .1 .1 .0)) (left (headOf (now (x .0))) (errorSaid o)) q m []
+    Refines (headOf (now (a .0))) q m (Call.error (a .1 .0) (a .1 .1 .0) (a .1 .1 .1 .0)) (left (headOf (now (x .0))) (errorSaid o)) q m noRun
 handle-error-refines κs a o x e = e .refines
 
 pub on-cycle-complete-refines :
     (κs : _) (a : _) (o : _) (x : _) → on-cycle-complete-reads.Learnt κs a o x → (q m : List ℕ) →
-    Refines (headOf (now (a .0))) q m Call.cycleComplete (left (headOf (now (x .0))) (cycleAnswer o)) q m []
+    Refines (headOf (now (a .0))) q m Call.cycleComplete (left (headOf (now (x .0))) (cycleAnswer o)) q m noRun
 on-cycle-complete-refines κs a o x e = e .refines
 
 pub withdraw-refines :
     (κs : _) (a : _) (o : CallAnswer) (x : _) → withdraw-reads.Learnt κs a o x → (q m : List ℕ) →
-    Refines (headOf (now (a .0))) q m Call.withdraw (left (headOf (now (x .0))) (said o)) q m []
+    Refines (headOf (now (a .0))) q m Call.withdraw (left (headOf (now (x .0))) (said o)) q m noRun
 withdraw-refines κs a o x e = e .refines
 
--- heard is lent the watched nodes alone: whatever the head
 pub heard-refines :
-    (κs : _) (a : _) (o : CallAnswer) (x : _) → heard-reads.Learnt κs a o x → (h : Head) (q m : List ℕ) →
-    Refines h q m (Call.heard (a .1 .1 .0) (a .1 .1 .1 .0) (watchedOf (nodesOf (now (a .0))) (a .1 .0))) (left h (said o)) q m
-    (watchedOf (nodesOf (now (x .0))) (a .1 .0))
-heard-refines κs a o x e = e .refines
+    (κs : _) (a : _) (o : CallAnswer) (x : _) → heard-reads.Learnt κs a o x → (q m : List ℕ) →
+    Refines (headOf (now (a .0))) q m (Call.heard (a .1 .1 .1 .0) (a .1 .1 .1 .1 .0) (run (nodesOf (now (a .1 .0))) (a .1 .1 .0)))
+    (left (headOf (now (x .0))) (said o)) q m (run (nodesOf (now (x .1 .0))) (a .1 .1 .0))
+heard-refines κs a o x e = e .on .refines
 
 pub hand-out-refines :
     (κs : _) (a : _) (o : FoundEntry) (x : _) → hand-out-reads.Learnt κs a o x → (m : List ℕ) →
-    Refines (headOf (now (a .0))) (now (a .1 .0)) m Call.handOut (left (headOf (now (x .0))) (handOutAnswer o)) (now (a .1 .0)) m []
+    Refines (headOf (now (a .0))) (now (a .1 .0)) m Call.handOut (left (headOf (now (x .0))) (handOutAnswer o)) (now (a .1 .0)) m noRun
 hand-out-refines κs a o x e = e .0
 
 pub arm-refines :
     (κs : _) (a : _) (o : CallAnswer) (x : _) → arm-reads.Learnt κs a o x → (q m : List ℕ) →
-    Refines (headOf (now (a .0))) q m (Call.arm (a .1 .0)) (left (headOf (now (x .0))) (said o)) q m []
+    Refines (headOf (now (a .0))) q m (Call.arm (a .1 .0)) (left (headOf (now (x .0))) (said o)) q m noRun
 arm-refines κs a o x e = e .refines
 
 pub load-refines :
     (κs : _) (a : _) (o : _) (x : _) → load-reads.Learnt κs a o x → (q : List ℕ) →
     Refines (headOf (now (a .0))) q (now (a .1 .0)) (Call.load (a .1 .1 .0) (historyUpdate (a .1 .1 .1 .0) (now (a .1 .1 .1 .1 .0))))
-    (left (headOf (now (x .0))) taken) q (now (x .1 .0)) []
+    (left (headOf (now (x .0))) taken) q (now (x .1 .0)) noRun
 load-refines κs a o x e = e .refines
 
 -- the two that are lent the words to read alone leave them
 pub soc-range-refines :
     (κs : _) (a : _) (o : RangeAnswer) (x : _) → soc-range-reads.Learnt κs a o x → (q m : List ℕ) →
-    Refines (headOf (now (a .0))) q m (Call.range (a .1 .0) (a .1 .1 .0)) (left (headOf (now (a .0))) (rangeSaid o)) q m []
+    Refines (headOf (now (a .0))) q m (Call.range (a .1 .0) (a .1 .1 .0)) (left (headOf (now (a .0))) (rangeSaid o)) q m noRun
 soc-range-refines κs a o x e = e .refines
 
 pub soc-margin-refines :
     (κs : _) (a : _) (o : MarginAnswer) (x : _) → soc-margin-reads.Learnt κs a o x → (q m : List ℕ) →
-    Refines (headOf (now (a .0))) q m (Call.margin (a .1 .0)) (left (headOf (now (a .0))) (marginSaid o)) q m []
+    Refines (headOf (now (a .0))) q m (Call.margin (a .1 .0)) (left (headOf (now (a .0))) (marginSaid o)) q m noRun
 soc-margin-refines κs a o x e = e .refines
 
 pub asks-nothing :

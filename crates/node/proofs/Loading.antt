@@ -22,7 +22,7 @@ use Rattle.node.specs.declared.load.ObjectUpdate.{ObjectUpdate}
 use Rattle.node.specs.declared.load.ObjectUpdate.the-variants as object
 use Rattle.node.specs.declared.load.DictionaryUpdate.{DictionaryUpdate}
 use Rattle.node.specs.Plain.{Call, taken}
-use Rattle.node.specs.Steps.{updatedByte, updatedCounter, updatedObject, updated}
+use Rattle.node.specs.Steps.{noRun, updatedByte, updatedCounter, updatedObject, updated}
 use Rattle.node.specs.Refines.{Refines, left, historyUpdate, loadedPlaces, loadedMemory}
 use Rattle.node.proofs.Laws.{load-taken}
 use Rattle.head.specs.Places as at
@@ -46,7 +46,7 @@ object-long ws i (object.Set Missing) = length-set ws i 0
 object-long ws i object.Keep = refl
 
 -- each value
-module _ (ws : List ℕ) (long : length ws ≡ 58) where
+module _ (ws : List ℕ) (long : length ws ≡ 60) where
   register-loaded :
       (u : ByteUpdate) → ByteFits u →
       headOf (byteLoaded ws at.register u) ≡ with-od (headOf ws) (withRegister (updatedByte (headOf ws .od .«error_register») u) (headOf ws .od))
@@ -76,28 +76,28 @@ objectBy o u h = with-od h (withObject o (updatedObject (objectIn o (h .od)) u) 
 abbrev statisticBy : Statistic → CounterUpdate → Head → Head
 statisticBy s u h = with-od h (withStatistic s (updatedCounter (statisticIn s (h .od)) u) (h .od))
 
-history-loaded : (ws : List ℕ) → length ws ≡ 58 → (s : List ℕ) → headOf (historyWritten ws (loaded s)) ≡ with-values (headOf ws) (headOf ws .od) (loaded s)
+history-loaded : (ws : List ℕ) → length ws ≡ 60 → (s : List ℕ) → headOf (historyWritten ws (loaded s)) ≡ with-values (headOf ws) (headOf ws .od) (loaded s)
 unfolding loaded
 history-loaded ws long s = history-written ws long (loaded s) (omega arith) (omega arith)
 
 -- all that are named, one after the other
 pub values-loaded :
-    (ws : List ℕ) → length ws ≡ 58 → (u : DictionaryUpdate) → ByteFits (u .«error_register») →
-    (headOf (valuesLoaded ws u) ≡ with-od (headOf ws) (updated (odOf ws) u)) × (length (valuesLoaded ws u) ≡ 58)
+    (ws : List ℕ) → length ws ≡ 60 → (u : DictionaryUpdate) → ByteFits (u .«error_register») →
+    (headOf (valuesLoaded ws u) ≡ with-od (headOf ws) (updated (odOf ws) u)) × (length (valuesLoaded ws u) ≡ 60)
 unfolding headOf valuesLoaded updated
 values-loaded ws l₀ u fits =
     let w₁ = byteLoaded ws at.register (u .«error_register») in
-    let l₁ : length w₁ ≡ 58 = byte-long ws at.register (u .«error_register») ∙ l₀ in
+    let l₁ : length w₁ ≡ 60 = byte-long ws at.register (u .«error_register») ∙ l₀ in
     let w₂ = objectLoaded w₁ at.cycle (u .«cycle_time») in
-    let l₂ : length w₂ ≡ 58 = object-long w₁ at.cycle (u .«cycle_time») ∙ l₁ in
+    let l₂ : length w₂ ≡ 60 = object-long w₁ at.cycle (u .«cycle_time») ∙ l₁ in
     let w₃ = objectLoaded w₂ at.tolerance (u .tolerance) in
-    let l₃ : length w₃ ≡ 58 = object-long w₂ at.tolerance (u .tolerance) ∙ l₂ in
+    let l₃ : length w₃ ≡ 60 = object-long w₂ at.tolerance (u .tolerance) ∙ l₂ in
     let w₄ = counterLoaded w₃ at.counter1 (u .«counter_1») in
-    let l₄ : length w₄ ≡ 58 = counter-long w₃ at.counter1 (u .«counter_1») ∙ l₃ in
+    let l₄ : length w₄ ≡ 60 = counter-long w₃ at.counter1 (u .«counter_1») ∙ l₃ in
     let w₅ = counterLoaded w₄ at.counter2 (u .«counter_2») in
-    let l₅ : length w₅ ≡ 58 = counter-long w₄ at.counter2 (u .«counter_2») ∙ l₄ in
+    let l₅ : length w₅ ≡ 60 = counter-long w₄ at.counter2 (u .«counter_2») ∙ l₄ in
     let w₆ = counterLoaded w₅ at.counter3 (u .«counter_3») in
-    let l₆ : length w₆ ≡ 58 = counter-long w₅ at.counter3 (u .«counter_3») ∙ l₅ in
+    let l₆ : length w₆ ≡ 60 = counter-long w₅ at.counter3 (u .«counter_3») ∙ l₅ in
     let e₁ = register-loaded ws l₀ (u .«error_register») fits in
     let e₂ = object-loaded w₁ l₁ CycleTime (u .«cycle_time») ∙ ap (objectBy CycleTime (u .«cycle_time»)) e₁ in
     let e₃ = object-loaded w₂ l₂ Tolerance (u .tolerance) ∙ ap (objectBy Tolerance (u .tolerance)) e₂ in
@@ -110,7 +110,7 @@ values-loaded ws l₀ u fits =
 
 -- the writers in their order
 pub values-in :
-    (ws : List ℕ) → length ws ≡ 58 → (u : DictionaryUpdate) → (w₁ w₂ w₃ w₄ w₅ w₆ w₇ : List ℕ) →
+    (ws : List ℕ) → length ws ≡ 60 → (u : DictionaryUpdate) → (w₁ w₂ w₃ w₄ w₅ w₆ w₇ : List ℕ) →
     (w₁ ≡ byteLoaded ws at.register (u .«error_register»)) × ByteFits (u .«error_register») →
     w₂ ≡ objectLoaded w₁ at.cycle (u .«cycle_time») →
     w₃ ≡ objectLoaded w₂ at.tolerance (u .tolerance) →
@@ -143,7 +143,7 @@ module _ (ws m : List ℕ) (u : DictionaryUpdate) (s w₁ : List ℕ) (v : (head
   loads named ws′ m′ k h p b w =
       let x = load-taken (headOf ws) m s u (updated (odOf ws) u) refl m′ named k p b in
       record {
-        refines = λ q. subst (λ (g : Head). Refines (headOf ws) q m (Call.load u (historyUpdate named s)) (left g taken) q m′ []) (sym h) (x .0 q);
+        refines = λ q. subst (λ (g : Head). Refines (headOf ws) q m (Call.load u (historyUpdate named s)) (left g taken) q m′ noRun) (sym h) (x .0 q);
         queue = ap (λ (g : Head). g .queue) h;
         history = ap (λ (g : Head). g .history) h ∙ p;
         memory = b;
@@ -155,7 +155,7 @@ module _ (ws m : List ℕ) (u : DictionaryUpdate) (s w₁ : List ℕ) (v : (head
   kept = loads false w₁ m (headOf ws .history) (v .0) refl refl (v .1)
 
   pub named-too :
-      length w₁ ≡ 58 → (k : ErrorHistory) (m′ ws′ : List ℕ) → k ≡ loaded s → m′ ≡ loadedMemory true m s → ws′ ≡ historyWritten w₁ k →
+      length w₁ ≡ 60 → (k : ErrorHistory) (m′ ws′ : List ℕ) → k ≡ loaded s → m′ ≡ loadedMemory true m s → ws′ ≡ historyWritten w₁ k →
       LoadedIn ws m u true s ws′ m′
   unfolding loadWords
   named-too long k m′ ws′ e b w =

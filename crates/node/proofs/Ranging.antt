@@ -17,7 +17,7 @@ use Rattle.watched.specs.Watched.{inTime}
 use Rattle.node.specs.declared.range.SocVerdict.{SocVerdict}
 use Rattle.node.specs.declared.range.SocVerdict.the-variants as verdict
 use Rattle.node.specs.Plain.{Plain, Step, Call, range, margin, Answer, refused, rangeAnswer, marginAnswer}
-use Rattle.node.specs.Steps.{answers, declines, limitOf}
+use Rattle.node.specs.Steps.{noRun, answers, declines, limitOf}
 use Rattle.node.specs.Tick.{lastSoc, elapsed, isLoss}
 use Rattle.node.specs.Range.{eachReading, everyReading, verdictOf, marginOf, AllLost, NoneLost}
 use Rattle.node.specs.Run.{step}
@@ -125,19 +125,19 @@ module _ (ws : List ℕ) (t : ℕ) where
 -- a call that answers and leaves all as it is
 reading :
     (ws : List ℕ) (c : Call) (s : Answer) →
-    ((q m : List ℕ) → step (plain (headOf ws) q m) c ≡ answers (plain (headOf ws) q m) s []) →
+    ((q m : List ℕ) → step (plain (headOf ws) q m) c ≡ answers (plain (headOf ws) q m) s noRun) →
     Reading ws c s
 reading ws c s e =
     unwritten ws c s ws
-    (λ q m. refined (headOf ws) q m c (left (headOf ws) s) q m [] (answers (plain (headOf ws) q m) s []) (e q m) refl refl refl, same-places (headOf ws))
+    (λ q m. refined (headOf ws) q m c (left (headOf ws) s) q m noRun (answers (plain (headOf ws) q m) s noRun) (e q m) refl refl refl, same-places (headOf ws))
     refl
 
 -- the step of a range by its tests and its verdict, that of a margin by its test
 abbrev pub rangeBy : Plain → Bool → Bool → Bool → SocVerdict → Step
-rangeBy p x y z v = pick x (pick y (pick z (answers p (rangeAnswer v) []) (declines p [] 21)) (declines p [] 5)) (declines p [] 5)
+rangeBy p x y z v = pick x (pick y (pick z (answers p (rangeAnswer v) noRun) (declines p noRun 21)) (declines p noRun 5)) (declines p noRun 5)
 
 abbrev marginBy : Plain → Bool → ℤ → Step
-marginBy p x z = pick x (answers p (marginAnswer z) []) (declines p [] 5)
+marginBy p x z = pick x (answers p (marginAnswer z) noRun) (declines p noRun 5)
 
 module _ (ws : List ℕ) (a b : ℕ) where
   pub range-first-late : inTime a ≡ false → Reading ws (range a b) (refused 5)

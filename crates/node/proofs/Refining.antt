@@ -45,7 +45,7 @@ use Rattle.head.specs.Head.{Head, forgetting, with-errors, with-queue}
 use Rattle.head.specs.declared.state.SocWatch.{SocWatch}
 use Rattle.node.specs.Plain.{Call, nmtEvent, dllEvent, error, cycleComplete, withdraw, handOut, arm, Answer, refused, taken, nmtAnswer, dllAnswer, errorAnswer, cycleAnswer, handOutAnswer}
 use Rattle.watched.specs.Watched.{inTime}
-use Rattle.node.specs.Steps.{armed}
+use Rattle.node.specs.Steps.{noRun, armed}
 use Rattle.node.specs.Refines.{left, Refines}
 use Rattle.node.proofs.Laws.{Alone, forgetting-if, nmt-taken, nmt-refused, dll-taken, dll-refused, error-taken, error-refused, cycle-taken, withdraw-taken, withdraw-refused, arm-taken, arm-refused, hand-out-taken}
 use Rattle.node.specs.declared.calls.NmtTaken.{NmtTaken}
@@ -70,11 +70,11 @@ in-place ws c a k to known ws′ x e f w =
     record { refines = y .0; places = y .1; words = w ∙ sym f }
 
 -- the machine's part is written, and there are as many words as before
-nmt-long : (ws : List ℕ) → length ws ≡ 58 → (m : CnNmtStateMachine) → length (nmtWritten ws m) ≡ 58
+nmt-long : (ws : List ℕ) → length ws ≡ 60 → (m : CnNmtStateMachine) → length (nmtWritten ws m) ≡ 60
 nmt-long ws long m = length-set (set (set ws at.state _) at.enabled _) at.ready _ ∙ length-set (set ws at.state _) at.enabled _ ∙ length-set ws at.state _ ∙ long
 
 -- a reset forgets, in words
-reset-written : (b : Bool) (ws : List ℕ) → length ws ≡ 58 → headOf (resetWords b ws) ≡ forgetting-if b (headOf ws)
+reset-written : (b : Bool) (ws : List ℕ) → length ws ≡ 60 → headOf (resetWords b ws) ≡ forgetting-if b (headOf ws)
 reset-written true ws long = forgotten-written ws long
 reset-written false ws long = refl
 
@@ -178,7 +178,7 @@ module _ (ws : List ℕ) where
   handled-by e x r ws′ h a b =
       (a ∙ ap (λ (x : Counters.Effect). replied (Counters.handledAs x (errorsOf ws) e)) (sym h), b ∙ ap (effectWords ws) (sym h))
 
-  module _ (long : length ws ≡ 58) where
+  module _ (long : length ws ≡ 60) where
     pub effect-written :
         (x : Counters.Effect) (e : DllError) →
         headOf (effectWords ws x) ≡ with-errors (headOf ws) (Counters.handledAs x (errorsOf ws) e .counters)
@@ -217,7 +217,7 @@ module _ (ws : List ℕ) where
   pub arm-no : (t : ℕ) → inTime t ≡ false → InPlace ws (arm t) (refused 5) ws (armWords ws t)
   arm-no t e = unwritten ws (arm t) _ _ (arm-refused (headOf ws) t e) (ap (λ (b : Bool). pick b (socWritten ws (armed (socOf ws) (odOf ws) t)) ws) e)
 
-  module _ (long : length ws ≡ 58) (ws′ : List ℕ) where
+  module _ (long : length ws ≡ 60) (ws′ : List ℕ) where
     pub withdraw-yes :
         sameState (stateOf (word ws at.state)) NmtReadyToOperate ≡ false →
         ws′ ≡ set ws at.ready (one false) →
@@ -290,7 +290,7 @@ module _ (ws : List ℕ) where
         (q : List ℕ) (r : HandedOut) →
         r ≡ handedOut q (queueOf ws) →
         ws′ ≡ queueWritten ws (r .queue) →
-        ((m : List ℕ) → Refines (headOf ws) q m handOut (left (headOf ws′) (handOutAnswer (r .entry))) q m [])
+        ((m : List ℕ) → Refines (headOf ws) q m handOut (left (headOf ws′) (handOutAnswer (r .entry))) q m noRun)
         × (ws′ ≡ handOutWords ws q)
     unfolding headOf handedOut
     hand-out-yes q r o w =
@@ -304,6 +304,6 @@ module _ (ws : List ℕ) where
         ∙ queue-written ws long (handedOut q p .queue) oldest length (handed-capacity q p)
         ∙ ap (λ (r : HandedOut). with-queue (headOf ws) (r .queue)) (sym o) in
         let x = hand-out-taken (headOf ws) q r o in (
-          λ m. subst (λ (g : Head). Refines (headOf ws) q m handOut (left g (handOutAnswer (r .entry))) q m []) (sym to) (x .0 m),
+          λ m. subst (λ (g : Head). Refines (headOf ws) q m handOut (left g (handOutAnswer (r .entry))) q m noRun) (sym to) (x .0 m),
           w ∙ ap (λ (r : HandedOut). queueWritten ws (r .queue)) o,
         )

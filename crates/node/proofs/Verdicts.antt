@@ -14,7 +14,7 @@ use Rattle.watched.specs.Watched.{latest}
 use Rattle.node.specs.declared.range.SocVerdict.{SocVerdict}
 use Rattle.node.specs.declared.range.SocVerdict.the-variants as verdict
 use Rattle.node.specs.Plain.{Plain, range, margin, rangeAnswer, marginAnswer}
-use Rattle.node.specs.Steps.{answers, declines, limitOf}
+use Rattle.node.specs.Steps.{noRun, answers, declines, limitOf}
 use Rattle.node.specs.Tick.{elapsed, isLoss}
 use Rattle.node.specs.Range.{verdictOf, marginOf, AllLost, NoneLost, isBelow0}
 use Rattle.node.specs.Run.{step}
@@ -96,7 +96,7 @@ module _ (p : Plain) (a b : ℕ) (h : a ≤ b) (l : b ≤ latest) where
 
 -- "the margin is shown as a signed number, limit minus elapsed, and the SoC is lost exactly when it is below 0"
 pub margin-shown : (p : Plain) (t : ℕ) → t ≤ latest → step p (margin t) .answer ≡ marginAnswer (pos (limitOf (p .od)) -ℤ pos (elapsed p t))
-margin-shown p t l = ap (λ (x : Bool). pick x (answers p (marginAnswer (marginOf p t)) []) (declines p [] 5) .answer) (le-leb t latest l)
+margin-shown p t l = ap (λ (x : Bool). pick x (answers p (marginAnswer (marginOf p t)) noRun) (declines p noRun 5) .answer) (le-leb t latest l)
 
 below : (n m : ℕ) → isBelow0 (pos n -ℤ pos m) ≡ ltb n m
 below n zero = sym (le-ltb n zero (omega arith))

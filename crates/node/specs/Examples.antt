@@ -25,10 +25,9 @@ use Rattle.entries.specs.declared.status_response.ErrorEntryMode.the-variants.{
 use Rattle.head.specs.declared.state.Deadline.the-variants.{At, Nothing}
 use Rattle.head.specs.declared.state.ObjectValue.the-variants.{Unsigned32}
 use Rattle.head.specs.declared.state.Dictionary.{Dictionary}
-use Rattle.watched.specs.declared.nodes.WatchedNode.{WatchedNode}
-use Rattle.watched.specs.Watched.{watchedNode}
+use Rattle.watched.specs.Watched.{watchedNode, Run, holding}
 use Rattle.node.specs.Plain.{Plain, Call, nmtEvent, dllEvent, error, cycleComplete, withdraw, heard, tick, Start, Answer, taken, nmtAnswer, dllAnswer, errorAnswer, cycleAnswer, tickAnswer, made, noEvent, Step}
-use Rattle.node.specs.Steps.{plainOf, fresh}
+use Rattle.node.specs.Steps.{plainOf, withEarliest, noRun, fresh}
 use Rattle.head.specs.Head.{socWatch}
 use Rattle.node.specs.Run.{step}
 
@@ -105,45 +104,62 @@ countersOf socs crossings soc beats beat =
 -- without a cycle yet: DLL NonCyclic, levels and counts 0, check off
 abbrev pub resting : NmtState → Bool → Bool → Plain
 resting s enabled ready =
-    plainOf (machine s enabled ready) NonCyclic (countersOf 0 0 0 0 0) (socWatch 0 false Nothing false) (values 0 0 0 0 0) 1 [] []
+    plainOf (machine s enabled ready) NonCyclic (countersOf 0 0 0 0 0) (socWatch 0 false Nothing false) (values 0 0 0 0 0) 1 [] [] Nothing
 
 -- Operational, DLL NonCyclic, with these counters
 abbrev pub counting : CnErrorCounters → Plain
 counting e =
-    plainOf (machine NmtOperational false true) NonCyclic e (socWatch 0 false Nothing false) (values 0 0 0 0 0) 1 [] []
+    plainOf (machine NmtOperational false true) NonCyclic e (socWatch 0 false Nothing false) (values 0 0 0 0 0) 1 [] [] Nothing
 
 -- Operational, WaitSoc, check on, last SoC 10,000, a deadline; the level of LossOfSoc, and its occurrences, which are counter 1
 abbrev pub cycling : ℕ → ℕ → ℕ → Plain
 cycling deadline level lost =
     plainOf (machine NmtOperational false true) WaitSoc (countersOf lost 0 level 0 0) (socWatch 10000 true (At deadline) false)
-    (values 0 lost 0 0 0) 1 [] []
+    (values 0 lost 0 0 0) 1 [] [] Nothing
 
 -- what is to come: the state's number, the head, the answer
 abbrev comes : ℕ → Plain → Answer → Coming
 comes n p a =
-    record { all = record { head = p; answer = a; lent = []; event = noEvent; marks = []; checked = []; crossings = [] }; state = n; raised = [] }
+    record { all = record { head = p; answer = a; lent = noRun; event = noEvent; marks = []; checked = []; crossings = [] }; state = n; raised = [] }
 
 -- of an NMT event
 abbrev comesBy : NmtEvent → ℕ → Plain → Answer → Coming
 comesBy e n p a =
-    record { all = record { head = p; answer = a; lent = []; event = made e; marks = []; checked = []; crossings = [] }; state = n; raised = [] }
+    record { all = record { head = p; answer = a; lent = noRun; event = made e; marks = []; checked = []; crossings = [] }; state = n; raised = [] }
 
 -- and the marks, those of the SoC check among them, with the level to which a lost SoC raised its counter
 abbrev counts : ℕ → Plain → Answer → List Mark → List Mark → List ℕ → Coming
 counts n p a ms checked ls =
-    record { all = record { head = p; answer = a; lent = []; event = noEvent; marks = ms; checked = checked; crossings = [] }; state = n; raised = ls }
+    record { all = record { head = p; answer = a; lent = noRun; event = noEvent; marks = ms; checked = checked; crossings = [] }; state = n; raised = ls }
 
--- of a call that is lent the watched nodes, also these
-abbrev leaves : ℕ → Plain → Answer → List WatchedNode → List Mark → Coming
-leaves n p a ws ms =
-    record { all = record { head = p; answer = a; lent = ws; event = noEvent; marks = ms; checked = []; crossings = [] }; state = n; raised = [] }
+-- of a call that is lent a run, also that
+abbrev leaving : Run → Coming → Coming
+leaving r c =
+    record {
+      all =
+          record {
+            head = c .all .head;
+            answer = c .all .answer;
+            lent = r;
+            event = c .all .event;
+            marks = c .all .marks;
+            checked = c .all .checked;
+            crossings = c .all .crossings;
+          };
+      state = c .state;
+      raised = c .raised;
+    }
+
+-- the run of a head that watches no node
+abbrev pub noNodes : Run
+noNodes = holding []
 
 abbrev pub nothingPassed : Passed
 nothingPassed = record { states = []; ranges = [] }
 
 -- "Fresh, SwReset: five states entered, NotActive." And not ready any more (document 02, No. 7).
 abbrev pub startsWith : Start
-startsWith = record { node = 1; flags = 0; timeout = 5; capacity = 1; od = values 0 0 0 0 0; thresholds = sameForAll 15; watched = [] }
+startsWith = record { node = 1; flags = 0; timeout = 5; capacity = 1; od = values 0 0 0 0 0; thresholds = sameForAll 15; watched = noNodes }
 
 abbrev pub wholeReset : Passed
 wholeReset =
@@ -250,8 +266,8 @@ abbrev pub early : Example
 early =
     record {
       before = cycling 10500 0 0;
-      calls = tick 10500 [] ∷ [];
-      after = comes 0xFD (cycling 11100 0 0) (tickAnswer []) ∷ [];
+      calls = tick 10500 noNodes ∷ [];
+      after = leaving noNodes (comes 0xFD (cycling 11100 0 0) (tickAnswer [])) ∷ [];
     }
 
 -- "Tick 11,100, deadline 11,100: no loss, deadline 12,100."
@@ -259,16 +275,16 @@ abbrev pub atLimit : Example
 atLimit =
     record {
       before = cycling 11100 0 0;
-      calls = tick 11100 [] ∷ [];
-      after = comes 0xFD (cycling 12100 0 0) (tickAnswer []) ∷ [];
+      calls = tick 11100 noNodes ∷ [];
+      after = leaving noNodes (comes 0xFD (cycling 12100 0 0) (tickAnswer [])) ∷ [];
     }
 
 -- "11,101 instead: loss, level 8, deadline 12,100."
 abbrev loss : Coming
-loss = counts 0xFD (cycling 12100 8 1) (tickAnswer []) (given LossOfSoc ∷ []) (given LossOfSoc ∷ []) (8 ∷ [])
+loss = leaving noNodes (counts 0xFD (cycling 12100 8 1) (tickAnswer []) (given LossOfSoc ∷ []) (given LossOfSoc ∷ []) (8 ∷ []))
 
 abbrev pub aboveLimit : Example
-aboveLimit = record { before = cycling 11100 0 0; calls = tick 11101 [] ∷ []; after = loss ∷ [] }
+aboveLimit = record { before = cycling 11100 0 0; calls = tick 11101 noNodes ∷ []; after = loss ∷ [] }
 
 -- "Then 12,100: crossing; entry 0x8245, 0 s 12,100,000 ns; PreOperational1, check off, no deadline."
 abbrev pub entry : ErrorEntry
@@ -287,9 +303,9 @@ crossingTick =
           record {
             head =
                 plainOf (machine NmtPreOperational1 false true) WaitSoc (countersOf 2 1 0 0 0) (socWatch 10000 false Nothing true)
-                (values 1 2 1 0 1) 1 (entry ∷ []) (entry ∷ []);
+                (values 1 2 1 0 1) 1 (entry ∷ []) (entry ∷ []) Nothing;
             answer = tickAnswer (error.LossOfSoc ∷ []);
-            lent = [];
+            lent = noNodes;
             event = made Error;
             marks = given LossOfSoc ∷ crossed LossOfSoc ∷ [];
             checked = given LossOfSoc ∷ crossed LossOfSoc ∷ [];
@@ -301,21 +317,24 @@ crossingTick =
 
 abbrev pub thenCrossing : Example
 thenCrossing =
-    record { before = cycling 11100 0 0; calls = tick 11101 [] ∷ tick 12100 [] ∷ []; after = loss ∷ crossingTick ∷ [] }
+    record { before = cycling 11100 0 0; calls = tick 11101 noNodes ∷ tick 12100 noNodes ∷ []; after = loss ∷ crossingTick ∷ [] }
 
--- "Timeout 50, heard 100: 150 in time, 151 late."
-abbrev pub watching : ℕ → List WatchedNode
-watching t = watchedNode 5 50 t ∷ []
+-- "Timeout 50, heard 100: 150 in time, 151 late." The earliest moment is the one at which it is late (document 02, No. 1).
+abbrev pub watchingOne : ℕ → Run
+watchingOne t = holding (watchedNode 5 50 t ∷ [])
+
+abbrev pub awaiting : ℕ → CnErrorCounters → Plain
+awaiting t e = withEarliest (counting e) (At t)
 
 abbrev pub late : Example
 late =
     record {
       before = counting (countersOf 0 0 0 0 0);
-      calls = heard 5 100 (watching 0) ∷ tick 150 (watching 100) ∷ tick 151 (watching 100) ∷ [];
+      calls = heard 5 100 (watchingOne 0) ∷ tick 150 (watchingOne 100) ∷ tick 151 (watchingOne 100) ∷ [];
       after =
-          leaves 0xFD (counting (countersOf 0 0 0 0 0)) taken (watching 100) [] ∷
-          leaves 0xFD (counting (countersOf 0 0 0 0 0)) (tickAnswer []) (watching 100) [] ∷
-          leaves 0xFD (counting (countersOf 0 0 0 1 8)) (tickAnswer []) (watching 151) (given HeartbeatTimeout ∷ []) ∷
+          leaving (watchingOne 100) (comes 0xFD (awaiting 151 (countersOf 0 0 0 0 0)) taken) ∷
+          leaving (watchingOne 100) (comes 0xFD (awaiting 151 (countersOf 0 0 0 0 0)) (tickAnswer [])) ∷
+          leaving (watchingOne 151) (counts 0xFD (awaiting 202 (countersOf 0 0 0 1 8)) (tickAnswer []) (given HeartbeatTimeout ∷ []) [] []) ∷
           [];
     }
 

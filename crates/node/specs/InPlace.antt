@@ -3,7 +3,8 @@
 use Prim.Native.Nat.{ℕ}
 use mathlib.Core.Path.{_≡_}
 use mathlib.Core.Bool.{Bool}
-use mathlib.Core.List.{List, []}
+use mathlib.Core.List.{List}
+use lib.Dec.{eqb}
 use lib.ListN.{set}
 use Rattle.types.specs.Pick.{pick}
 use Rattle.types.specs.States.{sameState}
@@ -24,8 +25,9 @@ use Rattle.counters.specs.Counters as Counters
 use Rattle.counters.specs.declared.counters.HandledError.{HandledError}
 use Rattle.entries.specs.Queue.{handedOut}
 use Rattle.node.specs.Plain.{Call, Answer, refused, taken, nmtAnswer, dllAnswer, errorAnswer, rangeAnswer, marginAnswer}
-use Rattle.watched.specs.Watched.{inTime}
-use Rattle.node.specs.Steps.{armed}
+use Rattle.watched.specs.Watched.{inTime, Run, watching}
+use Rattle.watched.specs.Nodes.{never}
+use Rattle.node.specs.Steps.{noRun, earliest, armed}
 use Rattle.node.specs.Refines.{Refines, SamePlaces, left}
 use Rattle.node.specs.declared.calls.CallAnswer.{CallAnswer}
 use Rattle.node.specs.declared.calls.CallAnswer.the-variants as answer
@@ -43,12 +45,14 @@ use Rattle.node.specs.declared.range.MarginAnswer.{MarginAnswer}
 use Rattle.node.specs.declared.range.MarginAnswer.the-variants as margin-answer
 use Rattle.head.specs.Places as at
 use Rattle.head.specs.Words.{word, stateOf, nmtOf, dllState, counterAt, errorsOf, socOf, odOf, queueOf, headOf}
-use Rattle.head.specs.Written.{nmtWritten, forgottenWritten, counterWritten, levelsWritten, socWritten, queueWritten}
+use Rattle.head.specs.declared.state.Deadline.{Deadline}
+use Rattle.head.specs.declared.state.Deadline.the-variants.{At, Nothing}
+use Rattle.head.specs.Written.{earliestWritten, nmtWritten, forgottenWritten, counterWritten, levelsWritten, socWritten, queueWritten}
 
 -- Of a call c on the words ws, which answered a and left the words ws′: the head that they stand for is that of the plain head's step, queue and
 -- history stand where they stood, and the words are all known.
 pub record InPlace (ws : List ℕ) (c : Call) (a : Answer) (ws′ known : List ℕ) : Type 0 where
-  pub refines : (q m : List ℕ) → Refines (headOf ws) q m c (left (headOf ws′) a) q m []
+  pub refines : (q m : List ℕ) → Refines (headOf ws) q m c (left (headOf ws′) a) q m noRun
   pub places : SamePlaces (headOf ws) (headOf ws′)
   pub words : ws′ ≡ known
 
@@ -89,6 +93,17 @@ replied r = record { action = r .action; signal = r .signal; logged = r .logged 
 abbrev pub unlessRefused : CallAnswer → List ℕ → List ℕ → List ℕ
 unlessRefused answer.Taken ws ws′ = ws′
 unlessRefused (answer.Refused r) ws ws′ = ws
+
+-- Of a call c that is lent a run, on the words ws, which answered a and left the words ws′ and the run r: head and run are the plain head's, queue and history
+-- stand where they stood, and of the head's words those of the earliest moment are written; by a declined call none.
+pub record OnRun (ws : List ℕ) (c : Call) (a : CallAnswer) (ws′ : List ℕ) (r : Run) : Type 0 where
+  pub refines : (q m : List ℕ) → Refines (headOf ws) q m c (left (headOf ws′) (said a)) q m r
+  pub places : SamePlaces (headOf ws) (headOf ws′)
+  pub words : ws′ ≡ unlessRefused a ws (earliestWritten ws (earliest (watching r)))
+
+-- the moment that a walk's number stands for
+abbrev pub momentOf : ℕ → Deadline
+momentOf n = pick (eqb n never) Nothing (At n)
 
 -- the words after each call
 abbrev pub withdrawWords : List ℕ → List ℕ

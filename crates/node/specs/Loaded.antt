@@ -3,7 +3,7 @@
 use Prim.Native.Nat.{ℕ, _≤_}
 use mathlib.Core.Path.{_≡_}
 use mathlib.Core.Bool.{Bool}
-use mathlib.Core.List.{List, []}
+use mathlib.Core.List.{List}
 use lib.ListN.{set}
 use Rattle.types.specs.Pick.{pick}
 use Rattle.node.specs.declared.load.ByteUpdate.{ByteUpdate}
@@ -15,6 +15,7 @@ use Rattle.node.specs.declared.load.ObjectUpdate.the-variants as object
 use Rattle.node.specs.declared.load.DictionaryUpdate.{DictionaryUpdate}
 use Rattle.entries.specs.History.{loaded}
 use Rattle.node.specs.Plain.{Call, taken}
+use Rattle.node.specs.Steps.{noRun}
 use Rattle.node.specs.Refines.{Refines, left, historyUpdate, loadedPlaces, loadedMemory}
 use Rattle.head.specs.Places as at
 use Rattle.head.specs.Words.{headOf}
@@ -48,7 +49,7 @@ unfoldable pub loadWords : List ℕ → DictionaryUpdate → Bool → List ℕ �
 loadWords ws u named s = pick named (historyWritten (valuesLoaded ws u) (loaded s)) (valuesLoaded ws u)
 
 pub record LoadedIn (ws m : List ℕ) (u : DictionaryUpdate) (named : Bool) (s ws′ m′ : List ℕ) : Type 0 where
-  pub refines : (q : List ℕ) → Refines (headOf ws) q m (Call.load u (historyUpdate named s)) (left (headOf ws′) taken) q m′ []
+  pub refines : (q : List ℕ) → Refines (headOf ws) q m (Call.load u (historyUpdate named s)) (left (headOf ws′) taken) q m′ noRun
   pub queue : headOf ws′ .queue ≡ headOf ws .queue
   pub history : headOf ws′ .history ≡ loadedPlaces named s (headOf ws .history)
   pub memory : m′ ≡ loadedMemory named m s

@@ -15,14 +15,16 @@ use Rattle.counters.specs.declared.counters.CnErrorCounters.{CnErrorCounters}
 use Rattle.counters.specs.declared.counters.Thresholds.{Thresholds}
 use Rattle.entries.specs.declared.status_response.ErrorEntry.{ErrorEntry}
 use Rattle.entries.specs.declared.status_response.FoundEntry.{FoundEntry}
+use Rattle.head.specs.declared.state.Deadline.{Deadline}
 use Rattle.head.specs.declared.state.SocWatch.{SocWatch}
 use Rattle.head.specs.declared.state.Dictionary.{Dictionary}
 use Rattle.node.specs.declared.load.DictionaryUpdate.{DictionaryUpdate}
 use Rattle.node.specs.declared.range.SocVerdict.{SocVerdict}
-use Rattle.watched.specs.declared.nodes.WatchedNode.{WatchedNode}
+use Rattle.watched.specs.Watched.{Run}
 
 -- "Kept of CnContext": the two machines, the error counters, the last SoC time, the check, the deadline and
--- error_status_changed; "Dictionary values kept"; the emergency queue with its capacity; the history
+-- error_status_changed; "Dictionary values kept"; the emergency queue with its capacity; the history; "the earliest moment at which
+-- a watched node would be late" (document 02, No. 1)
 pub record Plain : Type 0 where
   pub nmt : CnNmtStateMachine
   pub dll : DllCsState
@@ -32,13 +34,14 @@ pub record Plain : Type 0 where
   pub capacity : ℕ
   pub queue : List ErrorEntry
   pub history : List ErrorEntry
+  pub earliest : Deadline
 
 -- a load's history: entries, newest first, or that it is left
 pub data HistoryUpdate : Type 0 where
   set : List ErrorEntry → HistoryUpdate
   keep : HistoryUpdate
 
--- the calls with their arguments: numbers, times, and the watched nodes that are lent
+-- the calls with their arguments: numbers, times, and the run of watched nodes that is lent
 pub data Call : Type 0 where
   -- an NMT event's number
   nmtEvent : ℕ → Call
@@ -49,17 +52,21 @@ pub data Call : Type 0 where
   cycleComplete : Call
   withdraw : Call
   -- a node, a time
-  heard : ℕ → ℕ → List WatchedNode → Call
+  heard : ℕ → ℕ → Run → Call
   handOut : Call
   load : DictionaryUpdate → HistoryUpdate → Call
   -- an SoC time
   arm : ℕ → Call
   -- now
-  tick : ℕ → List WatchedNode → Call
+  tick : ℕ → Run → Call
   -- the earliest and the latest reading of a clock (document 02, No. 13)
   range : ℕ → ℕ → Call
   -- one reading
   margin : ℕ → Call
+  -- a node and its timeout (document 02, No. 1)
+  add : ℕ → ℕ → Run → Call
+  -- a node
+  remove : ℕ → Run → Call
 
 -- what start is given
 pub record Start : Type 0 where
@@ -69,7 +76,7 @@ pub record Start : Type 0 where
   pub capacity : ℕ
   pub od : Dictionary
   pub thresholds : Thresholds
-  pub watched : List WatchedNode
+  pub watched : Run
 
 -- "A declined call returns its number only"; the others, what they answer
 pub data Answer : Type 0 where
@@ -96,23 +103,23 @@ pub data EventMade : Type 0 where
   made : NmtEvent → EventMade
   noEvent : EventMade
 
--- what comes of a call: the head after it, the answer, the watched nodes that were lent, and what is counted of it: the
+-- what comes of a call: the head after it, the answer, the run that was lent, and what is counted of it: the
 -- NMT event, the marks of the counters, those of them that the errors of a tick's SoC check left, and the entries of the
 -- crossings there
 pub record Step : Type 0 where
   pub head : Plain
   pub answer : Answer
-  pub lent : List WatchedNode
+  pub lent : Run
   pub event : EventMade
   pub marks : List Mark
   pub checked : List Mark
   pub crossings : List ErrorEntry
 
--- what comes of start: a head, or a number where it is declined; and the watched nodes that were lent
+-- what comes of start: a head, or a number where it is declined; and the run that was lent
 pub data Begun : Type 0 where
   begins : Plain → Begun
   declined : ℕ → Begun
 
 pub record FirstStep : Type 0 where
   pub begun : Begun
-  pub lent : List WatchedNode
+  pub lent : Run

@@ -11,7 +11,7 @@ use Rattle.watched.specs.Watched.{inTime}
 use Rattle.node.specs.declared.range.SocVerdict.{SocVerdict}
 use Rattle.node.specs.declared.range.SocVerdict.the-variants as verdict
 use Rattle.node.specs.Plain.{Plain, Step, rangeAnswer, marginAnswer}
-use Rattle.node.specs.Steps.{Test, must, tried, answers, declines, limitOf}
+use Rattle.node.specs.Steps.{Test, must, tried, answers, declines, noRun, limitOf}
 use Rattle.node.specs.Tick.{elapsed, isLoss}
 
 -- "Turned away: 5, for each of these readings too; 21, the earliest reading is after the latest, tried after 5."
@@ -44,10 +44,10 @@ marginOf p t = pos (limitOf (p .od)) -ℤ pos (elapsed p t)
 -- "and the head is not changed"
 abbrev pub rangeStep : Plain → ℕ → ℕ → Step
 rangeStep p earliest latest =
-    tried (rangeTests earliest latest) (declines p []) (answers p (rangeAnswer (verdictOf p earliest latest)) [])
+    tried (rangeTests earliest latest) (declines p noRun) (answers p (rangeAnswer (verdictOf p earliest latest)) noRun)
 
 abbrev pub marginStep : Plain → ℕ → Step
-marginStep p t = tried (marginTests t) (declines p []) (answers p (marginAnswer (marginOf p t)) [])
+marginStep p t = tried (marginTests t) (declines p noRun) (answers p (marginAnswer (marginOf p t)) noRun)
 
 -- The same, said of the readings themselves: each of them is a loss, none is.
 abbrev pub AllLost : Plain → ℕ → ℕ → Type 0

@@ -11,7 +11,7 @@ use Rattle.entries.specs.declared.status_response.ErrorEntry.{ErrorEntry}
 use Rattle.entries.specs.declared.emergency_queue.EmergencyQueue.{EmergencyQueue}
 use Rattle.entries.specs.declared.error_history.ErrorHistory.{ErrorHistory}
 use Rattle.head.specs.Head.{Head}
-use Rattle.watched.specs.declared.nodes.WatchedNode.{WatchedNode}
+use Rattle.watched.specs.Watched.{Run}
 use Rattle.node.specs.Plain.{Plain, HistoryUpdate, set, keep, Call, Answer}
 use Rattle.node.specs.Run.{step}
 
@@ -27,6 +27,7 @@ plain h q m =
       capacity = capacityOf (h .queue);
       queue = waiting q (h .queue);
       history = history m (h .history);
+      earliest = h .earliest;
     }
 
 -- the queue and the history stand where they stood: of what Refines sees through the memory, nothing moved
@@ -84,9 +85,9 @@ loadedPlaces named s h = pick named (loaded s) h
 abbrev pub loadedMemory : Bool → List ℕ → List ℕ → List ℕ
 loadedMemory named m s = pick named (loadedBytes m s) m
 
--- Of a call c on a head h with its memory q and m, which left o, the memory q′ and m′ and the watched nodes l: head and
--- memory stand for the plain head after c, the answer is the plain head's, and so are the watched nodes.
-pub record Refines (h : Head) (q m : List ℕ) (c : Call) (o : Left) (q′ m′ : List ℕ) (l : List WatchedNode) : Type 0 where
+-- Of a call c on a head h with its memory q and m, which left o, the memory q′ and m′ and the run l: head and
+-- memory stand for the plain head after c, the answer is the plain head's, and so is the run, all its places and the number.
+pub record Refines (h : Head) (q m : List ℕ) (c : Call) (o : Left) (q′ m′ : List ℕ) (l : Run) : Type 0 where
   pub head : plain (o .head) q′ m′ ≡ step (plain h q m) c .head
   pub answer : o .answer ≡ step (plain h q m) c .answer
   pub lent : l ≡ step (plain h q m) c .lent

@@ -30,9 +30,9 @@ use Rattle.head.specs.declared.state.Deadline.the-variants.{At, Nothing}
 use Rattle.head.specs.declared.state.SocWatch.{SocWatch}
 use Rattle.head.specs.declared.state.Dictionary.{Dictionary}
 use Rattle.watched.specs.declared.nodes.WatchedNode.{WatchedNode}
-use Rattle.watched.specs.Watched.{latest, inTime, allOf, wellFormed, heardNow}
+use Rattle.watched.specs.Watched.{latest, inTime, allOf, heardNow, Run, watching, wellLent, changing}
 use Rattle.node.specs.Plain.{Plain, tickAnswer, EventMade, made, noEvent, Step}
-use Rattle.node.specs.Steps.{Test, must, tried, plainOf, withNmt, withDll, withErrors, withSoc, declines, cycleOf, toleranceOf, limitOf}
+use Rattle.node.specs.Steps.{Test, must, tried, plainOf, withNmt, withDll, withErrors, withSoc, declines, upToDate, cycleOf, toleranceOf, limitOf}
 use Rattle.head.specs.Head.{socWatch}
 
 -- What a tick has come to: the head, what was logged, what is counted of it, and whether it has ended.
@@ -70,11 +70,11 @@ abbrev pub notBefore : ℕ → WatchedNode → Bool
 notBefore t w = pick (both (ltb 0 (w .timeout)) (ltb 0 (w .«last_heard»))) (leb (w .«last_heard») t) true
 
 -- numbers 3, 5 and 6
-abbrev pub tickTests : Plain → ℕ → List WatchedNode → List (Test ℕ)
-tickTests p t ws =
-    must (wellFormed ws) 3 ∷
+abbrev pub tickTests : Plain → ℕ → Run → List (Test ℕ)
+tickTests p t r =
+    must (wellLent r) 3 ∷
     must (inTime t) 5 ∷
-    must (pick (checksHeartbeats (p .nmt .«current_state»)) (allOf (notBefore t) ws) true) 6 ∷
+    must (pick (checksHeartbeats (p .nmt .«current_state»)) (allOf (notBefore t) (watching r)) true) 6 ∷
     []
 
 -- "timeout 0 never fires; otherwise elapsed strictly above the timeout is late"
@@ -125,7 +125,7 @@ changed s =
 -- a signal, of a heartbeat or at the SoC check
 abbrev pub signalled : Plain → Plain
 signalled p =
-    plainOf (p .nmt) (p .dll) (p .errors) (changed (p .soc)) (registered (p .od)) (p .capacity) (p .queue) (p .history)
+    plainOf (p .nmt) (p .dll) (p .errors) (changed (p .soc)) (registered (p .od)) (p .capacity) (p .queue) (p .history) (p .earliest)
 
 -- an NMT event in a tick: "event Error, check off", "the event Timeout follows and the check goes off"
 abbrev pub checkOff : SocWatch → SocWatch
@@ -168,12 +168,12 @@ unfoldable pub beatAll : Plain → List WatchedNode → Ticked
 beatAll p [] = goesOn p
 beatAll p (w ∷ ws) = pick (beat p w .ended) (beat p w) (behind (beat p w) (beatAll (beat p w .head) ws))
 
--- the heartbeats of a tick: what comes of the late nodes, and the nodes as the look leaves them
+-- the heartbeats of a tick: what comes of the late nodes, and the run as the look leaves it
 abbrev pub heartbeats : Plain → ℕ → List WatchedNode → Ticked
 heartbeats p t ws = pick (checksHeartbeats (p .nmt .«current_state»)) (beatAll p (lateOnes t ws)) (goesOn p)
 
-abbrev pub lookedAt : Plain → ℕ → List WatchedNode → List WatchedNode
-lookedAt p t ws = pick (checksHeartbeats (p .nmt .«current_state»)) (map (looked t) ws) ws
+abbrev pub lookedAt : Plain → ℕ → Run → Run
+lookedAt p t r = pick (checksHeartbeats (p .nmt .«current_state»)) (changing (map (looked t)) r) r
 
 abbrev pub withDeadline : Plain → Deadline → Plain
 withDeadline p d =
@@ -208,7 +208,7 @@ timedOut p =
 
 -- the head with its dictionary values replaced, and those with counters 1, 2 and 3 replaced
 abbrev pub withOd : Plain → Dictionary → Plain
-withOd p o = plainOf (p .nmt) (p .dll) (p .errors) (p .soc) o (p .capacity) (p .queue) (p .history)
+withOd p o = plainOf (p .nmt) (p .dll) (p .errors) (p .soc) o (p .capacity) (p .queue) (p .history) (p .earliest)
 
 abbrev pub statistics : Dictionary → ℕ → ℕ → ℕ → Dictionary
 statistics o a b c =
@@ -231,7 +231,7 @@ abbrev pub kept : Plain → ErrorEntry → Plain
 kept p e =
     plainOf (p .nmt) (p .dll) (p .errors) (p .soc)
     (statistics (p .od) (p .od .«counter_1») (oneMore (p .od .«counter_2»)) (p .od .«counter_3»)) (p .capacity)
-    (p .queue ++ (e ∷ [])) (take 254 (e ∷ p .history))
+    (p .queue ++ (e ∷ [])) (take 254 (e ∷ p .history)) (p .earliest)
 
 abbrev pub droppedOne : Plain → Plain
 droppedOne p = withOd p (statistics (p .od) (p .od .«counter_1») (p .od .«counter_2») (oneMore (p .od .«counter_3»)))
@@ -310,18 +310,19 @@ tickTaken p t ws =
     let b = heartbeats p t ws in
     pick (b .ended) b (behind b (byDeadline (b .head) t (b .head .soc .«next_tick_us»)))
 
-abbrev pub tickAnswered : Ticked → List WatchedNode → Step
-tickAnswered k ws =
+-- the earliest moment is worked out of the run that is left, however the tick ended
+abbrev pub tickAnswered : Ticked → Run → Step
+tickAnswered k r =
     record {
-      head = k .head;
+      head = upToDate (k .head) r;
       answer = tickAnswer (k .logged);
-      lent = ws;
+      lent = r;
       event = k .event;
       marks = k .marks;
       checked = k .checked;
       crossings = k .crossings;
     }
 
-abbrev pub tickStep : Plain → ℕ → List WatchedNode → Step
-tickStep p t ws =
-    tried (tickTests p t ws) (declines p ws) (tickAnswered (tickTaken p t ws) (lookedAt p t ws))
+abbrev pub tickStep : Plain → ℕ → Run → Step
+tickStep p t r =
+    tried (tickTests p t r) (declines p r) (tickAnswered (tickTaken p t (watching r)) (lookedAt p t r))

@@ -1,12 +1,13 @@
 // The calls on a head in words, but for start, heard, load, the tick and what is asked of a clock known within a range. Nothing is written before the last test is passed.
 ghost use mathlib.Core.Path.{_≡_};
 ghost use mathlib.Core.Bool.{true, false};
-ghost use mathlib.Core.List.{List, []};
+ghost use mathlib.Core.List.{List};
 ghost use Prim.Native.Nat.{ℕ};
 ghost use Rattle.types.specs.Events.{readEvent};
 ghost use Rattle.types.specs.CsEvents.{readCsEvent};
 ghost use Rattle.types.specs.Errors.{readError};
 ghost use Rattle.counters.specs.Counters.{afterError, counts, effect, handled};
+ghost use Rattle.node.specs.Steps.{noRun};
 ghost use Rattle.node.specs.Plain.{Call, cycleAnswer, handOutAnswer};
 ghost use Rattle.node.specs.Refines.{Refines, left};
 ghost use Rattle.head.specs.Places as at;
@@ -249,7 +250,7 @@ pub fn arm(head: &mut Head, time: u64) -> CallAnswer
 
 // The oldest entry leaves the queue; of an empty one, none does.
 pub fn hand_out(head: &mut Head, memory: &[u8; 640]) -> FoundEntry
-    ensures { λ r. ⌜ ((m : List ℕ) → Refines (headOf (now (head .entry))) (now (memory .entry)) m Call.handOut (left (headOf (now (head .exit))) (handOutAnswer r)) (now (memory .entry)) m [])
+    ensures { λ r. ⌜ ((m : List ℕ) → Refines (headOf (now (head .entry))) (now (memory .entry)) m Call.handOut (left (headOf (now (head .exit))) (handOutAnswer r)) (now (memory .entry)) m noRun)
         × (now (head .exit) ≡ handOutWords (now (head .entry)) (now (memory .entry))) ⌝ }
 {
     whole(head);

@@ -1,15 +1,43 @@
-// Heard: the last-heard time of one watched node.
+// Heard: the last-heard time of one watched node, and the earliest moment at which one would be late.
 ghost use mathlib.Core.Path.{_≡_};
-ghost use Prim.Native.Nat.{_+_, _*_, _<_};
+ghost use Prim.Native.Nat.{_+_, _*_, _<_, min};
 ghost use lib.ListN.{set};
+ghost use Rattle.watched.specs.Watched.{latest};
+ghost use Rattle.node.specs.InPlace.{momentOf};
 ghost use Rattle.node.specs.Heard.{heardAnswer, Heard};
 use crate::calls::CallAnswer;
+use head::parts::set_earliest;
+use head::parts::whole;
+use head::state::Deadline;
+use head::state::Head;
 use types::refusals::Refusal;
 use watched::nodes::Found;
+use watched::nodes::NEVER;
 use watched::nodes::NodeWords;
 use watched::nodes::all_places;
 use watched::nodes::find;
+use watched::time::LATEST_TIME;
 use watched::time::in_time;
+
+// The moment that a walk found.
+pub fn moment(soonest: u64) -> Deadline
+    ensures { λ r. ⌜ r ≡ momentOf soonest ⌝ }
+{
+    if soonest == NEVER {
+        return Deadline::Nothing;
+    }
+    Deadline::At(soonest)
+}
+
+// A time, or the latest that a call takes.
+pub fn within(time: u64) -> u64
+    ensures { λ r. ⌜ r ≡ min time latest ⌝ }
+{
+    if time <= LATEST_TIME {
+        return time;
+    }
+    LATEST_TIME
+}
 
 // The time of the node at a place is set.
 fn set_heard(nodes: &mut NodeWords, place: usize, time: u64)
@@ -36,18 +64,26 @@ pub fn try_heard(formed: bool, time: u64, watched: bool) -> CallAnswer
 }
 
 // A watched node was heard.
-pub fn heard(nodes: &mut NodeWords, count: usize, node: u8, time: u64) -> CallAnswer
-    ensures { λ r. ⌜ Heard (now (nodes .entry)) count node time r (now (nodes .exit)) ⌝ }
+pub fn heard(
+    head: &mut Head,
+    nodes: &mut NodeWords,
+    count: usize,
+    node: u8,
+    time: u64,
+) -> CallAnswer
+    ensures { λ r. ⌜ Heard (now (head .entry)) (now (nodes .entry)) count node time r (now (head .exit)) (now (nodes .exit)) ⌝ }
 {
+    whole(head);
     all_places(nodes);
-    let found = find(nodes, count, node as u64);
-    let Found::Formed(place) = found else {
+    let found = find(nodes, count, node as u64, within(time));
+    let Found::Formed(place, soonest) = found else {
         return try_heard(false, time, false);
     };
     let answer = try_heard(true, time, place < count);
     match answer {
         CallAnswer::Taken => {
             set_heard(nodes, place, time);
+            set_earliest(head, moment(soonest));
             return CallAnswer::Taken;
         }
         CallAnswer::Refused(refusal) => {

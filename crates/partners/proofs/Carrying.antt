@@ -12,10 +12,9 @@ use borrow.Author.Tests.{lt-ltb, le-ltb}
 use Rattle.types.specs.Pick.{pick, both}
 use Rattle.types.proofs.Tests.{both-first, both-second}
 use Rattle.watched.specs.declared.nodes.WatchedNode.{WatchedNode}
-use Rattle.watched.specs.Watched.{ascending, noNode}
+use Rattle.watched.specs.Watched.{ascending, noNode, inserted}
 use Rattle.watched.specs.Nodes.{nodeAt, nodesOf}
 use Rattle.watched.proofs.Watching.{places, node-at}
-use Rattle.partners.specs.Partners.{inserted}
 use Rattle.partners.specs.Walks.{carried}
 use Rattle.partners.proofs.Places.{rest-set, turn-set, turn-kept, all-behind, ahead}
 

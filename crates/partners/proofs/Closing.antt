@@ -11,10 +11,9 @@ use lib.ListN.{length, getD, set, take, drop, replicate}
 use borrow.Author.Tests.{lt-ltb, le-ltb}
 use Rattle.types.specs.Pick.{pick}
 use Rattle.watched.specs.declared.nodes.WatchedNode.{WatchedNode}
-use Rattle.watched.specs.Watched.{placeOf, noNode, watchedNode}
+use Rattle.watched.specs.Watched.{placeOf, noNode, watchedNode, without}
 use Rattle.watched.specs.Nodes.{nodeAt, nodesOf}
 use Rattle.watched.proofs.Watching.{places}
-use Rattle.partners.specs.Partners.{without}
 use Rattle.partners.specs.Walks.{closed}
 use Rattle.partners.proofs.Places.{rest-set, turn-set, all-behind, ahead}
 

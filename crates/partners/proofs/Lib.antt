@@ -1,5 +1,10 @@
 pub mod Places
 pub mod Carrying
 pub mod Closing
+pub mod Held
+pub mod Adding
+pub mod Removing
+pub mod Left
 pub mod Told
 pub mod Fixed
+pub mod Links

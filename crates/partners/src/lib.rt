@@ -1,13 +1,19 @@
-// Heartbeat partners arrive and leave (document 02, No. 1): a node is added to a run of watched nodes in words, or removed from it. Of a run in words 32 places
+// Heartbeat partners arrive and leave (document 02, No. 1): a node is added to the watched nodes of a head, or removed from them. Of nodes in words 32 places
 // are lent, three words each, with the number of the first ones that are watched.
 ghost use mathlib.Core.Path.{_≡_};
 ghost use mathlib.Core.List.{_++_};
 ghost use Prim.Native.Nat.{_-_, _≤_, _<_};
 ghost use lib.ListN.{set, take, drop};
+ghost use Rattle.types.specs.Types.{isNode};
 ghost use Rattle.watched.specs.Watched.{watchedNode};
 ghost use Rattle.watched.specs.Nodes.{nodesOf};
 ghost use Rattle.partners.specs.Walks.{carried, closed};
-ghost use Rattle.partners.specs.Partners.{run, partnerSaid, addReply, removeReply, leftBy, added, removed};
+ghost use Rattle.partners.specs.Partners.{addAnswer, removeAnswer, Added, Removed};
+use head::parts::set_earliest;
+use head::parts::whole;
+use head::state::Head;
+use node::calls::CallAnswer;
+use node::heard::moment;
 use types::refusals::Refusal;
 use types::types::NodeId;
 use types::types::NodeIdRead;
@@ -16,11 +22,6 @@ use watched::nodes::NodeWords;
 use watched::nodes::all_places;
 use watched::nodes::find;
 use watched::time::in_time;
-
-pub enum PartnerAnswer {
-    Taken,
-    Refused(Refusal),
-}
 
 // The words of one place.
 fn put(nodes: &mut NodeWords, place: usize, node: u64, timeout: u64, last_heard: u64)
@@ -71,67 +72,118 @@ fn close(nodes: &mut NodeWords, count: usize, place: usize)
     requires { ⌜ (place < count) × (count ≤ 32) ⌝ }
     ensures { λ _. ⌜ nodesOf (now (nodes .exit)) ≡ take place (nodesOf (now (nodes .entry))) ++ closed (count - place) (drop place (nodesOf (now (nodes .entry)))) ⌝ }
 {
-    let mut i = place;
-    while i < 32 {
-        if i + 1 < count {
-            let at = 3 * i + 3;
+    let mut here = place;
+    while here < 32 {
+        if here + 1 < count {
+            let at = 3 * here + 3;
             let next = nodes[at];
             let timeout = nodes[at + 1];
             let last_heard = nodes[at + 2];
-            put(nodes, i, next, timeout, last_heard);
-            i += 1;
+            put(nodes, here, next, timeout, last_heard);
+            here += 1;
         } else {
-            put(nodes, i, 0, 0, 0);
-            i += 1;
+            put(nodes, here, 0, 0, 0);
+            here += 1;
         }
     }
 }
 
-// A node is watched from now on, with its timeout, and not yet heard.
-pub fn add(nodes: &mut NodeWords, count: &mut usize, node: u8, timeout: u64) -> PartnerAnswer
-    ensures { λ r. ⌜ (partnerSaid r ≡ addReply node timeout (run (nodesOf (now (nodes .entry))) (now (count .entry))))
-        × (run (nodesOf (now (nodes .exit))) (now (count .exit)) ≡ leftBy (partnerSaid r) (run (nodesOf (now (nodes .entry))) (now (count .entry))) (added node timeout (run (nodesOf (now (nodes .entry))) (now (count .entry))))) ⌝ }
+// Number 1.
+pub fn is_known(node: u8) -> bool
+    ensures { λ r. ⌜ r ≡ isNode node ⌝ }
 {
-    let number = *count;
     match NodeId::try_from(node) {
-        NodeIdRead::Taken(_) => {
-            let found = find(nodes, number, node as u64);
-            let Found::Formed(place) = found else {
-                return PartnerAnswer::Refused(Refusal::WatchedNodes);
-            };
-            if !in_time(timeout) {
-                return PartnerAnswer::Refused(Refusal::WatchedNodes);
-            }
-            if place < number {
-                return PartnerAnswer::Refused(Refusal::AlreadyWatched);
-            }
-            if 32 <= number {
-                return PartnerAnswer::Refused(Refusal::AllWatched);
-            }
+        NodeIdRead::Taken(_) => true,
+        NodeIdRead::Refused(_) => false,
+    }
+}
+
+// Numbers 1, 3, 10 and 9, by what was found: whether a node has the number, whether the watched nodes pass number 3, and whether the node is among them.
+pub fn try_add(known: bool, formed: bool, timeout: u64, watched: bool, number: usize) -> CallAnswer
+    ensures { λ r. ⌜ r ≡ addAnswer known formed timeout watched number ⌝ }
+{
+    if !known {
+        return CallAnswer::Refused(Refusal::NodeNumber);
+    }
+    if !formed {
+        return CallAnswer::Refused(Refusal::WatchedNodes);
+    }
+    if !in_time(timeout) {
+        return CallAnswer::Refused(Refusal::WatchedNodes);
+    }
+    if watched {
+        return CallAnswer::Refused(Refusal::AlreadyWatched);
+    }
+    if 32 <= number {
+        return CallAnswer::Refused(Refusal::AllWatched);
+    }
+    CallAnswer::Taken
+}
+
+// Numbers 3 and 7.
+pub fn try_remove(formed: bool, watched: bool) -> CallAnswer
+    ensures { λ r. ⌜ r ≡ removeAnswer formed watched ⌝ }
+{
+    if !formed {
+        return CallAnswer::Refused(Refusal::WatchedNodes);
+    }
+    if !watched {
+        return CallAnswer::Refused(Refusal::NotWatched);
+    }
+    CallAnswer::Taken
+}
+
+// A node is watched from now on, with its timeout, and not yet heard: so it is not late at any moment yet.
+pub fn add(
+    head: &mut Head,
+    nodes: &mut NodeWords,
+    count: &mut usize,
+    node: u8,
+    timeout: u64,
+) -> CallAnswer
+    ensures { λ r. ⌜ Added (now (head .entry)) (now (nodes .entry)) (now (count .entry)) node timeout r (now (head .exit)) (now (nodes .exit)) (now (count .exit)) ⌝ }
+{
+    whole(head);
+    let number = *count;
+    let known = is_known(node);
+    let found = find(nodes, number, node as u64, 0);
+    let Found::Formed(place, soonest) = found else {
+        return try_add(known, false, timeout, false, number);
+    };
+    let answer = try_add(known, true, timeout, place < number, number);
+    match answer {
+        CallAnswer::Taken => {
             insert(nodes, number, node as u64, timeout);
             *count = number + 1;
-            return PartnerAnswer::Taken;
+            set_earliest(head, moment(soonest));
+            return CallAnswer::Taken;
         }
-        NodeIdRead::Refused(refusal) => {
-            return PartnerAnswer::Refused(refusal);
+        CallAnswer::Refused(refusal) => {
+            return CallAnswer::Refused(refusal);
         }
     }
 }
 
-// A node is watched no more.
-pub fn remove(nodes: &mut NodeWords, count: &mut usize, node: u8) -> PartnerAnswer
-    ensures { λ r. ⌜ (partnerSaid r ≡ removeReply node (run (nodesOf (now (nodes .entry))) (now (count .entry))))
-        × (run (nodesOf (now (nodes .exit))) (now (count .exit)) ≡ leftBy (partnerSaid r) (run (nodesOf (now (nodes .entry))) (now (count .entry))) (removed node (run (nodesOf (now (nodes .entry))) (now (count .entry))))) ⌝ }
+// A node is watched no more. The soonest moment with it not heard is that of the others.
+pub fn remove(head: &mut Head, nodes: &mut NodeWords, count: &mut usize, node: u8) -> CallAnswer
+    ensures { λ r. ⌜ Removed (now (head .entry)) (now (nodes .entry)) (now (count .entry)) node r (now (head .exit)) (now (nodes .exit)) (now (count .exit)) ⌝ }
 {
+    whole(head);
     let number = *count;
-    let found = find(nodes, number, node as u64);
-    let Found::Formed(place) = found else {
-        return PartnerAnswer::Refused(Refusal::WatchedNodes);
+    let found = find(nodes, number, node as u64, 0);
+    let Found::Formed(place, soonest) = found else {
+        return try_remove(false, false);
     };
-    if place < number {
-        close(nodes, number, place);
-        *count = number - 1;
-        return PartnerAnswer::Taken;
+    let answer = try_remove(true, place < number);
+    match answer {
+        CallAnswer::Taken => {
+            close(nodes, number, place);
+            *count = number - 1;
+            set_earliest(head, moment(soonest));
+            return CallAnswer::Taken;
+        }
+        CallAnswer::Refused(refusal) => {
+            return CallAnswer::Refused(refusal);
+        }
     }
-    PartnerAnswer::Refused(Refusal::NotWatched)
 }

@@ -28,7 +28,7 @@ use Rattle.nmt.proofs.Chosen.{ruled-read, event-small}
 use Rattle.head.specs.Words.{one, yes}
 use Rattle.head.proofs.Laws.{yes-one, state-is}
 use Rattle.node.specs.Plain.{Plain, Step, nmtEvent, withdraw, Start, taken}
-use Rattle.node.specs.Steps.{fresh, answers, declines, withNmt, forgets, nmtStep, nmtTaken, withdrawn}
+use Rattle.node.specs.Steps.{fresh, noRun, answers, declines, withNmt, forgets, nmtStep, nmtTaken, withdrawn}
 use Rattle.node.specs.Run.{step}
 use Rattle.reach.specs.declared.Line.{Line}
 use Rattle.reach.specs.Positions.{Position, positionAt, position, Steps, none, event, withdrawal, Reached, named, stepsTo, Among, HasLine, sameFlag, samePosition, eachOnce, inOrder, EveryPosition}
@@ -112,9 +112,9 @@ abbrev mayWithdraw : Position → Bool
 mayWithdraw x = not (sameState (x .state) NmtReadyToOperate)
 
 abbrev withdrawBy : Plain → Bool → Step
-withdrawBy p b = pick b (answers (withNmt p (withdrawn (p .nmt))) taken []) (declines p [] 8)
+withdrawBy p b = pick b (answers (withNmt p (withdrawn (p .nmt))) taken noRun) (declines p noRun 8)
 
-withdraws : (p : Plain) → mayWithdraw (position p) ≡ true → step p withdraw ≡ answers (withNmt p (withdrawn (p .nmt))) taken []
+withdraws : (p : Plain) → mayWithdraw (position p) ≡ true → step p withdraw ≡ answers (withNmt p (withdrawn (p .nmt))) taken noRun
 withdraws p h = ap (withdrawBy p) h
 
 -- where a fresh head stands

@@ -1,4 +1,4 @@
--- The key of a line as it is played: that of a line that can't be is `?`.
+-- The key of a line as it is played: that of a line that can't be is `?`. And the number that a call is lent with 32 places.
 -- Assumes nothing.
 use Prim.Native.Nat.{ℕ}
 use mathlib.Core.Bool.{Bool}
@@ -13,7 +13,11 @@ noLine = 63
 abbrev pub needsHead : ℕ → Bool
 needsHead key = both (leb 97 key) (leb key 122)
 
--- one that needs a head needs an accepted start before it; a watch (`W`) needs room, which there is for 40
+-- one that needs a head needs an accepted start before it; a watch (`W`) needs a place, and there are 40
 unfoldable pub keyAfter : Session → ℕ → ℕ
 keyAfter s key =
-    pick (needsHead key) (pick (s .started) key noLine) (pick (eqb key 87) (pick (ltb (s .count) 40) key noLine) key)
+    pick (needsHead key) (pick (s .started) key noLine) (pick (eqb key 87) (pick (ltb (s .number) 40) key noLine) key)
+
+-- of another number of places, one that number 3 declines
+abbrev pub lentNumber : Session → ℕ
+lentNumber s = pick (eqb (s .places) 32) (s .number) 33

@@ -1,6 +1,8 @@
 // The calls on a head: each is made, and its answer written as numbers.
 use crate::load::EntryBuffer;
 use crate::load::KEPT;
+use crate::run::lent;
+use crate::session::Session;
 use crate::values::byte;
 use crate::values::dictionary;
 use crate::values::number;
@@ -96,9 +98,33 @@ fn tick(
     }
 }
 
-fn heard(nodes: &mut NodeWords, count: usize, given: Given, answer: &mut Numbers) {
-    let said = node::heard::heard(nodes, count, byte(number(given, 0)), number(given, 1));
+fn heard(head: &mut Head, nodes: &mut NodeWords, count: usize, given: Given, answer: &mut Numbers) {
+    let said = node::heard::heard(head, nodes, count, byte(number(given, 0)), number(given, 1));
     answers::call(said, answer)
+}
+
+// A node is added, or removed; how many are watched then.
+pub(crate) fn change(
+    head: &mut Head,
+    nodes: &mut NodeWords,
+    session: Session,
+    key: u8,
+    given: Given,
+    answer: &mut Numbers,
+) -> usize {
+    let mut count = lent(session);
+    let node = byte(number(given, 0));
+    if key == b'j' {
+        let said = partners::add(head, nodes, &mut count, node, number(given, 1));
+        answers::call(said, answer);
+    } else {
+        let said = partners::remove(head, nodes, &mut count, node);
+        answers::call(said, answer);
+    }
+    if answer[0] == 0 {
+        return count;
+    }
+    session.number
 }
 
 // The reading of a number as an NMT state, which becomes the answer's first state.
@@ -171,7 +197,7 @@ pub(crate) fn make(
 ) {
     let n = number(given, 0);
     match key {
-        b'h' => heard(nodes, count, given, answer),
+        b'h' => heard(head, nodes, count, given, answer),
         b't' => tick(head, queue, history, nodes, count, n, answer),
         b'l' => load(head, history, given, bytes, answer),
         _ => call_on_head(key, n, given, head, answer),

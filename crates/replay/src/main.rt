@@ -22,7 +22,7 @@ fn main() {
     let mut text = [0u8; 16384];
     let mut given = [0u64; 18];
     let mut bytes = [0u8; 6000];
-    let mut head = [0u32; 58];
+    let mut head = [0u32; 60];
     let mut queue = [0u8; 640];
     let mut history = [0u8; 5080];
     let mut nodes = [0u64; 96];
@@ -32,7 +32,8 @@ fn main() {
     let mut out = [0u8; 65538];
     let mut session = Session {
         started: false,
-        count: 0,
+        places: 32,
+        number: 0,
         desk: 0,
     };
     let mut line = Gathered {

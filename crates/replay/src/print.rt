@@ -171,3 +171,8 @@ pub(crate) fn say_bytes(out: &mut Buffer, bytes: &[u8]) {
 pub(crate) fn say_entry(out: &mut Buffer, bytes: &[u8; 20]) {
     say_bytes(out, bytes)
 }
+
+// The watched nodes' bytes, the same way.
+pub(crate) fn say_bits(out: &mut Buffer, bytes: &[u8; 32]) {
+    say_bytes(out, bytes)
+}

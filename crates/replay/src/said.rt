@@ -1,11 +1,15 @@
 // What is printed of answers.
 use crate::print::Buffer;
 use crate::print::say;
+use crate::print::say_bits;
 use crate::print::say_by;
 use crate::print::say_entry;
+use crate::print::say_form;
 use answers::Numbers;
+use bitmap::BitmapAnswer;
 use entries::status_response::FoundEntry;
 use head::state::Head;
+use watched::nodes::NodeWords;
 
 // Prints the form that a key has in the table, by the numbers of an answer in their order; the last row is that of every other key. An
 // NMT event that is a reset enters states; of another one the errors are printed.
@@ -28,6 +32,21 @@ pub(crate) fn say_as(out: &mut Buffer, key: u8, answer: &Numbers) {
         key,
         answer,
     )
+}
+
+// The watched nodes as bits, and how many these say.
+pub(crate) fn say_bitmap(out: &mut Buffer, nodes: &NodeWords, count: usize) {
+    let mut bytes = [0u8; 32];
+    match bitmap::bitmap(nodes, count, &mut bytes) {
+        BitmapAnswer::Taken(number) => {
+            say_form(out, b"(taken (nodes #)", &[number as u64]);
+            say_bits(out, &bytes);
+            return say(out, b")\n");
+        }
+        BitmapAnswer::Refused(refusal) => {
+            return say_form(out, b"(refused #)\n", &[refusal.number() as u64]);
+        }
+    }
 }
 
 // Prints the answer of a line by its key.

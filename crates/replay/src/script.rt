@@ -33,7 +33,7 @@ fn read_by(rows: &[u8], line: &[u8], given: &mut Given) -> u8 {
 fn read_table(line: &[u8], given: &mut Given) -> u8 {
     read_by(
         b"nnmt L;Wwatch B L L;ddll L F;pshow;ttick L;ccycle;aarm L;eerror L X Y;hheard B L;ohandout;wwithdraw;\
-        Uunwatch;Sstart B W W L B O O W W W W;Tstart B W W L B O O W W W W W W W W W W W;kcommand L;sstate L;ientrywrite L F F M H H W W L;qkind L;grange L L;mmargin L; ",
+        Uunwatch;Llend P L;jadd B L;xremove B;bbitmap;Sstart B W W L B O O W W W W;Tstart B W W L B O O W W W W W W W W W W W;kcommand L;sstate L;ientrywrite L F F M H H W W L;qkind L;grange L L;mmargin L; ",
         line,
         given,
     )

@@ -4,6 +4,7 @@
 // The check of a function costs by its statements, and most by what it lends.
 ghost use mathlib.Core.Path.{_≡_};
 ghost use Rattle.replay.specs.Keys.{keyAfter};
+use crate::calls::change;
 use crate::calls::make;
 use crate::calls::start;
 use crate::desk::Desk;
@@ -13,10 +14,12 @@ use crate::desk::lay;
 use crate::load::EntryBuffer;
 use crate::print::Buffer;
 use crate::run::Rest;
-use crate::run::join;
+use crate::run::arrange;
+use crate::run::lent;
 use crate::said::hand_out;
 use crate::said::say_answer;
 use crate::said::say_as;
+use crate::said::say_bitmap;
 use crate::script::NO_LINE;
 use crate::show::show;
 use crate::words::Given;
@@ -27,8 +30,9 @@ use watched::nodes::NodeWords;
 pub struct Session {
     // Whether a start was accepted: before that no line reaches the head.
     pub started: bool,
-    // How many records the run has.
-    pub count: usize,
+    // How many places of the run are lent, and how many nodes are watched.
+    pub places: usize,
+    pub number: usize,
     // How many bytes the desk's buffer has.
     pub desk: usize,
 }
@@ -46,7 +50,7 @@ pub(crate) fn key_after(session: Session, key: u8) -> u8
             NO_LINE
         }
         b'W' => {
-            if session.count < 40 {
+            if session.number < 40 {
                 return key;
             }
             NO_LINE
@@ -79,26 +83,9 @@ impl Session {
                 say_as(out, key, answer);
                 return self;
             }
-            b'U' => {
-                self.count = 0;
-                return self;
-            }
-            b'W' => {
-                self.count = join(nodes, rest, self.count, given);
-                return self;
-            }
+            b'U' | b'W' | b'L' => return arrange(self, key, given, nodes, rest),
             b'p' => {
-                show(
-                    out,
-                    head,
-                    queue,
-                    history,
-                    nodes,
-                    rest,
-                    self.count,
-                    desk,
-                    self.desk,
-                );
+                show(out, head, queue, history, nodes, rest, desk, self);
                 return self;
             }
             b'D' => {
@@ -118,8 +105,18 @@ impl Session {
                 hand_out(out, head, queue);
                 return self;
             }
+            b'b' => {
+                say_bitmap(out, nodes, lent(self));
+                return self;
+            }
+            b'j' | b'x' => {
+                let number = change(head, nodes, self, key, given, answer);
+                self.number = number;
+                say_answer(out, key, answer);
+                return self;
+            }
             b'S' | b'T' => {
-                start(head, nodes, self.count, key, given, answer);
+                start(head, nodes, lent(self), key, given, answer);
                 say_answer(out, key, answer);
                 self.started = self.started | (answer[0] == 0);
                 return self;
@@ -133,7 +130,7 @@ impl Session {
                     queue,
                     history,
                     nodes,
-                    self.count,
+                    lent(self),
                     answer,
                 );
                 say_answer(out, key, answer);

@@ -1,17 +1,21 @@
 // The forms of a head and of the lent run.
 ghost use mathlib.Core.Path.{_≡_};
-ghost use Prim.Native.Nat.{_+_, _*_, _≤_, min};
+ghost use Prim.Native.Nat.{_≤_};
 ghost use Rattle.replay.specs.Values.{deadlineNumber, objectNumber};
-ghost use lib.ListN.{length};
 use crate::desk::Desk;
 use crate::desk::show_desk;
 use crate::print::Buffer;
 use crate::print::say;
 use crate::print::say_form;
 use crate::run::Rest;
+use crate::run::end_of;
+use crate::run::least;
+use crate::run::record;
 use crate::said::say_found;
+use crate::session::Session;
 use answers::NOTHING;
 use head::parts::dll_of;
+use head::parts::earliest_of;
 use head::parts::errors_of;
 use head::parts::history_of;
 use head::parts::nmt_of;
@@ -157,34 +161,33 @@ fn show_history(out: &mut Buffer, head: &Head, memory: &[u8; 5080]) {
     say(out, b")\n(watched")
 }
 
-// A record, whose words stand from a place on.
-fn show_record(out: &mut Buffer, words: &[u64], at: usize)
-    requires { ⌜ at + 3 ≤ length (now words) ⌝ }
+// The records from one place to another.
+fn show_places(out: &mut Buffer, nodes: &NodeWords, rest: &Rest, from: usize, to: usize)
+    requires { ⌜ to ≤ 40 ⌝ }
 {
-    say_form(out, b" (# # #)", &words[at..at + 3])
-}
-
-// The first records.
-fn show_records(out: &mut Buffer, words: &[u64], count: usize)
-    requires { ⌜ 3 * count ≤ length (now words) ⌝ }
-{
-    for i in 0..count {
-        show_record(out, words, 3 * i);
+    for place in from..to {
+        say_form(out, b" (# # #)", &record(nodes, rest, place));
     }
 }
 
-// The smaller number.
-pub(crate) fn least(a: usize, b: usize) -> usize
-    ensures { λ r. ⌜ r ≡ min a b ⌝ }
-{
-    if a < b { a } else { b }
+// The watched nodes; then how many places are lent, with the number watched, and those past it up to the last one that is not all zeros.
+fn show_run(out: &mut Buffer, nodes: &NodeWords, rest: &Rest, session: Session) {
+    let places = least(session.places, 40);
+    let first = least(session.number, places);
+    show_places(out, nodes, rest, 0, first);
+    say_form(
+        out,
+        b")\n(run (places #) (number #) (rest",
+        &[places as u64, session.number as u64],
+    );
+    show_places(out, nodes, rest, first, end_of(nodes, rest, first, places));
+    say(out, b"))\n")
 }
 
-fn show_run(out: &mut Buffer, nodes: &NodeWords, rest: &Rest, count: usize) {
-    let first = least(count, 32);
-    show_records(out, nodes, first);
-    show_records(out, rest, least(count - first, 8));
-    say(out, b")\n")
+// The earliest moment at which a watched node would be late.
+fn show_earliest(out: &mut Buffer, head: &Head) {
+    let earliest = earliest_of(head);
+    say_form(out, b"(earliest {none}[#])\n", &[deadline_number(earliest)])
 }
 
 // The crossings of each of the seven kinds, in the order of their lines.
@@ -230,9 +233,8 @@ pub(crate) fn show(
     history: &[u8; 5080],
     nodes: &NodeWords,
     rest: &Rest,
-    count: usize,
     desk: &Desk,
-    bytes: usize,
+    session: Session,
 ) {
     show_machines(out, head);
     show_counters(out, head);
@@ -240,8 +242,9 @@ pub(crate) fn show(
     show_dictionary(out, head);
     show_queue(out, head, queue);
     show_history(out, head, history);
-    show_run(out, nodes, rest, count);
+    show_run(out, nodes, rest, session);
+    show_earliest(out, head);
     show_crossings(out, head);
-    show_desk(out, desk, bytes);
+    show_desk(out, desk, session.desk);
     show_thresholds(out, head)
 }

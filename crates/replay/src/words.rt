@@ -96,12 +96,13 @@ fn number_at(line: &[u8], at: usize) -> Number
     digits(line, at, 10)
 }
 
-// The largest number of a width: a flag, a mode, a byte, a half word of 16 bits, a word or an object's value of 32, a long word of
+// The largest number of a width: a flag, a mode, places of a run, a byte, a half word of 16 bits, a word or an object's value of 32, a long word of
 // 64. X and Y are what an error carries: a byte where its kind does, else a number that is not looked at.
 fn largest(width: u8, kind: u64) -> u64 {
     match width {
         b'F' => 1,
         b'M' => 3,
+        b'P' => 40,
         b'B' => 255,
         b'H' => 65535,
         b'W' | b'O' => 4294967295,

@@ -22,9 +22,9 @@ use Rattle.head.specs.Head.{dictionary}
 use Rattle.head.specs.declared.state.ObjectValue.{ObjectValue}
 use Rattle.head.specs.declared.state.ObjectValue.the-variants.{Unsigned32, Missing}
 use Rattle.watched.specs.declared.nodes.WatchedNode.{WatchedNode}
-use Rattle.watched.specs.Watched.{wellFormed, noNode, heardNow, unheard, watchedOf, unheardFirst}
+use Rattle.watched.specs.Watched.{wellFormed, noNode, heardNow, watchedOf, Run, run, wellLent, unheardFirst}
 use Rattle.start.specs.Started.{freshHead, freshWords, unheardWords, StartedIn, BeginsBy}
-use Rattle.watched.proofs.Lists.{each-turn, each-nodes, few}
+use Rattle.watched.proofs.Lists.{each-turn, few}
 use Rattle.start.proofs.Starting.{taken-formed}
 use Rattle.head.specs.Places as at
 use Rattle.head.specs.Words.{headOf}
@@ -32,7 +32,7 @@ use Rattle.head.specs.Written.{nmtWritten, identityWritten, thresholdsWritten, 
 use Rattle.watched.specs.Nodes.{nodesOf}
 use Rattle.node.specs.declared.calls.CallAnswer.{CallAnswer}
 use Rattle.node.specs.declared.calls.CallAnswer.the-variants as answer
-use Rattle.watched.proofs.Watching.{places, heard-written}
+use Rattle.watched.proofs.Watching.{places, lent-words, heard-written}
 
 -- computed: four cases, by the two objects that may be missing
 fresh-read :
@@ -60,7 +60,7 @@ pub fresh-is :
     (n : NodeId) (f : FeatureFlags) (t k : ℕ) (o : Dictionary) (ts : Thresholds) (m : CnNmtStateMachine) (s : CnErrorCounters) (w₀ w₁ w₂ w₃ w₄ w₅ : List ℕ) →
     m ≡ Nmt.newMachine n f t →
     s ≡ newCounters ts →
-    w₀ ≡ replicate 58 0 →
+    w₀ ≡ replicate 60 0 →
     w₁ ≡ nmtWritten w₀ m →
     w₂ ≡ identityWritten w₁ m →
     w₃ ≡ thresholdsWritten w₂ s →
@@ -70,8 +70,8 @@ pub fresh-is :
     (headOf w₅ ≡ freshHead n f t k o ts) × (w₅ ≡ freshWords n f t k o ts)
 unfolding freshWords
 fresh-is n f t k o ts m s w₀ w₁ w₂ w₃ w₄ w₅ em es e₀ e₁ e₂ e₃ e₄ e₅ x y z =
-    let a : w₁ ≡ nmtWritten (replicate 58 0) (Nmt.newMachine n f t) = e₁ ∙ (λ i. nmtWritten (e₀ i) (em i)) in
-    let b : w₂ ≡ identityWritten (nmtWritten (replicate 58 0) (Nmt.newMachine n f t)) (Nmt.newMachine n f t) = e₂ ∙ (λ i. identityWritten (a i) (em i)) in
+    let a : w₁ ≡ nmtWritten (replicate 60 0) (Nmt.newMachine n f t) = e₁ ∙ (λ i. nmtWritten (e₀ i) (em i)) in
+    let b : w₂ ≡ identityWritten (nmtWritten (replicate 60 0) (Nmt.newMachine n f t)) (Nmt.newMachine n f t) = e₂ ∙ (λ i. identityWritten (a i) (em i)) in
     let c = e₃ ∙ (λ i. thresholdsWritten (b i) (es i)) in
     let d : w₅ ≡ freshWords n f t k o ts = e₅ ∙ ap (λ (l : List ℕ). set l at.capacity k) (e₄ ∙ ap (λ (l : List ℕ). odWritten l o) c) in
     (ap headOf d ∙ fresh-written n f t k o ts x y z, d)
@@ -96,11 +96,14 @@ module _ (ns₀ ns : List ℕ) (i : ℕ) (inside : i < 32) (long : length ns ≡
 
 -- the nodes in words
 module _ (ws ns : List ℕ) (k n : ℕ) (f : FeatureFlags) (t c : ℕ) (o : Dictionary) (ts : Thresholds) (formed : Bool) (e : formed ≡ wellFormed (watchedOf (nodesOf ns) k)) (r : CallAnswer) (ws′ : List ℕ) (b : BeginsBy ws n f t c o ts formed r ws′) where
-  abbrev vs : List WatchedNode
-  vs = watchedOf (nodesOf ns) k
+  abbrev lentRun : Run
+  lentRun = run (nodesOf ns) k
+
+  lent : formed ≡ wellLent lentRun
+  lent = e ∙ sym (lent-words ns k)
 
   pub declined : (x : Refusal) → r ≡ answer.Refused x → StartedIn ws ns k n f t c o ts (answer.Refused x) ws′ ns
-  declined x g = record { on = subst (λ (r : CallAnswer). BeginsBy ws n f t c o ts formed r ws′) g b .on vs e vs refl; nodes = refl }
+  declined x g = record { on = subst (λ (r : CallAnswer). BeginsBy ws n f t c o ts formed r ws′) g b .on lentRun lent lentRun refl; nodes = refl }
 
   pub below : r ≡ answer.Taken → k ≤ 32
   below g = few (nodesOf ns) k formed e (taken-formed n c formed ts (sym (b .answer) ∙ g))
@@ -111,9 +114,9 @@ module _ (ws ns : List ℕ) (k n : ℕ) (f : FeatureFlags) (t c : ℕ) (o : Dict
       (ns′ ≡ unheardWords k ns) × (nodesOf ns′ ≡ unheardFirst k (nodesOf ns)) →
       StartedIn ws ns k n f t c o ts answer.Taken ws′ ns′
   begun g ns′ u =
-      let listed : watchedOf (nodesOf ns′) k ≡ unheard vs =
-      ap (λ (l : List WatchedNode). watchedOf l k) (u .1) ∙ each-nodes (nodesOf ns) k (places ns) (below g) (heardNow 0) in
       record {
-        on = subst (λ (r : CallAnswer). BeginsBy ws n f t c o ts formed r ws′) g b .on vs e (watchedOf (nodesOf ns′) k) listed;
+        on =
+            subst (λ (r : CallAnswer). BeginsBy ws n f t c o ts formed r ws′) g b .on lentRun lent (run (nodesOf ns′) k)
+            (ap (λ (l : List WatchedNode). run l k) (u .1));
         nodes = u .0;
       }

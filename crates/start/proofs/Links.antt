@@ -3,7 +3,7 @@
 use mathlib.Core.Path.{_≡_}
 use denote.Ref.{now}
 use Rattle.node.specs.declared.calls.CallAnswer.{CallAnswer}
-use Rattle.watched.specs.Watched.{watchedOf}
+use Rattle.watched.specs.Watched.{run}
 use Rattle.start.specs.Started.{startOf, Begins, unheardWords}
 use Rattle.head.specs.Words.{headOf}
 use Rattle.watched.specs.Nodes.{nodesOf}
@@ -15,8 +15,8 @@ pub start-begins :
     (κs : _) (a : _) (o : CallAnswer) (x : _) → start-reads.Learnt κs a o x →
     Begins
     (startOf (a .1 .1 .1 .0) (a .1 .1 .1 .1 .0) (a .1 .1 .1 .1 .1 .0) (a .1 .1 .1 .1 .1 .1 .0) (a .1 .1 .1 .1 .1 .1 .1 .0) (a .1 .1 .1 .1 .1 .1 .1 .1 .0)
-    (watchedOf (nodesOf (now (a .1 .0))) (a .1 .1 .0)))
-    o (headOf (now (x .0))) (watchedOf (nodesOf (now (x .1 .0))) (a .1 .1 .0))
+    (run (nodesOf (now (a .1 .0))) (a .1 .1 .0)))
+    o (headOf (now (x .0))) (run (nodesOf (now (x .1 .0))) (a .1 .1 .0))
 start-begins κs a o x e = e .on .begins
 
 -- the words of the nodes: a declined start leaves them

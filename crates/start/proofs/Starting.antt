@@ -1,4 +1,4 @@
--- The refinement of start, over plain variables: whatever form the watched nodes have, they are a list.
+-- The refinement of start, over plain variables: whatever form the run has.
 -- Assumes nothing.
 use Prim.Native.Nat.{ℕ, _≤_, _<_, min}
 use mathlib.Core.Path.{_≡_, refl, sym, ap, ap₂, subst, _∙_}
@@ -25,10 +25,9 @@ use Rattle.head.specs.declared.state.Deadline.the-variants.{Nothing}
 use Rattle.head.specs.declared.state.Dictionary.{Dictionary}
 use Rattle.head.specs.Head.{Head, socWatch}
 use Rattle.head.specs.Words.{headOf}
-use Rattle.watched.specs.declared.nodes.WatchedNode.{WatchedNode}
 use Rattle.node.specs.declared.calls.CallAnswer.{CallAnswer}
 use Rattle.node.specs.declared.calls.CallAnswer.the-variants as answer
-use Rattle.watched.specs.Watched.{wellFormed, unheard}
+use Rattle.watched.specs.Watched.{unheard, Run, wellLent, changing}
 use Rattle.node.specs.Plain.{Plain, Start, begins, declined, FirstStep}
 use Rattle.node.specs.Steps.{plainOf, fresh, started}
 use Rattle.start.specs.Started.{startOf, freshHead, freshWords, startAnswer, StartedOn, BeginsBy}
@@ -44,21 +43,21 @@ read-is n x h = by (isNode n) h
     by false e = absurd (let z : _≡_ {A = ℕ} 0 1 = cc in let f : ⊥ = omega arith in f)
 
 -- start: number 1 by the reading of the node number, then 2, 3 and 14
-module _ (ws : List ℕ) (vs : List WatchedNode) (n : ℕ) (f : FeatureFlags) (t c : ℕ) (o : Dictionary) (ts : Thresholds) where
+module _ (ws : List ℕ) (run : Run) (n : ℕ) (f : FeatureFlags) (t c : ℕ) (o : Dictionary) (ts : Thresholds) where
   abbrev s : Start
-  s = startOf n f t c o ts vs
+  s = startOf n f t c o ts run
 
   abbrev freshWith : NodeId → Plain
-  freshWith x = plainOf (Nmt.newMachine x f t) NonCyclic (newCounters ts) (socWatch 0 false Nothing false) o c [] []
+  freshWith x = plainOf (Nmt.newMachine x f t) NonCyclic (newCounters ts) (socWatch 0 false Nothing false) o c [] [] Nothing
 
   abbrev no : Refusal → FirstStep
-  no r = record { begun = declined (refusalNumber r); lent = vs }
+  no r = record { begun = declined (refusalNumber r); lent = run }
 
   abbrev yes : NodeId → FirstStep
-  yes x = record { begun = begins (freshWith x); lent = unheard vs }
+  yes x = record { begun = begins (freshWith x); lent = changing unheard run }
 
   abbrev byNode : NodeIdRead → FirstStep
-  byNode (node-id.Taken x) = pick (leb c 32) (pick (wellFormed vs) (pick (thresholdsFit ts) (yes x) (no ThresholdLimit)) (no WatchedNodes)) (no QueueCapacity)
+  byNode (node-id.Taken x) = pick (leb c 32) (pick (wellLent run) (pick (thresholdsFit ts) (yes x) (no ThresholdLimit)) (no WatchedNodes)) (no QueueCapacity)
   byNode (node-id.Refused r) = no r
 
   started-by : started s ≡ byNode (readNode n)
@@ -67,13 +66,13 @@ module _ (ws : List ℕ) (vs : List WatchedNode) (n : ℕ) (f : FeatureFlags) (t
     where
       by :
           (b : Bool) →
-          pick b (pick (leb c 32) (pick (wellFormed vs) (pick (thresholdsFit ts) (yes (node n)) (no ThresholdLimit)) (no WatchedNodes)) (no QueueCapacity)) (no NodeNumber)
+          pick b (pick (leb c 32) (pick (wellLent run) (pick (thresholdsFit ts) (yes (node n)) (no ThresholdLimit)) (no WatchedNodes)) (no QueueCapacity)) (no NodeNumber)
           ≡ byNode (pick b (node-id.Taken (node n)) (node-id.Refused NodeNumber))
       by true = refl
       by false = refl
 
   module _ (i : NodeIdRead) (e : i ≡ readNode n) where
-    start-declined : (x : Refusal) → started s ≡ no x → StartedOn ws vs n f t c o ts (answer.Refused x) ws vs
+    start-declined : (x : Refusal) → started s ≡ no x → StartedOn ws run n f t c o ts (answer.Refused x) ws run
     start-declined x g =
         record {
           begins = record {
@@ -84,31 +83,31 @@ module _ (ws : List ℕ) (vs : List WatchedNode) (n : ℕ) (f : FeatureFlags) (t
           words = refl;
         }
 
-    pub start-no-node : (x : Refusal) → i ≡ node-id.Refused x → StartedOn ws vs n f t c o ts (answer.Refused x) ws vs
+    pub start-no-node : (x : Refusal) → i ≡ node-id.Refused x → StartedOn ws run n f t c o ts (answer.Refused x) ws run
     start-no-node x g = start-declined x (started-by ∙ ap byNode (sym e ∙ g))
 
     module _ (x : NodeId) (g : i ≡ node-id.Taken x) where
       after-node : started s ≡ byNode (node-id.Taken x)
       after-node = started-by ∙ ap byNode (sym e ∙ g)
 
-      pub start-no-room : 32 < c → StartedOn ws vs n f t c o ts (answer.Refused QueueCapacity) ws vs
+      pub start-no-room : 32 < c → StartedOn ws run n f t c o ts (answer.Refused QueueCapacity) ws run
       start-no-room z = start-declined QueueCapacity (after-node ∙ rw (lt-leb c 32 z))
 
       module _ (z : c ≤ 32) where
-        pub start-unformed : wellFormed vs ≡ false → StartedOn ws vs n f t c o ts (answer.Refused WatchedNodes) ws vs
+        pub start-unformed : wellLent run ≡ false → StartedOn ws run n f t c o ts (answer.Refused WatchedNodes) ws run
         start-unformed a = start-declined WatchedNodes (after-node ∙ rw (le-leb c 32 z, a))
 
-        pub start-unlimited : wellFormed vs ≡ true → thresholdsFit ts ≡ false → StartedOn ws vs n f t c o ts (answer.Refused ThresholdLimit) ws vs
+        pub start-unlimited : wellLent run ≡ true → thresholdsFit ts ≡ false → StartedOn ws run n f t c o ts (answer.Refused ThresholdLimit) ws run
         start-unlimited a u = start-declined ThresholdLimit (after-node ∙ rw (le-leb c 32 z, a, u))
 
         pub start-taken :
-            wellFormed vs ≡ true →
+            wellLent run ≡ true →
             thresholdsFit ts ≡ true →
             (ws′ : List ℕ) →
             (headOf ws′ ≡ freshHead x f t c o ts) × (ws′ ≡ freshWords x f t c o ts) →
-            (l : List WatchedNode) →
-            l ≡ unheard vs →
-            StartedOn ws vs n f t c o ts answer.Taken ws′ l
+            (l : Run) →
+            l ≡ changing unheard run →
+            StartedOn ws run n f t c o ts answer.Taken ws′ l
         start-taken a u ws′ r l d =
             let steps : started s ≡ yes x = after-node ∙ rw (le-leb c 32 z, a, u) in
             let all : min c 32 ≡ c = omega arith in
@@ -137,7 +136,7 @@ taken-formed n c f ts e = by (isNode n) (leb c 32) f e
     by true false f e = absurd (let z : _≡_ {A = ℕ} 0 1 = cc in let x : ⊥ = omega arith in x)
     by false b f e = absurd (let z : _≡_ {A = ℕ} 0 1 = cc in let x : ⊥ = omega arith in x)
 
--- start without the nodes, test by test
+-- start without the run, test by test
 module _ (ws : List ℕ) (n : ℕ) (f : FeatureFlags) (t c : ℕ) (o : Dictionary) (ts : Thresholds) (formed : Bool) (i : NodeIdRead) (e : i ≡ readNode n) where
   abbrev readBy : Bool → NodeIdRead
   readBy b = pick b (node-id.Taken (node n)) (node-id.Refused NodeNumber)
@@ -160,26 +159,26 @@ module _ (ws : List ℕ) (n : ℕ) (f : FeatureFlags) (t c : ℕ) (o : Dictionar
 
   declines :
       (x : Refusal) → answer.Refused x ≡ startAnswer n c formed ts →
-      ((vs : List WatchedNode) → formed ≡ wellFormed vs → StartedOn ws vs n f t c o ts (answer.Refused x) ws vs) →
+      ((run : Run) → formed ≡ wellLent run → StartedOn ws run n f t c o ts (answer.Refused x) ws run) →
       BeginsBy ws n f t c o ts formed (answer.Refused x) ws
   declines x a k =
       record {
         answer = a;
-        on = λ vs g l y. subst (StartedOn ws vs n f t c o ts (answer.Refused x) ws) (sym y) (k vs g);
+        on = λ run g l y. subst (StartedOn ws run n f t c o ts (answer.Refused x) ws) (sym y) (k run g);
       }
 
   pub begins-no-node : (x : Refusal) → i ≡ node-id.Refused x → BeginsBy ws n f t c o ts formed (answer.Refused x) ws
   begins-no-node x g =
       let p = no-node x g in
       declines x (ap answer.Refused (p .1) ∙ sym (ap (λ (b : Bool). byTests b (leb c 32) formed (thresholdsFit ts)) (p .0)))
-      (λ vs _. start-no-node ws vs n f t c o ts i e x g)
+      (λ run _. start-no-node ws run n f t c o ts i e x g)
 
   module _ (x : NodeId) (g : i ≡ node-id.Taken x) where
     tests : (b : Bool) → leb c 32 ≡ b → byTests true b formed (thresholdsFit ts) ≡ startAnswer n c formed ts
     tests b h = sym (ap₂ (λ (a b : Bool). byTests a b formed (thresholdsFit ts)) (a-node x g) h)
 
     pub begins-no-room : 32 < c → BeginsBy ws n f t c o ts formed (answer.Refused QueueCapacity) ws
-    begins-no-room z = declines QueueCapacity (tests false (lt-leb c 32 z)) (λ vs _. start-no-room ws vs n f t c o ts i e x g z)
+    begins-no-room z = declines QueueCapacity (tests false (lt-leb c 32 z)) (λ run _. start-no-room ws run n f t c o ts i e x g z)
 
     module _ (z : c ≤ 32) where
       -- room for the queue: what is left of the tests
@@ -188,11 +187,11 @@ module _ (ws : List ℕ) (n : ℕ) (f : FeatureFlags) (t c : ℕ) (o : Dictionar
 
       pub begins-unformed : formed ≡ false → BeginsBy ws n f t c o ts formed (answer.Refused WatchedNodes) ws
       begins-unformed a =
-          declines WatchedNodes (behind false (thresholdsFit ts) a refl) (λ vs h. start-unformed ws vs n f t c o ts i e x g z (sym h ∙ a))
+          declines WatchedNodes (behind false (thresholdsFit ts) a refl) (λ run h. start-unformed ws run n f t c o ts i e x g z (sym h ∙ a))
 
       pub begins-unlimited : formed ≡ true → thresholdsFit ts ≡ false → BeginsBy ws n f t c o ts formed (answer.Refused ThresholdLimit) ws
       begins-unlimited a u =
-          declines ThresholdLimit (behind true false a u) (λ vs h. start-unlimited ws vs n f t c o ts i e x g z (sym h ∙ a) u)
+          declines ThresholdLimit (behind true false a u) (λ run h. start-unlimited ws run n f t c o ts i e x g z (sym h ∙ a) u)
 
       pub begins-taken :
           formed ≡ true → thresholdsFit ts ≡ true → (ws′ : List ℕ) → (headOf ws′ ≡ freshHead x f t c o ts) × (ws′ ≡ freshWords x f t c o ts) →
@@ -200,5 +199,5 @@ module _ (ws : List ℕ) (n : ℕ) (f : FeatureFlags) (t c : ℕ) (o : Dictionar
       begins-taken a u ws′ r =
           record {
             answer = behind true true a u;
-            on = λ vs h l y. start-taken ws vs n f t c o ts i e x g z (sym h ∙ a) u ws′ r l y;
+            on = λ run h l y. start-taken ws run n f t c o ts i e x g z (sym h ∙ a) u ws′ r l y;
           }

@@ -1,4 +1,4 @@
--- What start leaves of a head and watched nodes in words: the plain start's head or number and nodes, and every word.
+-- What start leaves of a head and watched nodes in words: the plain start's head or number and run, and every word.
 -- Assumes nothing.
 use Prim.Native.Nat.{ℕ, zero, suc, _+_, _*_}
 use mathlib.Core.Path.{_≡_}
@@ -23,8 +23,7 @@ use Rattle.head.specs.Head.{Head, socWatch}
 use Rattle.head.specs.Places as at
 use Rattle.head.specs.Words.{headOf}
 use Rattle.head.specs.Written.{nmtWritten, identityWritten, thresholdsWritten, odWritten}
-use Rattle.watched.specs.declared.nodes.WatchedNode.{WatchedNode}
-use Rattle.watched.specs.Watched.{wellFormed, unheard, watchedOf}
+use Rattle.watched.specs.Watched.{unheard, Run, run, wellLent, changing}
 use Rattle.watched.specs.Nodes.{nodesOf}
 use Rattle.node.specs.declared.calls.CallAnswer.{CallAnswer}
 use Rattle.node.specs.declared.calls.CallAnswer.the-variants as answer
@@ -34,8 +33,8 @@ use Rattle.node.specs.Refines.{plain}
 use Rattle.node.specs.InPlace.{unlessRefused}
 
 -- what start is given, from its arguments
-abbrev pub startOf : ℕ → FeatureFlags → ℕ → ℕ → Dictionary → Thresholds → List WatchedNode → Start
-startOf n f t c o ts ws = record { node = n; flags = f .0; timeout = t; capacity = c; od = o; thresholds = ts; watched = ws }
+abbrev pub startOf : ℕ → FeatureFlags → ℕ → ℕ → Dictionary → Thresholds → Run → Start
+startOf n f t c o ts r = record { node = n; flags = f .0; timeout = t; capacity = c; od = o; thresholds = ts; watched = r }
 
 -- what start answers, with the head that its words stand for
 abbrev pub begunBy : CallAnswer → Head → List ℕ → List ℕ → Begun
@@ -58,17 +57,18 @@ freshHead n f t c o ts =
       od = o;
       queue = queue 0 0 c;
       history = errorHistory 0 0;
+      earliest = Nothing;
     }
 
--- Of start, whatever stands in the memory that will be lent: the plain start's head or number, and watched nodes.
-pub record Begins (s : Start) (a : CallAnswer) (h : Head) (l : List WatchedNode) : Type 0 where
+-- Of start, whatever stands in the memory that will be lent: the plain start's head or number, and run.
+pub record Begins (s : Start) (a : CallAnswer) (h : Head) (l : Run) : Type 0 where
   pub begun : (q m : List ℕ) → begunBy a h q m ≡ started s .begun
   pub lent : l ≡ started s .lent
 
--- all 58 words, from the arguments alone: those that no part names are 0
+-- all 60 words, from the arguments alone: those that no part names are 0
 unfoldable pub freshWords : NodeId → FeatureFlags → ℕ → ℕ → Dictionary → Thresholds → List ℕ
 freshWords n f t c o ts =
-    set (odWritten (thresholdsWritten (identityWritten (nmtWritten (replicate 58 0) (Nmt.newMachine n f t)) (Nmt.newMachine n f t)) (newCounters ts)) o)
+    set (odWritten (thresholdsWritten (identityWritten (nmtWritten (replicate 60 0) (Nmt.newMachine n f t)) (Nmt.newMachine n f t)) (newCounters ts)) o)
     at.capacity c
 
 -- the last-heard words of the first so many nodes are 0
@@ -81,24 +81,24 @@ abbrev pub startAnswer : ℕ → ℕ → Bool → Thresholds → CallAnswer
 startAnswer n c formed ts =
     tried (must (isNode n) NodeNumber ∷ must (leb c 32) QueueCapacity ∷ must formed WatchedNodes ∷ must (thresholdsFit ts) ThresholdLimit ∷ []) answer.Refused answer.Taken
 
--- the nodes that start leaves
-abbrev pub startLeft : CallAnswer → List WatchedNode → List WatchedNode
-startLeft answer.Taken vs = unheard vs
-startLeft (answer.Refused r) vs = vs
+-- the run that start leaves
+abbrev pub startLeft : CallAnswer → Run → Run
+startLeft answer.Taken r = changing unheard r
+startLeft (answer.Refused x) r = r
 
--- Of start on the words ws and the nodes vs, which answered a and left the words ws′ and the nodes vs′: the plain start's head or number and nodes, and
+-- Of start on the words ws and the run r, which answered a and left the words ws′ and the run r′: the plain start's head or number and run, and
 -- every word of the head.
-pub record StartedOn (ws : List ℕ) (vs : List WatchedNode) (n : ℕ) (f : FeatureFlags) (t c : ℕ) (o : Dictionary) (ts : Thresholds) (a : CallAnswer) (ws′ : List ℕ) (vs′ : List WatchedNode) : Type 0 where
-  pub begins : Begins (startOf n f t c o ts vs) a (headOf ws′) vs′
+pub record StartedOn (ws : List ℕ) (r : Run) (n : ℕ) (f : FeatureFlags) (t c : ℕ) (o : Dictionary) (ts : Thresholds) (a : CallAnswer) (ws′ : List ℕ) (r′ : Run) : Type 0 where
+  pub begins : Begins (startOf n f t c o ts r) a (headOf ws′) r′
   pub places : FreshPlaces a (headOf ws′) c
   pub words : ws′ ≡ unlessRefused a ws (freshWords (node n) f t c o ts)
 
 -- The same of nodes in the words ns, of which the first k are watched; and every word of theirs.
 pub record StartedIn (ws ns : List ℕ) (k n : ℕ) (f : FeatureFlags) (t c : ℕ) (o : Dictionary) (ts : Thresholds) (a : CallAnswer) (ws′ ns′ : List ℕ) : Type 0 where
-  pub on : StartedOn ws (watchedOf (nodesOf ns) k) n f t c o ts a ws′ (watchedOf (nodesOf ns′) k)
+  pub on : StartedOn ws (run (nodesOf ns) k) n f t c o ts a ws′ (run (nodesOf ns′) k)
   pub nodes : ns′ ≡ unlessRefused a ns (unheardWords k ns)
 
--- Of start without the nodes, whose form it need not know: what it answers, and what start leaves of any nodes that pass number 3 or don't, as was said.
+-- Of start without the run, whose form it need not know: what it answers, and what start leaves of any run that passes number 3 or doesn't, as was said.
 pub record BeginsBy (ws : List ℕ) (n : ℕ) (f : FeatureFlags) (t c : ℕ) (o : Dictionary) (ts : Thresholds) (formed : Bool) (a : CallAnswer) (ws′ : List ℕ) : Type 0 where
   pub answer : a ≡ startAnswer n c formed ts
-  pub on : (vs : List WatchedNode) → formed ≡ wellFormed vs → (l : List WatchedNode) → l ≡ startLeft a vs → StartedOn ws vs n f t c o ts a ws′ l
+  pub on : (r : Run) → formed ≡ wellLent r → (l : Run) → l ≡ startLeft a r → StartedOn ws r n f t c o ts a ws′ l

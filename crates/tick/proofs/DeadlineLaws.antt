@@ -149,7 +149,7 @@ loses h a e =
     record {
       head = (
         λ q m i.
-            plainOf (h .nmt) (e i .state) (h .errors) (h .soc) (h .od) (capacityOf (h .queue)) (waiting q (h .queue)) (history m (h .history)),
+            plainOf (h .nmt) (e i .state) (h .errors) (h .soc) (h .od) (capacityOf (h .queue)) (waiting q (h .queue)) (history m (h .history)) (h .earliest),
         record { queue = refl; history = refl },
       );
       errors = λ q m. ap (λ (o : Dll.CsOutcome). o .errors) e;

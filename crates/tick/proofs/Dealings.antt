@@ -47,7 +47,7 @@ use Rattle.heartbeats.specs.PartsIn.{Turns, dealtOf, FinishesIn, TicksIn}
 use Rattle.tick.proofs.Turning.{counter1-turns, entry-read}
 
 -- the entry of a crossing
-module _ (ws : List ℕ) (long : length ws ≡ 58) where
+module _ (ws : List ℕ) (long : length ws ≡ 60) where
   abbrev P : Pushed
   P = pushed (queueOf ws)
 
@@ -57,7 +57,7 @@ module _ (ws : List ℕ) (long : length ws ≡ 58) where
   abbrev joinedHead : ℕ → Pushed → ErrorHistory → Head
   joinedHead n p k =
       ofParts (headOf ws .nmt) (headOf ws .dll) (headOf ws .errors) (headOf ws .soc)
-      (statistics (odOf ws) (odOf ws .«counter_1») n (odOf ws .«counter_3»)) (p .queue) k
+      (statistics (odOf ws) (odOf ws .«counter_1») n (odOf ws .«counter_3»)) (p .queue) k (headOf ws .earliest)
 
   joined-written : headOf (historyWritten (queueWritten (count2 ws) (P .queue)) K) ≡ joinedHead (oneMore (word ws at.counter2)) P K
   unfolding pushed joined
@@ -72,7 +72,7 @@ module _ (ws : List ℕ) (long : length ws ≡ 58) where
       entry-read ws long _ _ _ _ _
       ∙ (λ i.
       ofParts (headOf ws .nmt) (headOf ws .dll) (headOf ws .errors) (headOf ws .soc)
-      (statistics (odOf ws) (odOf ws .«counter_1») (oneMore (word ws at.counter2)) (odOf ws .«counter_3»)) (queue (o i) (l i) (sym c i)) (errorHistory (x i) (y i)))
+      (statistics (odOf ws) (odOf ws .«counter_1») (oneMore (word ws at.counter2)) (odOf ws .«counter_3»)) (queue (o i) (l i) (sym c i)) (errorHistory (x i) (y i)) (headOf ws .earliest))
 
   module _ (q m q′ : List ℕ) (e : ErrorEntry) (p : Pushed) (a : p ≡ P) (b : q′ ≡ pushedBytes q (queueOf ws) e) where
     -- the contract
@@ -125,7 +125,7 @@ module _ (ws : List ℕ) (long : length ws ≡ 58) where
         (z .0, z .1, w ∙ sym (ap entered (keeps false y)))
 
 -- one error of the SoC check
-module _ (ws : List ℕ) (long : length ws ≡ 58) (q m : List ℕ) (e : DllError) (t : ℕ) (quiet : isQuiet e ≡ true) (r : ErrorTaken) (same : r ≡ replied (handled (errorsOf ws) e)) (ws₁ : List ℕ) (there : ws₁ ≡ effectWords ws (effect e)) (long₁ : length ws₁ ≡ 58) (ws₂ : List ℕ) (count : ws₂ ≡ set ws₁ at.counter1 (oneMore (word ws₁ at.counter1))) (a : Bool) (z : a ≡ acts (r .action)) (f : Dealt) (ws′ : List ℕ) where
+module _ (ws : List ℕ) (long : length ws ≡ 60) (q m : List ℕ) (e : DllError) (t : ℕ) (quiet : isQuiet e ≡ true) (r : ErrorTaken) (same : r ≡ replied (handled (errorsOf ws) e)) (ws₁ : List ℕ) (there : ws₁ ≡ effectWords ws (effect e)) (long₁ : length ws₁ ≡ 60) (ws₂ : List ℕ) (count : ws₂ ≡ set ws₁ at.counter1 (oneMore (word ws₁ at.counter1))) (a : Bool) (z : a ≡ acts (r .action)) (f : Dealt) (ws′ : List ℕ) where
   abbrev R : HandledError
   R = handled (errorsOf ws) e
 

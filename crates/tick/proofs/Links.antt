@@ -2,7 +2,7 @@
 -- Assumes nothing.
 use denote.Ref.{now}
 use Rattle.head.specs.Words.{headOf}
-use Rattle.watched.specs.Watched.{watchedOf}
+use Rattle.watched.specs.Watched.{run}
 use Rattle.node.specs.Plain.{Call}
 use Rattle.node.specs.Refines.{Refines, left}
 use Rattle.watched.specs.Nodes.{nodesOf}
@@ -15,8 +15,8 @@ pub process-tick-refines :
     (κs : _) (a : _) (o : TickAnswer) (x : _) →
     process-tick-reads.Learnt κs a o x →
     Refines (headOf (now (a .0))) (now (a .1 .0)) (now (a .1 .1 .0))
-    (Call.tick (a .1 .1 .1 .1 .1 .0) (watchedOf (nodesOf (now (a .1 .1 .1 .0))) (a .1 .1 .1 .1 .0)))
-    (left (headOf (now (x .0))) (tickSaid o)) (now (x .1 .0)) (now (x .1 .1 .0)) (watchedOf (nodesOf (now (x .1 .1 .1 .0))) (a .1 .1 .1 .1 .0))
+    (Call.tick (a .1 .1 .1 .1 .1 .0) (run (nodesOf (now (a .1 .1 .1 .0))) (a .1 .1 .1 .1 .0)))
+    (left (headOf (now (x .0))) (tickSaid o)) (now (x .1 .0)) (now (x .1 .1 .0)) (run (nodesOf (now (x .1 .1 .1 .0))) (a .1 .1 .1 .1 .0))
 process-tick-refines κs a o x e = e .on .refines
 
 pub asks-nothing : (κs : _) (a : _) → process-tick-reads.Asked κs a

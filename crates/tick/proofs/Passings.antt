@@ -35,7 +35,7 @@ abbrev pub on : Dealt
 on = record { logged = errors.None; ended = false }
 
 pub loses-in :
-    (ws : List ℕ) (long : length ws ≡ 58) (a : DllAnswer) →
+    (ws : List ℕ) (long : length ws ≡ 60) (a : DllAnswer) →
     Dll.csOutcome a ≡ Dll.csProcessed (dllState (word ws at.dll)) SocTimeout (stateOf (word ws at.state)) true →
     (ws′ : List ℕ) →
     ws′ ≡ set ws at.dll (Dll.csStateNumber (a .machine .state)) →

@@ -72,7 +72,7 @@ module _ (h : Head) (q m q′ : List ℕ) (e : ErrorEntry) (p : Pushed) (a : p �
       (c : ℕ) →
       c ≡ oneMore (h .od .«counter_2») →
       Queues
-      (ofParts (h .nmt) (h .dll) (h .errors) (h .soc) (statistics (h .od) (h .od .«counter_1») c (h .od .«counter_3»)) (p .queue) k) m′
+      (ofParts (h .nmt) (h .dll) (h .errors) (h .soc) (statistics (h .od) (h .od .«counter_1») c (h .od .«counter_3»)) (p .queue) k (h .earliest)) m′
   unfolding queued joins
   entry-kept lq lm f y k m′ j c d =
       let t : pushed (h .queue) .kept ≡ true = sym (ap (λ (p : Pushed). p .kept) a) ∙ y in
@@ -84,7 +84,7 @@ module _ (h : Head) (q m q′ : List ℕ) (e : ErrorEntry) (p : Pushed) (a : p �
       let past : history m′ k ≡ take 254 (e ∷ history m (h .history)) =
       ap₂ history (j .1) (j .0) ∙ history-joined m (h .history) e lm f in (
         (λ i.
-            plainOf (h .nmt) (h .dll .state) (h .errors) (h .soc) (statistics (h .od) (h .od .«counter_1») (d i) (h .od .«counter_3»)) (cap i) (waits i) (past i))
+            plainOf (h .nmt) (h .dll .state) (h .errors) (h .soc) (statistics (h .od) (h .od .«counter_1») (d i) (h .od .«counter_3»)) (cap i) (waits i) (past i) (h .earliest))
             ∙ sym (ap choice (sym has-room ∙ y)),
         (λ i. record { queue = a i .queue; queueBytes = b i; history = j .0 i; historyBytes = j .1 i })
             ∙ sym (ap (λ (b : Bool). pick b (record { queue = pushed (h .queue) .queue; queueBytes = pushedBytes q (h .queue) e; history = joined (h .history); historyBytes = joinedBytes m (h .history) e }) (rings h q m)) t),
@@ -96,14 +96,14 @@ module _ (h : Head) (q m q′ : List ℕ) (e : ErrorEntry) (p : Pushed) (a : p �
       (c : ℕ) →
       c ≡ oneMore (h .od .«counter_3») →
       Queues
-      (ofParts (h .nmt) (h .dll) (h .errors) (h .soc) (statistics (h .od) (h .od .«counter_1») (h .od .«counter_2») c) (h .queue) (h .history)) m
+      (ofParts (h .nmt) (h .dll) (h .errors) (h .soc) (statistics (h .od) (h .od .«counter_1») (h .od .«counter_2») c) (h .queue) (h .history) (h .earliest)) m
   unfolding queued joins
   entry-dropped lq y c d =
       let t : pushed (h .queue) .kept ≡ false = sym (ap (λ (p : Pushed). p .kept) a) ∙ y in
       let bytes : q′ ≡ q = b ∙ dropped-bytes q (h .queue) e t in (
         (λ i.
             plainOf (h .nmt) (h .dll .state) (h .errors) (h .soc) (statistics (h .od) (h .od .«counter_1») (h .od .«counter_2») (d i)) (capacityOf (h .queue))
-            (waiting (bytes i) (h .queue)) (history m (h .history)))
+            (waiting (bytes i) (h .queue)) (history m (h .history)) (h .earliest))
             ∙ sym (ap choice (sym has-room ∙ y)),
         (λ i. record { queue = h .queue; queueBytes = bytes i; history = h .history; historyBytes = m })
             ∙ sym (ap (λ (b : Bool). pick b (record { queue = pushed (h .queue) .queue; queueBytes = pushedBytes q (h .queue) e; history = joined (h .history); historyBytes = joinedBytes m (h .history) e }) (rings h q m)) t),

@@ -8,11 +8,11 @@ use Rattle.types.specs.Pick.{pick}
 use Rattle.types.specs.Errors.{reported}
 use Rattle.types.specs.declared.frame.error.types.DllError.{DllError}
 use Rattle.entries.specs.declared.status_response.ErrorEntry.{ErrorEntry}
-use Rattle.head.specs.Head.{Head}
+use Rattle.head.specs.Head.{Head, with-earliest}
 use Rattle.watched.specs.declared.nodes.WatchedNode.{WatchedNode}
-use Rattle.watched.specs.Watched.{inTime, allOf, wellFormed}
+use Rattle.watched.specs.Watched.{inTime, allOf, Run, watching, wellLent, changing}
 use Rattle.node.specs.Plain.{Plain, tick, Answer, refused, tickAnswer, Step}
-use Rattle.node.specs.Steps.{declines}
+use Rattle.node.specs.Steps.{earliest, upToDate, declines}
 use Rattle.node.specs.Tick.{Ticked, goesOn, behind, checksHeartbeats, notBefore, looked, lateOnes, beat, beatAll, timeoutOf, byDeadline, tickTaken, tickAnswered, lookedAt}
 use Rattle.node.specs.Run.{step}
 use Rattle.node.specs.Refines.{plain, left, rings, joinsAll, Refines}
@@ -109,45 +109,46 @@ module _ (h : Head) (q m : List ℕ) (t : ℕ) (ws : List WatchedNode) where
                 ∙ ap (joinsAll (rings h q m)) (sym (ap (λ (l : List ErrorEntry). l ++ rest (b₀ .head) .crossings) (beats-no-entry p late)));
           })
 
--- the tick as a call: numbers 3, 5 and 6, and what is taken, whatever form the nodes vs have
-module _ (h : Head) (q m : List ℕ) (vs : List WatchedNode) (t : ℕ) where
+-- the tick as a call: numbers 3, 5 and 6, and what is taken, whatever form the run has
+module _ (h : Head) (q m : List ℕ) (r : Run) (t : ℕ) where
   abbrev p₀ : Plain
   p₀ = plain h q m
 
-  -- what a tick owes of the plain tick, where it answered a and left the head g, its memory, and the nodes l
-  abbrev pub TickLeft : Answer → Head → List ℕ → List ℕ → List WatchedNode → Type 0
+  -- what a tick owes of the plain tick, where it answered a and left the head g, its memory, and the run l
+  abbrev pub TickLeft : Answer → Head → List ℕ → List ℕ → Run → Type 0
   TickLeft a g q′ m′ l =
-      Refines h q m (tick t vs) (left g a) q′ m′ l × (rings g q′ m′ ≡ joinsAll (rings h q m) (step p₀ (tick t vs) .crossings))
+      Refines h q m (tick t r) (left g a) q′ m′ l × (rings g q′ m′ ≡ joinsAll (rings h q m) (step p₀ (tick t r) .crossings))
 
-  tick-declined : (x : ℕ) → step p₀ (tick t vs) ≡ declines p₀ vs x → TickLeft (refused x) h q m vs
+  tick-declined : (x : ℕ) → step p₀ (tick t r) ≡ declines p₀ r x → TickLeft (refused x) h q m r
   tick-declined x s = (
-    refined h q m (tick t vs) _ q m vs (declines p₀ vs x) s refl refl refl,
+    refined h q m (tick t r) _ q m r (declines p₀ r x) s refl refl refl,
     sym (ap (λ (k : Step). joinsAll (rings h q m) (k .crossings)) s),
   )
 
-  pub tick-unformed : wellFormed vs ≡ false → TickLeft (refused 3) h q m vs
+  pub tick-unformed : wellLent r ≡ false → TickLeft (refused 3) h q m r
   tick-unformed a = tick-declined 3 (rw a)
 
-  pub tick-late : wellFormed vs ≡ true → inTime t ≡ false → TickLeft (refused 5) h q m vs
+  pub tick-late : wellLent r ≡ true → inTime t ≡ false → TickLeft (refused 5) h q m r
   tick-late a b = tick-declined 5 (rw (a, b))
 
-  module _ (a : wellFormed vs ≡ true) (b : inTime t ≡ true) where
+  module _ (a : wellLent r ≡ true) (b : inTime t ≡ true) where
     abbrev checks : Bool
     checks = checksHeartbeats (h .nmt .«current_state»)
 
-    pub tick-before : pick checks (allOf (notBefore t) vs) true ≡ false → TickLeft (refused 6) h q m vs
+    pub tick-before : pick checks (allOf (notBefore t) (watching r)) true ≡ false → TickLeft (refused 6) h q m r
     tick-before d = tick-declined 6 (rw (a, b, d))
 
     -- from the phases, and the look at the nodes
     pub tick-accepted :
-        pick checks (allOf (notBefore t) vs) true ≡ true →
+        pick checks (allOf (notBefore t) (watching r)) true ≡ true →
         (d : PartLeft) (q′ m′ : List ℕ) →
-        Ticks h q m (tickTaken p₀ t vs) d q′ m′ →
-        (l : List WatchedNode) →
-        l ≡ pick checks (map (looked t) vs) vs →
-        TickLeft (tickAnswer (reported (d .logged))) (d .head) q′ m′ l
+        Ticks h q m (tickTaken p₀ t (watching r)) d q′ m′ →
+        (l : Run) →
+        l ≡ pick checks (changing (map (looked t)) r) r →
+        TickLeft (tickAnswer (reported (d .logged))) (with-earliest (d .head) (earliest (watching l))) q′ m′ l
     tick-accepted f d q′ m′ w l n =
-        let s : step p₀ (tick t vs) ≡ tickAnswered (tickTaken p₀ t vs) (lookedAt p₀ t vs) = rw (a, b, f) in (
-          refined h q m (tick t vs) _ q′ m′ l (tickAnswered (tickTaken p₀ t vs) (lookedAt p₀ t vs)) s (w .head) (ap tickAnswer (w .logged)) n,
+        let s : step p₀ (tick t r) ≡ tickAnswered (tickTaken p₀ t (watching r)) (lookedAt p₀ t r) = rw (a, b, f) in (
+          refined h q m (tick t r) _ q′ m′ l (tickAnswered (tickTaken p₀ t (watching r)) (lookedAt p₀ t r)) s
+              (λ i. upToDate (w .head i) (n i)) (ap tickAnswer (w .logged)) n,
           w .joined ∙ sym (ap (λ (k : Step). joinsAll (rings h q m) (k .crossings)) s),
         )

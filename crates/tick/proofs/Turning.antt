@@ -46,9 +46,9 @@ abbrev EntryRead : ℕ → ℕ → ℕ → ℕ → ℕ → List ℕ → Type 0
 EntryRead n o l a b ws =
     headOf (set (set (set (set (set ws at.counter2 n) at.oldest o) at.queued l) at.newest a) at.count b)
     ≡ ofParts (headOf ws .nmt) (headOf ws .dll) (headOf ws .errors) (headOf ws .soc)
-    (statistics (odOf ws) (odOf ws .«counter_1») n (odOf ws .«counter_3»)) (queue (o % 256) (l % 256) (word ws at.capacity % 256)) (errorHistory (a % 256) (b % 256))
+    (statistics (odOf ws) (odOf ws .«counter_1») n (odOf ws .«counter_3»)) (queue (o % 256) (l % 256) (word ws at.capacity % 256)) (errorHistory (a % 256) (b % 256)) (headOf ws .earliest)
 
-module _ (ws : List ℕ) (long : length ws ≡ 58) where
+module _ (ws : List ℕ) (long : length ws ≡ 60) where
   off-read : OffRead ws
   unfolding headOf
   off-read = whole OffRead ws long refl

@@ -10,7 +10,7 @@ use Rattle.types.specs.declared.nmt.flags.FeatureFlags.{FeatureFlags}
 use Rattle.counters.specs.declared.counters.Thresholds.{Thresholds}
 use Rattle.head.specs.declared.state.Dictionary.{Dictionary}
 use Rattle.head.specs.Words.{headOf}
-use Rattle.watched.specs.declared.nodes.WatchedNode.{WatchedNode}
+use Rattle.watched.specs.Watched.{Run}
 use Rattle.node.specs.declared.calls.CallAnswer.{CallAnswer}
 use Rattle.node.specs.declared.calls.CallAnswer.the-variants as answer
 use Rattle.node.specs.Plain.{Call, Start, declined}
@@ -18,6 +18,7 @@ use Rattle.node.specs.Steps.{started}
 use Rattle.node.specs.Run.{Said}
 use Rattle.node.specs.Refines.{plain, Refines, left}
 use Rattle.node.proofs.Links as Links
+use Rattle.partners.proofs.Links as partners-links
 use Rattle.start.specs.Started.{Begins, StartedOn}
 use Rattle.start.proofs.start.start.Reads as start-reads
 use Rattle.start.proofs.Links.{start-begins, start-leaves}
@@ -28,23 +29,27 @@ use Rattle.trace.proofs.Follows.{Follows, finished, declined-lent, foll
 
 -- what a contract in src/ ensures is `Refines`
 pub refines :
-    {ws q m ns ws′ q′ m′ ns′ : List ℕ} {k : ℕ} {c : Call} {s : Said} →
-    Made ws q m ns k c s ws′ q′ m′ ns′ →
+    {ws q m ns ws′ q′ m′ ns′ : List ℕ} {k k′ : ℕ} {c : Call} {s : Said} →
+    Made ws q m ns k c s ws′ q′ m′ ns′ k′ →
     Refines (headOf ws) q m c (left (headOf ws′) (s .answer)) q′ m′ (s .lent)
 refines {q = q} {m = m} (Made.nmtEvent κs a o x e) = Links.nmt-event-refines κs a o x e q m
 refines {q = q} {m = m} (Made.dllEvent κs a o x e) = Links.dll-event-refines κs a o x e q m
 refines {q = q} {m = m} (Made.error κs a o x e) = Links.handle-error-refines κs a o x e q m
 refines {q = q} {m = m} (Made.cycleComplete κs a o x e) = Links.on-cycle-complete-refines κs a o x e q m
 refines {q = q} {m = m} (Made.withdraw κs a o x e) = Links.withdraw-refines κs a o x e q m
-refines {ws = ws} {q = q} {m = m} (Made.heard κs a o x e) = Links.heard-refines κs a o x e (headOf ws) q m
-refines {ws = ws} {q = q} {m = m} (Made.heardRun vs n t o vs′ e) = e (headOf ws) q m
+refines {q = q} {m = m} (Made.heard κs a o x e) = Links.heard-refines κs a o x e q m
+refines {q = q} {m = m} (Made.heardRun r n t o r′ e) = e .refines q m
 refines {m = m} (Made.handOut κs a o x e) = Links.hand-out-refines κs a o x e m
 refines {q = q} (Made.load κs a o x e) = Links.load-refines κs a o x e q
 refines {q = q} {m = m} (Made.arm κs a o x e) = Links.arm-refines κs a o x e q m
 refines (Made.tick κs a o x e) = process-tick-refines κs a o x e
-refines (Made.tickRun vs t o vs′ e) = e .refines
+refines (Made.tickRun r t o r′ e) = e .refines
 refines {q = q} {m = m} (Made.range κs a o x e) = Links.soc-range-refines κs a o x e q m
 refines {q = q} {m = m} (Made.margin κs a o x e) = Links.soc-margin-refines κs a o x e q m
+refines {q = q} {m = m} (Made.add κs a o x e l l′) = partners-links.add-refines κs a o x e q m
+refines {q = q} {m = m} (Made.addRun r n t o r′ e) = e .refines q m
+refines {q = q} {m = m} (Made.remove κs a o x e l l′) = partners-links.remove-refines κs a o x e q m
+refines {q = q} {m = m} (Made.removeRun r n o r′ e) = e .refines q m
 
 pub follows :
     {ws ws′ q m q′ m′ : List ℕ} {cs : List Call} {ss : List Said} →
@@ -55,21 +60,21 @@ follows (next r d) = Follows.next (refines r) (follows d)
 
 -- one call more, at the end
 pub and-then :
-    {ws q m ws₁ q₁ m₁ ns ws′ q′ m′ ns′ : List ℕ} {k : ℕ} {cs : List Call} {ss : List Said} {c : Call} {s : Said} →
+    {ws q m ws₁ q₁ m₁ ns ws′ q′ m′ ns′ : List ℕ} {k k′ : ℕ} {cs : List Call} {ss : List Said} {c : Call} {s : Said} →
     Driven ws q m cs ss ws₁ q₁ m₁ →
-    Made ws₁ q₁ m₁ ns k c s ws′ q′ m′ ns′ →
+    Made ws₁ q₁ m₁ ns k c s ws′ q′ m′ ns′ k′ →
     Driven ws q m (cs ++ (c ∷ [])) (ss ++ (s ∷ [])) ws′ q′ m′
 and-then stop r = next r stop
 and-then (next f d) r = next f (and-then d r)
 
 -- what start's contract in src/ ensures is `Begins`
-pub begins : {s : Start} {o : CallAnswer} {l : List WatchedNode} {ws : List ℕ} → Began s o l ws → Begins s o (headOf ws) l
+pub begins : {s : Start} {o : CallAnswer} {l : Run} {ws : List ℕ} → Began s o l ws → Begins s o (headOf ws) l
 begins (Began.start κs a o x e) = start-begins κs a o x e
-begins (Began.startRun vs n f t c od ts o vs′ e) = e .begins
+begins (Began.startRun r n f t c od ts o r′ e) = e .begins
 
 -- from the words that start wrote, over any list of the calls
 pub demand-3 :
-    {s : Start} {l : List WatchedNode} {ws₀ ws q₀ m₀ q m : List ℕ} {cs : List Call} {ss : List Said} →
+    {s : Start} {l : Run} {ws₀ ws q₀ m₀ q m : List ℕ} {cs : List Call} {ss : List Said} →
     Began s answer.Taken l ws₀ →
     Driven ws₀ q₀ m₀ cs ss ws q m →
     Claim s cs ss (headOf ws) q m
@@ -78,7 +83,7 @@ demand-3 {s = s} {ws₀ = ws₀} {q₀ = q₀} {m₀ = m₀} b d =
 
 -- a start that is declined has no list: its number is the plain start's, and what was lent is unchanged
 pub start-declined :
-    {s : Start} {r : Refusal} {l : List WatchedNode} {ws : List ℕ} →
+    {s : Start} {r : Refusal} {l : Run} {ws : List ℕ} →
     Began s (answer.Refused r) l ws →
     (declined (refusalNumber r) ≡ started s .begun) × (l ≡ s .watched)
 start-declined {s = s} {r = r} b =
@@ -90,10 +95,10 @@ pub start-declined-words :
 start-declined-words κs a r x e = (e .on .words, start-leaves κs a (answer.Refused r) x e)
 
 pub start-declined-run :
-    {ws ws′ : List ℕ} {vs vs′ : List WatchedNode} {n t c : ℕ} {f : FeatureFlags} {od : Dictionary} {ts : Thresholds} {r : Refusal} →
-    StartedOn ws vs n f t c od ts (answer.Refused r) ws′ vs′ → ws′ ≡ ws
+    {ws ws′ : List ℕ} {l l′ : Run} {n t c : ℕ} {f : FeatureFlags} {od : Dictionary} {ts : Thresholds} {r : Refusal} →
+    StartedOn ws l n f t c od ts (answer.Refused r) ws′ l′ → ws′ ≡ ws
 start-declined-run e = e .words
 
 -- what was lent to start is left as the plain start leaves it
-pub start-lent : {s : Start} {o : CallAnswer} {l : List WatchedNode} {ws : List ℕ} → Began s o l ws → l ≡ started s .lent
+pub start-lent : {s : Start} {o : CallAnswer} {l : Run} {ws : List ℕ} → Began s o l ws → l ≡ started s .lent
 start-lent b = begins b .lent

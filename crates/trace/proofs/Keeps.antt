@@ -13,9 +13,11 @@ use Rattle.counters.specs.declared.counters.CounterKind.{CounterKind}
 use Rattle.counters.specs.declared.counters.Thresholds.{Thresholds}
 use Rattle.counters.proofs.ByKind.{counter-new, limited}
 use Rattle.counters.proofs.Balance.{Balanced, balanced-none, balanced-then, FromZero, from-zero, count-append}
+use Rattle.head.specs.declared.state.Deadline.the-variants.{Nothing}
 use Rattle.head.specs.Head.{Head}
+use Rattle.watched.specs.Watched.{watching}
 use Rattle.node.specs.Plain.{Plain, Call, Start, Step}
-use Rattle.node.specs.Steps.{fresh}
+use Rattle.node.specs.Steps.{earliest, fresh, started}
 use Rattle.node.specs.Run.{step, stepAll, Said, saidAll}
 use Rattle.node.specs.Refines.{plain}
 use Rattle.trace.specs.Tally.{Tally, noted, nothing, tally, droppedBy, loadsCounter3}
@@ -23,6 +25,7 @@ use Rattle.trace.specs.Claim.{Merge, empty, Each, tallied, Claim}
 use Rattle.trace.proofs.Modes.{mode, mode-word, mode-enabled, mode-ready}
 use Rattle.trace.proofs.Visits.{enabled-before, word-before}
 use Rattle.trace.proofs.Queues.{merge-queued}
+use Rattle.trace.proofs.Earliest.{moment-all}
 use Rattle.counters.proofs.Counts.{Rises, rises-none, rises-then, Count, occurrence-count, crossing-count}
 use Rattle.trace.proofs.Shares.{Shares, shares, rule}
 
@@ -101,11 +104,12 @@ each p (c ∷ cs) = (rule p c, each (step p c .head) cs)
 pub claimed :
     (s : Start) (cs : List Call) (says : List Said) (h : Head) (q m : List ℕ) →
     thresholdsFit (s .thresholds) ≡ true →
+    earliest (watching (started s .lent)) ≡ Nothing →
     plain h q m ≡ stepAll (fresh s) cs →
     says ≡ saidAll (fresh s) cs →
     Claim s cs says h q m
-unfolding occurrence-count crossing-count
-claimed s cs says h q m limit alike answered =
+unfolding occurrence-count crossing-count fresh
+claimed s cs says h q m limit unheard alike answered =
     let k : Kept (s .od .«counter_3») (s .thresholds) (plain h q m) (tallied s cs) =
     subst (λ (p : Plain). Kept (s .od .«counter_3») (s .thresholds) p (tallied s cs)) (sym alike)
     (keeps-all (s .od .«counter_3») (s .thresholds) (fresh s) nothing cs (starts s))
@@ -139,4 +143,5 @@ claimed s cs says h q m limit alike answered =
       entries = k .entries;
       each = each (fresh s) cs;
       lost = k .lost;
+      moment = ap (λ (p : Plain). p .earliest) alike ∙ moment-all (fresh s) cs (started s .lent) (sym unheard);
     }

@@ -2,6 +2,7 @@ pub mod Modes
 pub mod Queues
 pub mod Ticking
 pub mod Shares
+pub mod Earliest
 pub mod Moves
 pub mod Visits
 pub mod Keeps
@@ -11,4 +12,5 @@ pub mod Corollaries
 pub mod Declines
 pub mod Unmoved
 pub mod Watch
+pub mod Independent
 pub mod Worked

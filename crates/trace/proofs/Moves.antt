@@ -3,7 +3,6 @@
 use Prim.Native.Nat.{ℕ}
 use mathlib.Core.Path.{_≡_, refl, sym, subst}
 use mathlib.Core.Bool.{Bool, true, false, not}
-use mathlib.Core.List.{List, [], _∷_}
 use Rattle.types.specs.Pick.{pick}
 use Rattle.types.specs.States.{sameState}
 use Rattle.types.specs.Events.{readEvent}
@@ -20,14 +19,14 @@ use Rattle.types.specs.declared.frame.error.types.DllErrorRead.the-variants as 
 use Rattle.nmt.specs.Resets.{isReset}
 use Rattle.nmt.specs.Nmt.{processed}
 use Rattle.nmt.specs.declared.cn_state_machine.CnNmtStateMachine.{CnNmtStateMachine}
-use Rattle.watched.specs.Watched.{inTime, heardAt}
-use Rattle.node.specs.Plain.{Plain, Call, nmtEvent, dllEvent, error, cycleComplete, withdraw, heard, handOut, load, arm, tick, range, margin, taken, rangeAnswer, marginAnswer, EventMade, made, noEvent, Step}
-use Rattle.node.specs.Steps.{answers, declines, withNmt, withSoc, forgets, nmtStep, dllStep, errorStep, withdrawn, heardTests, armTests, armed}
+use Rattle.watched.specs.Watched.{inTime, heardAt, watching, changing}
+use Rattle.node.specs.Plain.{Plain, Call, nmtEvent, dllEvent, error, cycleComplete, withdraw, heard, handOut, load, arm, tick, range, margin, add, remove, taken, rangeAnswer, marginAnswer, EventMade, made, noEvent, Step}
+use Rattle.node.specs.Steps.{noRun, answers, declines, withNmt, withSoc, forgets, nmtStep, dllStep, errorStep, withdrawn, heardTests, addTests, removeTests, added, removed, armTests, armed}
 use Rattle.node.specs.Tick.{tickTests, tickTaken, tickAnswered, lookedAt}
 use Rattle.node.specs.Range.{rangeTests, marginTests, verdictOf, marginOf}
 use Rattle.node.specs.Run.{step}
 use Rattle.trace.proofs.Ticking.{InTick, tick-part}
-use Rattle.trace.proofs.Shares.{tried-by}
+use Rattle.trace.proofs.Shares.{tried-by, Leaves, stays, goes, run-call}
 
 -- of a call c on the head p, the event that it made and the machine after it
 pub data Moves (p : Plain) (c : Call) : EventMade → CnNmtStateMachine → Type 0 where
@@ -56,9 +55,13 @@ error-moves : (p : Plain) (k a b : ℕ) (r : DllErrorRead) → MovesTo p (error 
 error-moves p k a b (error-read.Taken e) = same
 error-moves p k a b (error-read.Refused r) = same
 
-withdraw-moves : (p : Plain) (b : Bool) → MovesTo p withdraw (pick b (answers (withNmt p (withdrawn (p .nmt))) taken []) (declines p [] 8))
+withdraw-moves : (p : Plain) (b : Bool) → MovesTo p withdraw (pick b (answers (withNmt p (withdrawn (p .nmt))) taken noRun) (declines p noRun 8))
 withdraw-moves p true = takes-back
 withdraw-moves p false = same
+
+run-moves : (p : Plain) (c : Call) {t : Step} → Leaves p t → MovesTo p c t
+run-moves p c (stays r n) = same
+run-moves p c (goes r) = same
 
 pub moves : (p : Plain) (c : Call) → MovesTo p c (step p c)
 moves p (nmtEvent n) = nmt-moves p n (readEvent n) refl
@@ -66,15 +69,17 @@ moves p (dllEvent n x) = dll-moves p n x (readCsEvent n)
 moves p (error k a b) = error-moves p k a b (readError k a b)
 moves p cycleComplete = same
 moves p withdraw = withdraw-moves p (not (sameState (p .nmt .«current_state») NmtReadyToOperate))
-moves p (heard n t ws) = tried-by (MovesTo p (heard n t ws)) (heardTests n t ws) (declines p ws) (answers p taken (heardAt n t ws)) (λ r. same) same
+moves p (heard n t r) = run-moves p (heard n t r) (run-call p (heardTests n t r) r (changing (heardAt n t) r))
 moves p handOut = same
 moves p (load v h) = same
 moves p (arm t) =
-    tried-by (MovesTo p (arm t)) (armTests t) (declines p []) (answers (withSoc p (armed (p .soc) (p .od) t)) taken []) (λ r. same) same
-moves p (tick t ws) =
-    tried-by (MovesTo p (tick t ws)) (tickTests p t ws) (declines p ws) (tickAnswered (tickTaken p t ws) (lookedAt p t ws)) (λ r. same)
-    (ticks (tick-part p t ws .moves))
+    tried-by (MovesTo p (arm t)) (armTests t) (declines p noRun) (answers (withSoc p (armed (p .soc) (p .od) t)) taken noRun) (λ r. same) same
+moves p (tick t r) =
+    tried-by (MovesTo p (tick t r)) (tickTests p t r) (declines p r) (tickAnswered (tickTaken p t (watching r)) (lookedAt p t r)) (λ n. same)
+    (ticks (tick-part p t (watching r) .moves))
 moves p (range a b) =
-    tried-by (MovesTo p (range a b)) (rangeTests a b) (declines p []) (answers p (rangeAnswer (verdictOf p a b)) []) (λ r. same) same
+    tried-by (MovesTo p (range a b)) (rangeTests a b) (declines p noRun) (answers p (rangeAnswer (verdictOf p a b)) noRun) (λ r. same) same
 moves p (margin t) =
-    tried-by (MovesTo p (margin t)) (marginTests t) (declines p []) (answers p (marginAnswer (marginOf p t)) []) (λ r. same) same
+    tried-by (MovesTo p (margin t)) (marginTests t) (declines p noRun) (answers p (marginAnswer (marginOf p t)) noRun) (λ r. same) same
+moves p (add n o r) = run-moves p (add n o r) (run-call p (addTests n o r) r (added n o r))
+moves p (remove n r) = run-moves p (remove n r) (run-call p (removeTests n r) r (removed n r))

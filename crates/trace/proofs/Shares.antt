@@ -30,10 +30,9 @@ use Rattle.entries.specs.declared.status_response.FoundEntry.the-variants.{None
 use Rattle.node.specs.declared.load.CounterUpdate.{CounterUpdate}
 use Rattle.node.specs.declared.load.CounterUpdate.the-variants.{Set, Keep}
 use Rattle.node.specs.declared.load.DictionaryUpdate.{DictionaryUpdate}
-use Rattle.watched.specs.declared.nodes.WatchedNode.{WatchedNode}
-use Rattle.watched.specs.Watched.{heardAt}
-use Rattle.node.specs.Plain.{Plain, HistoryUpdate, Call, nmtEvent, dllEvent, error, cycleComplete, withdraw, heard, handOut, load, arm, tick, range, margin, Answer, taken, nmtAnswer, handOutAnswer, rangeAnswer, marginAnswer, made, Step}
-use Rattle.node.specs.Steps.{Test, tried, answers, declines, forgets, withNmt, withSoc, nmtStep, dllStep, errorStep, withdrawn, heardTests, updatedCounter, updated, armTests, armed}
+use Rattle.watched.specs.Watched.{heardAt, Run, watching, changing}
+use Rattle.node.specs.Plain.{Plain, HistoryUpdate, Call, nmtEvent, dllEvent, error, cycleComplete, withdraw, heard, handOut, load, arm, tick, range, margin, add, remove, Answer, taken, nmtAnswer, handOutAnswer, rangeAnswer, marginAnswer, made, Step}
+use Rattle.node.specs.Steps.{Test, tried, noRun, answers, declines, leaves, forgets, withNmt, withSoc, nmtStep, dllStep, errorStep, withdrawn, heardTests, addTests, removeTests, added, removed, updatedCounter, updated, armTests, armed}
 use Rattle.node.specs.Tick.{Ticked, tickTests, tickTaken, tickAnswered, lookedAt}
 use Rattle.node.specs.Range.{rangeTests, marginTests, verdictOf, marginOf}
 use Rattle.node.specs.Run.{step}
@@ -137,7 +136,7 @@ untouched p c t h m w e n =
     quiet p c t h (λ v g. ap₂ mode m (w v) ∙ g) (rw (e, n) (counting-none (p .errors)))
 
 -- a declined call
-declined : (p : Plain) (c : Call) (l : List WatchedNode) (r : ℕ) → ((w : Told) → toldAt p c (declines p l r) w ≡ w) → Shares p c (declines p l r)
+declined : (p : Plain) (c : Call) (l : Run) (r : ℕ) → ((w : Told) → toldAt p c (declines p l r) w ≡ w) → Shares p c (declines p l r)
 declined p c l r w =
     untouched p c (declines p l r) (record { queue = refl; crossings = refl; crossed = refl; handed = refl; lost = λ h. refl }) refl w refl refl
 
@@ -157,27 +156,27 @@ nmt-shares p n (event.Taken e) h = by (isReset e)
     by :
         (b : Bool) →
         Shares p (nmtEvent n)
-        (record { head = pick b (forgets (withNmt p (o .machine))) (withNmt p (o .machine)); answer = nmtAnswer (o .errors) (o .reset); lent = []; event = made e; marks = []; checked = []; crossings = [] })
+        (record { head = pick b (forgets (withNmt p (o .machine))) (withNmt p (o .machine)); answer = nmtAnswer (o .errors) (o .reset); lent = noRun; event = made e; marks = []; checked = []; crossings = [] })
     by true =
         quiet p (nmtEvent n) _ (record { queue = refl; crossings = refl; crossed = refl; handed = refl; lost = λ l. refl })
         (λ w g. mode-event (p .nmt) e w g) (counting-none (p .errors))
     by false =
         quiet p (nmtEvent n) _ (record { queue = refl; crossings = refl; crossed = refl; handed = refl; lost = λ l. refl })
         (λ w g. mode-event (p .nmt) e w g) (counting-none (p .errors))
-nmt-shares p n (event.Refused r) h = declined p (nmtEvent n) [] (refusalNumber r) (λ w. refl)
+nmt-shares p n (event.Refused r) h = declined p (nmtEvent n) noRun (refusalNumber r) (λ w. refl)
 
 dll-shares : (p : Plain) (n : ℕ) (x : Bool) (r : DllCsEventRead) → Shares p (dllEvent n x) (dllStep p x r)
 dll-shares p n x (cs-event.Taken e) =
     untouched p (dllEvent n x) (dllStep p x (cs-event.Taken e))
     (record { queue = refl; crossings = refl; crossed = refl; handed = refl; lost = λ l. refl }) refl (λ w. refl) refl refl
-dll-shares p n x (cs-event.Refused r) = declined p (dllEvent n x) [] (refusalNumber r) (λ w. refl)
+dll-shares p n x (cs-event.Refused r) = declined p (dllEvent n x) noRun (refusalNumber r) (λ w. refl)
 
 error-shares : (p : Plain) (k a b : ℕ) (r : DllErrorRead) → Shares p (error k a b) (errorStep p r)
 error-shares p k a b (error-read.Taken e) =
     quiet p (error k a b) (errorStep p (error-read.Taken e))
     (record { queue = refl; crossings = refl; crossed = refl; handed = refl; lost = λ l. refl }) (λ w g. g)
     (counting-handled (p .errors) e)
-error-shares p k a b (error-read.Refused r) = declined p (error k a b) [] (refusalNumber r) (λ w. refl)
+error-shares p k a b (error-read.Refused r) = declined p (error k a b) noRun (refusalNumber r) (λ w. refl)
 
 cycle-shares : (p : Plain) → Shares p cycleComplete (step p cycleComplete)
 cycle-shares p =
@@ -190,19 +189,25 @@ withdraw-shares p = by (not (sameState (p .nmt .«current_state») NmtReadyToOpe
     by :
         (b : Bool) →
         not (sameState (p .nmt .«current_state») NmtReadyToOperate) ≡ b →
-        Shares p withdraw (pick b (answers (withNmt p (withdrawn (p .nmt))) taken []) (declines p [] 8))
+        Shares p withdraw (pick b (answers (withNmt p (withdrawn (p .nmt))) taken noRun) (declines p noRun 8))
     by true h =
-        quiet p withdraw (answers (withNmt p (withdrawn (p .nmt))) taken [])
+        quiet p withdraw (answers (withNmt p (withdrawn (p .nmt))) taken noRun)
         (record { queue = refl; crossings = refl; crossed = refl; handed = refl; lost = λ l. refl })
         (λ w g. mode-withdraw (p .nmt) w h g) (counting-none (p .errors))
-    by false h = declined p withdraw [] 8 (λ w. refl)
+    by false h = declined p withdraw noRun 8 (λ w. refl)
 
-heard-shares : (p : Plain) (n t : ℕ) (ws : List WatchedNode) → Shares p (heard n t ws) (step p (heard n t ws))
-heard-shares p n t ws =
-    tried-by (Shares p (heard n t ws)) (heardTests n t ws) (declines p ws) (answers p taken (heardAt n t ws))
-    (λ r. declined p (heard n t ws) ws r (λ w. refl))
-    (untouched p (heard n t ws) (answers p taken (heardAt n t ws))
-    (record { queue = refl; crossings = refl; crossed = refl; handed = refl; lost = λ l. refl }) refl (λ w. refl) refl refl)
+-- heard, add and removal are one of these: what they change of a head is its earliest moment alone
+pub data Leaves (p : Plain) : Step → Type 0 where
+  stays : (r : Run) (n : ℕ) → Leaves p (declines p r n)
+  goes : (r : Run) → Leaves p (leaves p r)
+
+pub run-call : (p : Plain) (ts : List (Test ℕ)) (r r′ : Run) → Leaves p (tried ts (declines p r) (leaves p r′))
+run-call p ts r r′ = tried-by (Leaves p) ts (declines p r) (leaves p r′) (λ n. stays r n) (goes r′)
+
+run-shares : (p : Plain) (c : Call) {t : Step} → Leaves p t → ((t : Step) (w : Told) → toldAt p c t w ≡ w) → Shares p c t
+run-shares p c (stays r n) w = declined p c r n (w (declines p r n))
+run-shares p c (goes r) w =
+    untouched p c (leaves p r) (record { queue = refl; crossings = refl; crossed = refl; handed = refl; lost = λ l. refl }) refl (w (leaves p r)) refl refl
 
 -- the oldest leaves, or none
 hand-out-queue :
@@ -241,10 +246,10 @@ load-shares p v h =
 
 arm-shares : (p : Plain) (t : ℕ) → Shares p (arm t) (step p (arm t))
 arm-shares p t =
-    tried-by (Shares p (arm t)) (armTests t) (declines p [])
-    (answers (withSoc p (armed (p .soc) (p .od) t)) taken [])
-    (λ r. declined p (arm t) [] r (λ w. refl))
-    (untouched p (arm t) (answers (withSoc p (armed (p .soc) (p .od) t)) taken [])
+    tried-by (Shares p (arm t)) (armTests t) (declines p noRun)
+    (answers (withSoc p (armed (p .soc) (p .od) t)) taken noRun)
+    (λ r. declined p (arm t) noRun r (λ w. refl))
+    (untouched p (arm t) (answers (withSoc p (armed (p .soc) (p .od) t)) taken noRun)
     (record { queue = refl; crossings = refl; crossed = refl; handed = refl; lost = λ l. refl }) refl (λ w. refl) refl refl)
 
 -- what a tick's crossing does, if it has one: its entry waits or is dropped, and counter 3
@@ -264,32 +269,31 @@ enters-lost :
 enters-lost p c t none e h = lost-none p c t e (λ l. h)
 enters-lost p c t (one {x = x}) e h = crossed-lost p c t x e h
 
-tick-taken-shares :
-    (p : Plain) (t : ℕ) (ws l : List WatchedNode) (k : Ticked) → PartOf p k → Shares p (tick t ws) (tickAnswered k l)
-tick-taken-shares p t ws l k h =
+tick-taken-shares : (p : Plain) (t : ℕ) (r l : Run) (k : Ticked) → PartOf p k → Shares p (tick t r) (tickAnswered k l)
+tick-taken-shares p t r l k h =
     record {
       told = tells (h .moves);
       queue = enters-queue p (h .enters);
       counts = h .counts;
       crossed = h .crossed;
-      lost = enters-lost p (tick t ws) (tickAnswered k l) (h .enters) refl refl;
+      lost = enters-lost p (tick t r) (tickAnswered k l) (h .enters) refl refl;
     }
 
-tick-shares : (p : Plain) (t : ℕ) (ws : List WatchedNode) → Shares p (tick t ws) (step p (tick t ws))
-tick-shares p t ws =
-    tried-by (Shares p (tick t ws)) (tickTests p t ws) (declines p ws) (tickAnswered (tickTaken p t ws) (lookedAt p t ws))
-    (λ r. declined p (tick t ws) ws r (λ w. refl))
-    (tick-taken-shares p t ws (lookedAt p t ws) (tickTaken p t ws) (tick-part p t ws))
+tick-shares : (p : Plain) (t : ℕ) (r : Run) → Shares p (tick t r) (step p (tick t r))
+tick-shares p t r =
+    tried-by (Shares p (tick t r)) (tickTests p t r) (declines p r) (tickAnswered (tickTaken p t (watching r)) (lookedAt p t r))
+    (λ n. declined p (tick t r) r n (λ w. refl))
+    (tick-taken-shares p t r (lookedAt p t r) (tickTaken p t (watching r)) (tick-part p t (watching r)))
 
 -- what changes nothing owes nothing
 asked-shares :
     (p : Plain) (c : Call) (ts : List (Test ℕ)) (a : Answer) →
     handedBy a ≡ [] →
     ((t : Step) (w : Told) → toldAt p c t w ≡ w) →
-    Shares p c (tried ts (declines p []) (answers p a []))
+    Shares p c (tried ts (declines p noRun) (answers p a noRun))
 asked-shares p c ts a h w =
-    tried-by (Shares p c) ts (declines p []) (answers p a []) (λ r. declined p c [] r (w (declines p [] r)))
-    (untouched p c (answers p a []) (record { queue = refl; crossings = refl; crossed = refl; handed = h; lost = λ l. refl }) refl (w (answers p a [])) refl refl)
+    tried-by (Shares p c) ts (declines p noRun) (answers p a noRun) (λ r. declined p c noRun r (w (declines p noRun r)))
+    (untouched p c (answers p a noRun) (record { queue = refl; crossings = refl; crossed = refl; handed = h; lost = λ l. refl }) refl (w (answers p a noRun)) refl refl)
 
 range-shares : (p : Plain) (a b : ℕ) → Shares p (range a b) (step p (range a b))
 range-shares p a b = asked-shares p (range a b) (rangeTests a b) (rangeAnswer (verdictOf p a b)) refl (λ t w. refl)
@@ -304,13 +308,15 @@ shares p (dllEvent n x) = dll-shares p n x (readCsEvent n)
 shares p (error k a b) = error-shares p k a b (readError k a b)
 shares p cycleComplete = cycle-shares p
 shares p withdraw = withdraw-shares p
-shares p (heard n t ws) = heard-shares p n t ws
+shares p (heard n t r) = run-shares p (heard n t r) (run-call p (heardTests n t r) r (changing (heardAt n t) r)) (λ t w. refl)
 shares p handOut = hand-out-shares p
 shares p (load v h) = load-shares p v h
 shares p (arm t) = arm-shares p t
-shares p (tick t ws) = tick-shares p t ws
+shares p (tick t r) = tick-shares p t r
 shares p (range a b) = range-shares p a b
 shares p (margin t) = margin-shares p t
+shares p (add n o r) = run-shares p (add n o r) (run-call p (addTests n o r) r (added n o r)) (λ t w. refl)
+shares p (remove n r) = run-shares p (remove n r) (run-call p (removeTests n r) r (removed n r)) (λ t w. refl)
 
 -- "none" is handed out exactly of an empty queue
 none-out :

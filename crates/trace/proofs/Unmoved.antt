@@ -24,7 +24,7 @@ use Rattle.head.specs.Head.{Head}
 use Rattle.head.specs.Places as at
 use Rattle.head.specs.Words.{word, headOf}
 use Rattle.head.specs.Written.{queueWritten}
-use Rattle.watched.specs.declared.nodes.WatchedNode.{WatchedNode}
+use Rattle.watched.specs.Watched.{Run}
 use Rattle.node.specs.Plain.{Plain, Call}
 use Rattle.node.specs.Run.{step, Said}
 use Rattle.node.specs.Refines.{plain, Rings, rings, joins, joinsAll, historyUpdate, loadedPlaces, loadedMemory}
@@ -176,13 +176,13 @@ brings-crossed h h′ q m q′ m′ cs (one e) long r = by (isFull (plain h q m)
         }
 
 brings-ticked :
-    {ws q m ws′ q′ m′ : List ℕ} {vs vs′ : List WatchedNode} {t : ℕ} {o : TickAnswer} →
+    {ws q m ws′ q′ m′ : List ℕ} {r r′ : Run} {t : ℕ} {o : TickAnswer} →
     length m ≡ 5080 →
-    TickedOn ws q m vs t o ws′ q′ m′ vs′ →
-    Brings (headOf ws .history) m (broughtBy (plain (headOf ws) q m) (Call.tick t vs)) (headOf ws′ .history) m′
-brings-ticked {ws = ws} {q = q} {m = m} {ws′ = ws′} {q′ = q′} {m′ = m′} {vs = vs} {t = t} long e =
+    TickedOn ws q m r t o ws′ q′ m′ r′ →
+    Brings (headOf ws .history) m (broughtBy (plain (headOf ws) q m) (Call.tick t r)) (headOf ws′ .history) m′
+brings-ticked {ws = ws} {q = q} {m = m} {ws′ = ws′} {q′ = q′} {m′ = m′} {r = r} {t = t} long e =
     let p = plain (headOf ws) q m in
-    brings-crossed (headOf ws) (headOf ws′) q m q′ m′ (step p (Call.tick t vs) .crossings) (one-at-most (rule p (Call.tick t vs) .queue)) long (e .rings)
+    brings-crossed (headOf ws) (headOf ws′) q m q′ m′ (step p (Call.tick t r) .crossings) (one-at-most (rule p (Call.tick t r) .queue)) long (e .rings)
 
 -- a hand out writes the queue's words
 queue-apart : (ws : List ℕ) (z : EmergencyQueue) → headOf (queueWritten ws z) .history ≡ headOf ws .history
@@ -197,25 +197,29 @@ queue-apart ws z =
 
 -- one call
 brings :
-    {ws q m ns ws′ q′ m′ ns′ : List ℕ} {k : ℕ} {c : Call} {s : Said} →
+    {ws q m ns ws′ q′ m′ ns′ : List ℕ} {k k′ : ℕ} {c : Call} {s : Said} →
     length m ≡ 5080 →
-    Made ws q m ns k c s ws′ q′ m′ ns′ →
+    Made ws q m ns k c s ws′ q′ m′ ns′ k′ →
     Brings (headOf ws .history) m (broughtBy (plain (headOf ws) q m) c) (headOf ws′ .history) m′
 brings long (Made.nmtEvent κs a o x e) = brings-none (e .places .history) refl
 brings long (Made.dllEvent κs a o x e) = brings-none (e .places .history) refl
 brings long (Made.error κs a o x e) = brings-none (e .places .history) refl
 brings long (Made.cycleComplete κs a o x e) = brings-none (e .places .history) refl
 brings long (Made.withdraw κs a o x e) = brings-none (e .places .history) refl
-brings long (Made.heard κs a o x e) = brings-none refl refl
-brings long (Made.heardRun vs n t o vs′ e) = brings-none refl refl
+brings long (Made.heard κs a o x e) = brings-none (e .on .places .history) refl
+brings long (Made.heardRun r n t o r′ e) = brings-none (e .places .history) refl
 brings long (Made.handOut κs a o x e) =
     brings-none (ap (λ (ws : List ℕ). headOf ws .history) (e .1) ∙ queue-apart (now (a .0)) (handedOut (now (a .1 .0)) _ .queue)) refl
 brings long (Made.load κs a o x e) = brings-loaded (a .1 .1 .1 .0) (now (a .1 .1 .1 .1 .0)) long (e .history) (e .memory)
 brings long (Made.arm κs a o x e) = brings-none (e .places .history) refl
 brings long (Made.tick κs a o x e) = brings-ticked long (e .on)
-brings long (Made.tickRun vs t o vs′ e) = brings-ticked long e
+brings long (Made.tickRun r t o r′ e) = brings-ticked long e
 brings long (Made.range κs a o x e) = brings-none refl refl
 brings long (Made.margin κs a o x e) = brings-none refl refl
+brings long (Made.add κs a o x e l l′) = brings-none (e .places .history) refl
+brings long (Made.addRun r n t o r′ e) = brings-none (e .places .history) refl
+brings long (Made.remove κs a o x e l l′) = brings-none (e .places .history) refl
+brings long (Made.removeRun r n o r′ e) = brings-none (e .places .history) refl
 
 -- and a list of them, between any two moments
 brings-all :
@@ -267,12 +271,12 @@ pub nothing-written : {m m′ : List ℕ} → OthersStay [] m m′ → m′ ≡ 
 nothing-written {m = m} {m′ = m′} o = ext-getD 0 m′ m (o .long) (λ k h. o .bytes k refl)
 
 pub dropped-writes-none :
-    {ws q m ns ws′ q′ m′ ns′ : List ℕ} {vs : List WatchedNode} {k t : ℕ} {s : Said} →
+    {ws q m ns ws′ q′ m′ ns′ : List ℕ} {r : Run} {k k′ t : ℕ} {s : Said} →
     length m ≡ 5080 →
-    Made ws q m ns k (Call.tick t vs) s ws′ q′ m′ ns′ →
+    Made ws q m ns k (Call.tick t r) s ws′ q′ m′ ns′ k′ →
     isFull (plain (headOf ws) q m) ≡ true →
     m′ ≡ m
-dropped-writes-none {ws = ws} {q = q} {m = m} {m′ = m′} {vs = vs} {t = t} long r full =
+dropped-writes-none {ws = ws} {q = q} {m = m} {m′ = m′} {r = r} {t = t} long f full =
     let p = plain (headOf ws) q m in
     nothing-written
-    (subst (λ (b : Bool). OthersStay (joinedAt (headOf ws .history) (pick b [] (step p (Call.tick t vs) .crossings))) m m′) full (brings long r .others))
+    (subst (λ (b : Bool). OthersStay (joinedAt (headOf ws .history) (pick b [] (step p (Call.tick t r) .crossings))) m m′) full (brings long f .others))

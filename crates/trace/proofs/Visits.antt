@@ -21,8 +21,8 @@ use Rattle.nmt.specs.Resets.{isReset, statesEntered}
 use Rattle.nmt.specs.Nmt.{enter, rowOf, applied, resetBy, processed}
 use Rattle.nmt.specs.declared.cn_state_machine.CnNmtStateMachine.{CnNmtStateMachine}
 use Rattle.head.proofs.Laws.{state-is}
-use Rattle.node.specs.Plain.{Plain, Call, nmtEvent, dllEvent, error, cycleComplete, withdraw, heard, handOut, load, arm, tick, range, margin, Start, taken, EventMade}
-use Rattle.node.specs.Steps.{answers, declines, withNmt, withdrawn, fresh}
+use Rattle.node.specs.Plain.{Plain, Call, nmtEvent, dllEvent, error, cycleComplete, withdraw, heard, handOut, load, arm, tick, range, margin, add, remove, Start, taken, EventMade}
+use Rattle.node.specs.Steps.{noRun, answers, declines, withNmt, withdrawn, fresh}
 use Rattle.node.specs.Run.{step, stepAll}
 use Rattle.trace.specs.Tally.{Told, told, asks}
 use Rattle.trace.specs.Visits.{nmtState, Stays, InVisit, Asking, Asked, visiting, Enabled, at-once, later, isWithdraw, isTaken, NoneWithdrawn, resets, NoReset, afterReset, ReadyWord, since}
@@ -274,17 +274,19 @@ not-withdrawn p withdraw h = by (not (sameState (nmtState p) NmtReadyToOperate))
   where
     by :
         (b : Bool) →
-        pick b (answers (withNmt p (withdrawn (p .nmt))) taken []) (declines p [] 8) .head .nmt .«app_ready» ≡ true →
-        isTaken (pick b (answers (withNmt p (withdrawn (p .nmt))) taken []) (declines p [] 8) .answer) ≡ false
+        pick b (answers (withNmt p (withdrawn (p .nmt))) taken noRun) (declines p noRun 8) .head .nmt .«app_ready» ≡ true →
+        isTaken (pick b (answers (withNmt p (withdrawn (p .nmt))) taken noRun) (declines p noRun 8) .answer) ≡ false
     by true g = absurd (true≢false (sym g))
     by false g = refl
-not-withdrawn p (heard n t ws) h = refl
+not-withdrawn p (heard n t r) h = refl
 not-withdrawn p handOut h = refl
 not-withdrawn p (load v u) h = refl
 not-withdrawn p (arm t) h = refl
-not-withdrawn p (tick t ws) h = refl
+not-withdrawn p (tick t r) h = refl
 not-withdrawn p (range a b) h = refl
 not-withdrawn p (margin t) h = refl
+not-withdrawn p (add n o r) h = refl
+not-withdrawn p (remove n r) h = refl
 
 none-then :
     (p : Plain) (xs : List Call) (c : Call) → NoneWithdrawn p xs → both (isWithdraw c) (isTaken (step (stepAll p xs) c .answer)) ≡ false →

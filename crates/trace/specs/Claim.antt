@@ -12,12 +12,14 @@ use Rattle.counters.specs.declared.counters.CounterKind.{CounterKind}
 use Rattle.entries.specs.declared.status_response.ErrorEntry.{ErrorEntry}
 use Rattle.entries.specs.declared.status_response.FoundEntry.the-variants.{None}
 use Rattle.head.specs.Head.{Head}
+use Rattle.watched.specs.Watched.{watching}
 use Rattle.node.specs.Plain.{Plain, Call, handOut, Start, handOutAnswer}
-use Rattle.node.specs.Steps.{fresh}
+use Rattle.node.specs.Steps.{earliest, fresh}
 use Rattle.node.specs.Run.{step, stepAll, Said, saidAll}
 use Rattle.node.specs.Refines.{plain}
 use Rattle.trace.specs.Tally.{Tally, handedBy, droppedBy, nothing, tally}
 use Rattle.trace.specs.Visits.{Enabled, ReadyWord}
+use Rattle.trace.specs.Earliest.{runAfter}
 
 -- the first list is the other two, each in its order: every item of it stands in one of them, once, and nothing else does
 pub data Merge : List ErrorEntry → List ErrorEntry → List ErrorEntry → Type 0 where
@@ -105,3 +107,6 @@ pub record Claim (s : Start) (cs : List Call) (says : List Said) (h : Head) (q m
       tallied s cs .loaded ≡ false →
       s .od .«counter_3» + length (tallied s cs .dropped) ≤ top →
       h .od .«counter_3» ≡ s .od .«counter_3» + length (tallied s cs .dropped)
+  -- Document 02, No. 1, of the earliest moment: "after each accepted start, tick, heard, add or removal, equals the value worked out afresh from the run",
+  -- the one that the last such call left; the others leave it
+  pub moment : h .earliest ≡ earliest (watching (runAfter s cs))

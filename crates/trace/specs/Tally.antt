@@ -19,7 +19,7 @@ use Rattle.entries.specs.declared.status_response.FoundEntry.{FoundEntry}
 use Rattle.entries.specs.declared.status_response.FoundEntry.the-variants.{Entry, None}
 use Rattle.node.specs.declared.load.CounterUpdate.{CounterUpdate}
 use Rattle.node.specs.declared.load.CounterUpdate.the-variants.{Set, Keep}
-use Rattle.node.specs.Plain.{Plain, Call, nmtEvent, dllEvent, error, cycleComplete, withdraw, heard, handOut, load, arm, tick, range, margin, Answer, refused, taken, nmtAnswer, dllAnswer, errorAnswer, cycleAnswer, handOutAnswer, tickAnswer, rangeAnswer, marginAnswer, EventMade, made, noEvent, Step}
+use Rattle.node.specs.Plain.{Plain, Call, nmtEvent, dllEvent, error, cycleComplete, withdraw, heard, handOut, load, arm, tick, range, margin, add, remove, Answer, refused, taken, nmtAnswer, dllAnswer, errorAnswer, cycleAnswer, handOutAnswer, tickAnswer, rangeAnswer, marginAnswer, EventMade, made, noEvent, Step}
 use Rattle.node.specs.Run.{step}
 
 -- What the node was told: an enable or StartNode came in the last visit to PreOperational2; the application's last word that
@@ -77,13 +77,15 @@ toldAt p (dllEvent n x) t w = w
 toldAt p (error k a b) t w = w
 toldAt p cycleComplete t w = w
 toldAt p withdraw t w = toldWithdrawn (t .answer) w
-toldAt p (heard n s ws) t w = w
+toldAt p (heard n s r) t w = w
 toldAt p handOut t w = w
 toldAt p (load v h) t w = w
 toldAt p (arm s) t w = w
-toldAt p (tick s ws) t w = toldMade (p .nmt) (t .event) (t .head .nmt) w
+toldAt p (tick s r) t w = toldMade (p .nmt) (t .event) (t .head .nmt) w
 toldAt p (range a b) t w = w
 toldAt p (margin s) t w = w
+toldAt p (add n o r) t w = w
+toldAt p (remove n r) t w = w
 
 -- the entry that an answer hands out
 abbrev pub found : FoundEntry → List ErrorEntry
@@ -120,13 +122,15 @@ loadsCounter3 (dllEvent n x) = false
 loadsCounter3 (error k a b) = false
 loadsCounter3 cycleComplete = false
 loadsCounter3 withdraw = false
-loadsCounter3 (heard n t ws) = false
+loadsCounter3 (heard n t r) = false
 loadsCounter3 handOut = false
 loadsCounter3 (load v h) = isSet (v .«counter_3»)
 loadsCounter3 (arm t) = false
-loadsCounter3 (tick t ws) = false
+loadsCounter3 (tick t r) = false
 loadsCounter3 (range a b) = false
 loadsCounter3 (margin t) = false
+loadsCounter3 (add n o r) = false
+loadsCounter3 (remove n r) = false
 
 -- What is counted: what the node was told; the counters' marks, from which E, N and D are counted, and those of them that the
 -- errors of the SoC check left; the entries of the crossings there, those handed out and those dropped, each in order; and

@@ -11,7 +11,7 @@ use Rattle.entries.specs.History.{errorHistory, history, placeBefore, joined}
 use Rattle.entries.specs.declared.status_response.ErrorEntry.{ErrorEntry}
 use Rattle.entries.specs.declared.error_history.ErrorHistory.{ErrorHistory}
 use Rattle.head.specs.Head.{Head}
-use Rattle.node.specs.Plain.{Plain, HistoryUpdate, set, keep, Call, nmtEvent, dllEvent, error, cycleComplete, withdraw, heard, handOut, load, arm, tick, range, margin}
+use Rattle.node.specs.Plain.{Plain, HistoryUpdate, set, keep, Call, nmtEvent, dllEvent, error, cycleComplete, withdraw, heard, handOut, load, arm, tick, range, margin, add, remove}
 use Rattle.node.specs.Run.{step, stepAll}
 use Rattle.node.specs.Refines.{plain}
 use Rattle.trace.specs.Tally.{isFull}
@@ -40,13 +40,15 @@ broughtBy p (dllEvent n x) = nothingNew
 broughtBy p (error k a b) = nothingNew
 broughtBy p cycleComplete = nothingNew
 broughtBy p withdraw = nothingNew
-broughtBy p (heard n t ws) = nothingNew
+broughtBy p (heard n t r) = nothingNew
 broughtBy p handOut = nothingNew
 broughtBy p (load v u) = loadedNew u
 broughtBy p (arm t) = nothingNew
-broughtBy p (tick t ws) = byCrossings (keptBy p (step p (tick t ws) .crossings))
+broughtBy p (tick t r) = byCrossings (keptBy p (step p (tick t r) .crossings))
 broughtBy p (range a b) = nothingNew
 broughtBy p (margin t) = nothingNew
+broughtBy p (add n o r) = nothingNew
+broughtBy p (remove n r) = nothingNew
 
 -- "with a moving newest place and a count": where the history h stands after them. A load's newest is at place 0; "the 255th replacing the oldest".
 abbrev pub joinedAll : ErrorHistory → List ErrorEntry → ErrorHistory

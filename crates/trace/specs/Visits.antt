@@ -12,7 +12,7 @@ use Rattle.types.specs.declared.nmt.events.NmtEvent.{NmtEvent}
 use Rattle.types.specs.declared.nmt.events.NmtEvent.the-variants.{CnConfigurationComplete}
 use Rattle.types.specs.declared.nmt.events.NmtEventRead.the-variants.{Taken}
 use Rattle.nmt.specs.Resets.{isReset}
-use Rattle.node.specs.Plain.{Plain, Call, nmtEvent, dllEvent, error, cycleComplete, withdraw, heard, handOut, load, arm, tick, range, margin, Answer, refused, taken, nmtAnswer, dllAnswer, errorAnswer, cycleAnswer, handOutAnswer, tickAnswer, rangeAnswer, marginAnswer, EventMade, made, noEvent}
+use Rattle.node.specs.Plain.{Plain, Call, nmtEvent, dllEvent, error, cycleComplete, withdraw, heard, handOut, load, arm, tick, range, margin, add, remove, Answer, refused, taken, nmtAnswer, dllAnswer, errorAnswer, cycleAnswer, handOutAnswer, tickAnswer, rangeAnswer, marginAnswer, EventMade, made, noEvent}
 use Rattle.node.specs.Run.{step, stepAll}
 use Rattle.trace.specs.Tally.{asks}
 
@@ -60,13 +60,15 @@ isWithdraw (dllEvent n x) = false
 isWithdraw (error k a b) = false
 isWithdraw cycleComplete = false
 isWithdraw withdraw = true
-isWithdraw (heard n t ws) = false
+isWithdraw (heard n t r) = false
 isWithdraw handOut = false
 isWithdraw (load v h) = false
 isWithdraw (arm t) = false
-isWithdraw (tick t ws) = false
+isWithdraw (tick t r) = false
 isWithdraw (range a b) = false
 isWithdraw (margin t) = false
+isWithdraw (add n o r) = false
+isWithdraw (remove n r) = false
 
 abbrev pub isTaken : Answer → Bool
 isTaken taken = true

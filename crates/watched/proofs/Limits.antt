@@ -33,14 +33,19 @@ fits-small w f =
     (either-cases (both (leb 1 (w .node)) (leb (w .node) 240)) (both (leb 253 (w .node)) (leb (w .node) 255))
     (both-first (isNode (w .node)) (both (inTime (w .timeout)) (inTime (w .«last_heard»))) f))
 
-pub number-small : (ns : List ℕ) (k : ℕ) → k ≤ 32 → wellFormed (watchedOf (nodesOf ns) k) ≡ true → (i : ℕ) → i < k → getD ns (3 * i) 0 ≤ 255
-unfolding wellFormed
-number-small ns k few h i inside =
-    let vs : List WatchedNode = nodesOf ns in
-    let a : allOf fits (watchedOf vs k) ≡ true =
-    both-second (ascending (watchedOf vs k)) _ (both-second (leb (length (watchedOf vs k)) 32) _ h) in
-    let b : allOf fits (take k vs) ≡ true = sym (ap (allOf fits) (whole vs k (places ns) few)) ∙ a in
-    let l : length (take k vs) ≡ k = length-take-le k vs (rw (places ns) few) in
-    let f : fits (getD (take k vs) i noNode) ≡ true = all-at fits (take k vs) i noNode (rw l inside) b in
-    let w : getD (take k vs) i noNode ≡ nodeAt ns i = getD-take k vs i noNode inside ∙ node-at ns i (omega arith) in
-    fits-small (nodeAt ns i) (sym (ap fits w) ∙ f)
+-- and each of the first so many nodes in words passed it
+module _ (ns : List ℕ) (k : ℕ) (few : k ≤ 32) (h : wellFormed (watchedOf (nodesOf ns) k) ≡ true) (i : ℕ) (inside : i < k) where
+  pub node-fits : fits (nodeAt ns i) ≡ true
+  unfolding wellFormed
+  node-fits =
+      let vs : List WatchedNode = nodesOf ns in
+      let a : allOf fits (watchedOf vs k) ≡ true =
+      both-second (ascending (watchedOf vs k)) _ (both-second (leb (length (watchedOf vs k)) 32) _ h) in
+      let b : allOf fits (take k vs) ≡ true = sym (ap (allOf fits) (whole vs k (places ns) few)) ∙ a in
+      let l : length (take k vs) ≡ k = length-take-le k vs (rw (places ns) few) in
+      let f : fits (getD (take k vs) i noNode) ≡ true = all-at fits (take k vs) i noNode (rw l inside) b in
+      let w : getD (take k vs) i noNode ≡ nodeAt ns i = getD-take k vs i noNode inside ∙ node-at ns i (omega arith) in
+      sym (ap fits w) ∙ f
+
+  pub number-small : getD ns (3 * i) 0 ≤ 255
+  number-small = fits-small (nodeAt ns i) node-fits

@@ -167,6 +167,15 @@ module _ (f : WatchedNode → WatchedNode) where
   each-more [] ys = refl
   each-more (x ∷ xs) ys = ap (λ (l : List WatchedNode). f x ∷ l) (each-more xs ys)
 
+  -- a node that the loop has not reached is as it was
+  pub each-ahead :
+      (ns l : List WatchedNode) (i : ℕ) (d : WatchedNode) → i < length ns → l ≡ map f (take i ns) ++ drop i ns → getD l i d ≡ getD ns i d
+  each-ahead ns l i d h e =
+      let xs : List WatchedNode = map f (take i ns) in
+      let long : length xs ≡ i = each-long (take i ns) ∙ length-take-le i ns (omega arith) in
+      ap (λ (l : List WatchedNode). getD l i d) (e ∙ ap (λ (r : List WatchedNode). xs ++ r) (drop-cons ns i d h))
+      ∙ getD-at xs (getD ns i d) (drop (suc i) ns) d i long
+
   -- a turn of the loop: the node at its place is set
   pub each-turn :
       (ns l : List WatchedNode) (i : ℕ) (d : WatchedNode) →
@@ -182,7 +191,7 @@ module _ (f : WatchedNode → WatchedNode) where
       let here : l ≡ xs ++ (w ∷ drop (suc i) ns) = e ∙ ap (λ (r : List WatchedNode). xs ++ r) (drop-cons ns i d h) in
       let next : map f (take (i + 1) ns) ++ drop (i + 1) ns ≡ xs ++ (f w ∷ drop (suc i) ns) =
       rw (add-one, take-suc ns i d h, each-more (take i ns) (w ∷ [])) (append-snoc xs (f w) (drop (suc i) ns)) in
-      let new : v ≡ f w = g ∙ ap f (ap (λ (l : List WatchedNode). getD l i d) here ∙ getD-at xs w (drop (suc i) ns) d i long) in
+      let new : v ≡ f w = g ∙ ap f (each-ahead ns l i d h e) in
       ap₂ (λ (l : List WatchedNode) (v : WatchedNode). set l i v) here new
       ∙ set-at xs w (drop (suc i) ns) (f w) i long
       ∙ sym next

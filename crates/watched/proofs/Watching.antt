@@ -1,27 +1,31 @@
 -- The watched nodes in words: what is read at a place, and what a time written makes of the nodes. All else is by the laws of lists of nodes (Lists).
 -- Assumes nothing.
-use Prim.Native.Nat.{ℕ, zero, suc, _+_, _*_, _-_, _<_, _≤_}
+use Prim.Native.Nat.{ℕ, zero, suc, _+_, _*_, _-_, _%_, _<_, _≤_, min}
 use mathlib.Core.Path.{_≡_, refl, sym, ap, ap₂, _∙_}
-use mathlib.Core.Bool.{Bool, true, false, not}
+use mathlib.Core.Bool.{Bool, true, false}
 use mathlib.Core.List.{List, _∷_}
 use native.Mathlib.Nat.{add-zero}
 use native.Mathlib.Omega.{arith}
 use lib.Dec.{eqb, leb, ltb}
 use lib.ListN.{length, getD, set, take, drop}
 use lib.Seq.{getD-set-same, getD-set-other}
-use borrow.Author.Tests.{lt-ltb, le-ltb, lt-leb, le-leb, eq-eqb, ne-eqb}
-use Rattle.types.specs.Pick.{pick, both}
+use borrow.Author.Tests.{lt-ltb, le-ltb, lt-leb, le-leb, leb-true, eqb-true, eq-eqb, ne-eqb}
+use Rattle.types.specs.Pick.{pick, both, either}
 use Rattle.entries.specs.Ring.{listed}
 use Rattle.entries.proofs.Rings.{listed-long, listed-same}
 use Rattle.watched.specs.declared.nodes.WatchedNode.{WatchedNode}
-use Rattle.watched.specs.Watched.{allOf, fits, wellFormed, noNode, heardNow, watchedNode, watchedOf, placeOf}
+use Rattle.types.specs.Types.{isNode}
+use Rattle.types.proofs.Tests.{both-first, both-second}
+use Rattle.watched.specs.Watched.{latest, inTime, allOf, fits, wellFormed, noNode, heardNow, heardAt, watchedNode, watchedOf, placeOf, Run, run, watching, wellLent}
 use Rattle.watched.proofs.Lists as Lists
 use Rattle.watched.proofs.Lists.{too-many, tests-begin, from-here, at-end}
+use Rattle.watched.specs.declared.nodes.Tried.{Tried}
+use Rattle.watched.specs.declared.nodes.Tried.the-variants as tried
 use Rattle.watched.specs.declared.nodes.Found.{Found}
 use Rattle.watched.specs.declared.nodes.Found.the-variants as found
 use Rattle.watched.specs.declared.nodes.Seen.{Seen}
 use Rattle.watched.specs.declared.nodes.Seen.the-variants as seen
-use Rattle.watched.specs.Nodes.{nodeAt, nodesOf, rising, rests, foundOf, seenOf}
+use Rattle.watched.specs.Nodes.{nodeAt, nodesOf, rising, rests, never, soonerBy, restUntil, soonest, triedOf, nodesTried, foundOf, seenOf}
 
 -- the item at an index of a list that is given by index
 pub listed-at : {A : Type 0} (f : ℕ → A) (n i : ℕ) (d : A) → i < n → getD (listed f n) i d ≡ f i
@@ -40,21 +44,96 @@ listed-set f g (suc n) (suc i) h same =
     rw (same 0 (λ e. omega arith))
     (ap (λ (l : List _). f 0 ∷ l) (listed-set (λ (j : ℕ). f (suc j)) (λ (j : ℕ). g (suc j)) n i (omega arith) (λ j apart. same (suc j) (λ e. apart (omega arith)))))
 
--- what an answer of look says
-module _ (b r : Bool) (a : Seen) (e : a ≡ pick b (seen.Formed r) seen.Unformed) where
-  pub seen-unformed : a ≡ seen.Unformed → b ≡ false
-  seen-unformed h = by b (sym h ∙ e)
+-- what an answer of formed_from or try_nodes says
+module _ (b : Bool) (s : ℕ) (a : Tried) (e : a ≡ pick b (tried.Formed s) tried.Unformed) where
+  pub tried-unformed : a ≡ tried.Unformed → b ≡ false
+  tried-unformed h = by b (sym h ∙ e)
     where
-      by : (b : Bool) → seen.Unformed ≡ pick b (seen.Formed r) seen.Unformed → b ≡ false
+      by : (b : Bool) → tried.Unformed ≡ pick b (tried.Formed s) tried.Unformed → b ≡ false
       by true x = cc
       by false x = refl
 
-  pub seen-formed : (s : Bool) → a ≡ seen.Formed s → (b ≡ true) × (s ≡ r)
-  seen-formed s h = by b (sym h ∙ e)
+  pub tried-formed : (x : ℕ) → a ≡ tried.Formed x → (b ≡ true) × (x ≡ s)
+  tried-formed y h = by b (sym h ∙ e)
     where
-      by : (b : Bool) → seen.Formed s ≡ pick b (seen.Formed r) seen.Unformed → (b ≡ true) × (s ≡ r)
+      by : (b : Bool) → tried.Formed y ≡ pick b (tried.Formed s) tried.Unformed → (b ≡ true) × (y ≡ s)
       by true x = (refl, cc)
       by false x = (cc, cc)
+
+-- what an answer of look says
+module _ (b r : Bool) (s : ℕ) (a : Seen) (e : a ≡ pick b (pick r (seen.Resting s) seen.Roused) seen.Unformed) where
+  pub seen-unformed : a ≡ seen.Unformed → b ≡ false
+  seen-unformed h = by b r (sym h ∙ e)
+    where
+      by : (b r : Bool) → seen.Unformed ≡ pick b (pick r (seen.Resting s) seen.Roused) seen.Unformed → b ≡ false
+      by true true x = cc
+      by true false x = cc
+      by false r x = refl
+
+  pub seen-roused : a ≡ seen.Roused → (b ≡ true) × (r ≡ false)
+  seen-roused h = by b r (sym h ∙ e)
+    where
+      by : (b r : Bool) → seen.Roused ≡ pick b (pick r (seen.Resting s) seen.Roused) seen.Unformed → (b ≡ true) × (r ≡ false)
+      by true true x = (refl, cc)
+      by true false x = (refl, refl)
+      by false r x = (cc, cc)
+
+  pub seen-resting : (x : ℕ) → a ≡ seen.Resting x → (b ≡ true) × (r ≡ true) × (x ≡ s)
+  seen-resting y h = by b r (sym h ∙ e)
+    where
+      by : (b r : Bool) → seen.Resting y ≡ pick b (pick r (seen.Resting s) seen.Roused) seen.Unformed → (b ≡ true) × (r ≡ true) × (y ≡ s)
+      by true true x = (refl, refl, cc)
+      by true false x = (refl, cc, cc)
+      by false r x = (cc, cc, cc)
+
+-- the numbers of nodes above 240
+pub no-high-node : (n : ℕ) → 240 < n → 2 < n % 253 → false ≡ isNode n
+no-high-node n h d = sym (ap₂ (λ (a b : Bool). either (both (leb 1 n) a) b) (lt-leb n 240 h) (by (leb 253 n) refl) ∙ low (leb 1 n))
+  where
+    low : (a : Bool) → either (both a false) false ≡ false
+    low true = refl
+    low false = refl
+
+    by : (b : Bool) → leb 253 n ≡ b → both b (leb n 255) ≡ false
+    by true e = let g : 253 ≤ n = leb-true 253 n e in lt-leb n 255 (omega (arith, g, d))
+    by false e = refl
+
+-- the times of a node that passed number 3
+pub times-fit : (w : WatchedNode) → fits w ≡ true → (w .timeout ≤ latest) × (w .«last_heard» ≤ latest)
+times-fit w f =
+    let b : both (inTime (w .timeout)) (inTime (w .«last_heard»)) ≡ true = both-second (isNode (w .node)) _ f in
+    (leb-true (w .timeout) latest (both-first (inTime (w .timeout)) _ b), leb-true (w .«last_heard») latest (both-second (inTime (w .timeout)) _ b))
+
+pub follows-fit : (n : ℕ) (w : WatchedNode) (z : Bool) → z ≡ both (ltb n (w .node)) (fits w) → z ≡ true → (w .timeout ≤ latest) × (w .«last_heard» ≤ latest)
+follows-fit n w z f h = times-fit w (both-second (ltb n (w .node)) (fits w) (sym f ∙ h))
+
+-- the soonest moment with one more node, by its tests
+module _ (s : ℕ) (w : WatchedNode) where
+  abbrev late : ℕ
+  late = w .«last_heard» + w .timeout + 1
+
+  abbrev soonerIf : Bool → Bool → ℕ
+  soonerIf a b = pick (both a b) (min s late) s
+
+  pub sooner-idle : w .timeout ≡ 0 → s ≡ soonerBy s w
+  sooner-idle h = sym (ap (λ (a : Bool). soonerIf a (ltb 0 (w .«last_heard»))) (le-ltb 0 (w .timeout) (omega arith)))
+
+  module _ (timed : w .timeout ≡ 0 → ⊥) where
+    timed-up : ltb 0 (w .timeout) ≡ true
+    timed-up = lt-ltb 0 (w .timeout) (omega arith)
+
+    pub sooner-unheard : w .«last_heard» ≡ 0 → s ≡ soonerBy s w
+    sooner-unheard h = sym (ap₂ soonerIf timed-up (le-ltb 0 (w .«last_heard») (omega arith)))
+
+    module _ (heard : w .«last_heard» ≡ 0 → ⊥) where
+      both-up : soonerBy s w ≡ min s late
+      both-up = ap₂ soonerIf timed-up (lt-ltb 0 (w .«last_heard») (omega arith))
+
+      pub sooner-this : late < s → late ≡ soonerBy s w
+      sooner-this h = let m : late ≡ min s late = omega arith in m ∙ sym both-up
+
+      pub sooner-kept : s ≤ late → s ≡ soonerBy s w
+      sooner-kept h = let m : s ≡ min s late = omega arith in m ∙ sym both-up
 
 -- a node that rests, by its tests
 module _ (t : ℕ) (w : WatchedNode) where
@@ -88,6 +167,71 @@ module _ (t : ℕ) (w : WatchedNode) where
           sym (ap₂ (λ (a b : Bool). restsBy a b (leb l t) (leb (t - l) o)) up (ne-eqb o 0 timed)
           ∙ ap (λ (c : Bool). both c (leb (t - l) o)) (le-leb l t h))
 
+-- the number of a run that passes number 3 is within its places
+pub lent-inside : (r : Run) → wellLent r ≡ true → r .number ≤ length (r .places)
+lent-inside r a =
+    let l : length (r .places) ≡ 32 = eqb-true (length (r .places)) 32 (both-first (eqb (length (r .places)) 32) _ a) in
+    let k : r .number ≤ 32 = Lists.few (r .places) (r .number) true (sym (both-second (eqb (length (r .places)) 32) _ a)) refl in
+    omega (arith, l, k)
+
+-- both at once: a node that rests, with the soonest moment
+module _ (t s : ℕ) (w : WatchedNode) where
+  abbrev o′ : ℕ
+  o′ = w .timeout
+
+  abbrev l′ : ℕ
+  l′ = w .«last_heard»
+
+  until-by : (b : Bool) → b ≡ rests t w → (x : ℕ) → x ≡ pick b (soonerBy s w) 0 → x ≡ restUntil t s w
+  until-by b e x g = g ∙ ap (λ (b : Bool). pick b (soonerBy s w) 0) e
+
+  pub until-unheard : l′ ≡ 0 → 0 ≡ restUntil t s w
+  until-unheard h = until-by false (rests-unheard t w h) 0 refl
+
+  module _ (heard : l′ ≡ 0 → ⊥) where
+    pub until-idle : o′ ≡ 0 → s ≡ restUntil t s w
+    until-idle h = until-by true (rests-idle t w heard h) s (sooner-idle s w h)
+
+    module _ (timed : o′ ≡ 0 → ⊥) where
+      pub until-before : t < l′ → 0 ≡ restUntil t s w
+      until-before h = until-by false (rests-before t w heard timed h) 0 refl
+
+      module _ (after : l′ ≤ t) where
+        pub until-late : l′ + o′ + 1 ≤ t → 0 ≡ restUntil t s w
+        until-late h = until-by false (sym (lt-leb (t - l′) o′ (omega (arith, h))) ∙ rests-tested t w heard timed after) 0 refl
+
+        in-time : t < l′ + o′ + 1 → true ≡ rests t w
+        in-time h = sym (le-leb (t - l′) o′ (omega (arith, h, after))) ∙ rests-tested t w heard timed after
+
+        pub until-this : t < l′ + o′ + 1 → l′ + o′ + 1 < s → l′ + o′ + 1 ≡ restUntil t s w
+        until-this h g = until-by true (in-time h) (l′ + o′ + 1) (sooner-this s w timed heard g)
+
+        pub until-kept : t < l′ + o′ + 1 → s ≤ l′ + o′ + 1 → s ≡ restUntil t s w
+        until-kept h g = until-by true (in-time h) s (sooner-kept s w timed heard g)
+
+  -- and what the number says
+  module _ (up : 0 < s) (x : ℕ) (e : x ≡ restUntil t s w) where
+    more : 0 < soonerBy s w
+    more = by (both (ltb 0 o′) (ltb 0 l′))
+      where
+        by : (b : Bool) → 0 < pick b (min s (l′ + o′ + 1)) s
+        by true = omega (arith, up)
+        by false = up
+
+    pub until-none : x ≡ 0 → rests t w ≡ false
+    until-none h = by (rests t w) e
+      where
+        by : (b : Bool) → x ≡ pick b (soonerBy s w) 0 → b ≡ false
+        by true g = absurd (omega (arith, more, g, h))
+        by false g = refl
+
+    pub until-one : (x ≡ 0 → ⊥) → (rests t w ≡ true) × (x ≡ soonerBy s w) × (0 < x)
+    until-one h = by (rests t w) e
+      where
+        by : (b : Bool) → x ≡ pick b (soonerBy s w) 0 → (b ≡ true) × (x ≡ soonerBy s w) × (0 < x)
+        by true g = (refl, g, omega (arith, more, g))
+        by false g = absurd (h g)
+
 module _ (ws : List ℕ) where
   pub places : length (nodesOf ws) ≡ 32
   unfolding nodesOf
@@ -96,6 +240,10 @@ module _ (ws : List ℕ) where
   pub node-at : (i : ℕ) → i < 32 → getD (nodesOf ws) i noNode ≡ nodeAt ws i
   unfolding nodesOf
   node-at i h = listed-at (nodeAt ws) 32 i noNode h
+
+  -- of words, a run has 32 places, and number 3 is that of the nodes
+  pub lent-words : (k : ℕ) → wellLent (run (nodesOf ws) k) ≡ wellFormed (watchedOf (nodesOf ws) k)
+  lent-words k = ap (λ (b : Bool). both b (wellFormed (watchedOf (nodesOf ws) k))) (eq-eqb (length (nodesOf ws)) 32 places)
 
   -- a time written is the node at its place heard then, and all other nodes as they were
   module _ (long : length ws ≡ 96) (p : ℕ) (inside : p < 32) (t : ℕ) where
@@ -127,12 +275,32 @@ module _ (ws : List ℕ) where
       pub formed-begins : wellFormed vs ≡ rising 0 (left 0)
       formed-begins = tests-begin (nodesOf ws) k places below
 
+      pub tries-begin : triedOf 0 never (left 0) ≡ nodesTried vs
+      tries-begin =
+          ap₂ (λ (b : Bool) (l : List WatchedNode). pick b (tried.Formed (soonest never l)) tried.Unformed) (sym formed-begins)
+          (sym (Lists.whole (nodesOf ws) k places below))
+
+      pub soonest-begins : soonest never vs ≡ soonest never (left 0)
+      soonest-begins = ap (soonest never) (Lists.whole (nodesOf ws) k places below)
+
+      pub heard-begins : (n t : ℕ) → soonest never (heardAt n t vs) ≡ soonest never (heardAt n t (left 0))
+      heard-begins n t = ap (λ (l : List WatchedNode). soonest never (heardAt n t l)) (Lists.whole (nodesOf ws) k places below)
+
       pub rest-begins : (t : ℕ) → allOf (rests t) vs ≡ allOf (rests t) (left 0)
       rest-begins t = ap (allOf (rests t)) (Lists.whole (nodesOf ws) k places below)
 
       module _ (i : ℕ) where
         pub formed-ends : (b : Bool) (n : ℕ) → b ≡ rising n (left i) → k ≤ i → b ≡ true
         formed-ends b n e h = e ∙ ap (rising n) (at-end (nodesOf ws) k places below i h)
+
+        pub tries-end : (n s : ℕ) (a : Tried) → a ≡ triedOf n s (left i) → k ≤ i → tried.Formed s ≡ a
+        tries-end n s a e h = sym (e ∙ ap (triedOf n s) (at-end (nodesOf ws) k places below i h))
+
+        pub soonest-ends : (x s : ℕ) → x ≡ soonest s (left i) → k ≤ i → x ≡ s
+        soonest-ends x s e h = e ∙ ap (soonest s) (at-end (nodesOf ws) k places below i h)
+
+        pub heard-ends : (n t x s : ℕ) → x ≡ soonest s (heardAt n t (left i)) → k ≤ i → x ≡ s
+        heard-ends n t x s e h = e ∙ ap (λ (l : List WatchedNode). soonest s (heardAt n t l)) (at-end (nodesOf ws) k places below i h)
 
         pub rest-ends : (t : ℕ) (b : Bool) → b ≡ allOf (rests t) (left i) → k ≤ i → b ≡ true
         rest-ends t b e h = e ∙ ap (allOf (rests t)) (at-end (nodesOf ws) k places below i h)
@@ -154,6 +322,36 @@ module _ (ws : List ℕ) where
             pub formed-next : z ≡ true → b ≡ rising (getD ws (3 * i) 0) (left (i + 1))
             formed-next h = formed-turn ∙ ap (λ (z : Bool). both z (rising (getD ws (3 * i) 0) (left (i + 1)))) h
 
+          module _ (n s : ℕ) (a : Tried) (e : a ≡ triedOf n s (left i)) (z : Bool) (f : z ≡ both (ltb n (getD ws (3 * i) 0)) (fits (nodeAt ws i))) where
+            abbrev triesBy : Bool → Tried
+            triesBy z = pick (both z (rising (getD ws (3 * i) 0) (left (i + 1)))) (tried.Formed (soonest (soonerBy s (nodeAt ws i)) (left (i + 1)))) tried.Unformed
+
+            tries-turn : (y : Bool) → z ≡ y → a ≡ triesBy y
+            tries-turn y h = e ∙ ap (triedOf n s) turn ∙ ap triesBy (sym f ∙ h)
+
+            pub tries-stop : z ≡ false → tried.Unformed ≡ a
+            tries-stop h = sym (tries-turn false h)
+
+            pub tries-next : z ≡ true → (x : ℕ) → x ≡ soonerBy s (nodeAt ws i) → a ≡ triedOf (getD ws (3 * i) 0) x (left (i + 1))
+            tries-next h x g = tries-turn true h ∙ ap (λ (x : ℕ). triedOf (getD ws (3 * i) 0) x (left (i + 1))) (sym g)
+
+          -- the soonest moment of the nodes, and of those with n heard at t
+          pub soonest-next : (x s : ℕ) → x ≡ soonest s (left i) → (y : ℕ) → y ≡ soonerBy s (nodeAt ws i) → x ≡ soonest y (left (i + 1))
+          soonest-next x s e y g = e ∙ ap (soonest s) turn ∙ ap (λ (y : ℕ). soonest y (left (i + 1))) (sym g)
+
+          module _ (n t x s : ℕ) (e : x ≡ soonest s (heardAt n t (left i))) where
+            abbrev heardBy : Bool → ℕ
+            heardBy b = soonest s (pick b (heardNow t (nodeAt ws i) ∷ left (i + 1)) (nodeAt ws i ∷ heardAt n t (left (i + 1))))
+
+            heard-turn : x ≡ heardBy (eqb (getD ws (3 * i) 0) n)
+            heard-turn = e ∙ ap (λ (l : List WatchedNode). soonest s (heardAt n t l)) turn
+
+            pub heard-here : getD ws (3 * i) 0 ≡ n → (y : ℕ) → y ≡ soonerBy s (heardNow t (nodeAt ws i)) → x ≡ soonest y (left (i + 1))
+            heard-here h y g = heard-turn ∙ ap heardBy (eq-eqb (getD ws (3 * i) 0) n h) ∙ ap (λ (y : ℕ). soonest y (left (i + 1))) (sym g)
+
+            pub heard-next : (getD ws (3 * i) 0 ≡ n → ⊥) → (y : ℕ) → y ≡ soonerBy s (nodeAt ws i) → x ≡ soonest y (heardAt n t (left (i + 1)))
+            heard-next h y g = heard-turn ∙ ap heardBy (ne-eqb (getD ws (3 * i) 0) n h) ∙ ap (λ (y : ℕ). soonest y (heardAt n t (left (i + 1)))) (sym g)
+
           module _ (n : ℕ) (e : placeOf n vs ≡ i + placeOf n (left i)) where
             abbrev by-number : Bool → ℕ
             by-number b = i + pick b 0 (suc (placeOf n (left (i + 1))))
@@ -174,42 +372,51 @@ module _ (ws : List ℕ) where
             pub rest-next : z ≡ true → b ≡ allOf (rests t) (left (i + 1))
             rest-next h = rest-turn ∙ ap (λ (z : Bool). both z (allOf (rests t) (left (i + 1)))) h
 
+    pub nodes-unformed : wellFormed vs ≡ false → tried.Unformed ≡ nodesTried vs
+    nodes-unformed h = sym (ap (λ (b : Bool). pick b (tried.Formed (soonest never vs)) tried.Unformed) h)
+
     -- what find answers, and what that says
-    module _ (n : ℕ) where
-      abbrev foundBy : Bool → ℕ → Found
-      foundBy b p = pick b (found.Formed p) found.Unformed
+    module _ (n t : ℕ) where
+      abbrev foundBy : Bool → ℕ → ℕ → Found
+      foundBy b p s = pick b (found.Formed p s) found.Unformed
 
-      pub find-unformed : wellFormed vs ≡ false → found.Unformed ≡ foundOf n vs
-      find-unformed h = sym (ap (λ (b : Bool). foundBy b (placeOf n vs)) h)
+      abbrev soonestHeard : ℕ
+      soonestHeard = soonest never (heardAt n t vs)
 
-      pub find-formed : wellFormed vs ≡ true → (p : ℕ) → placeOf n vs ≡ p → found.Formed p ≡ foundOf n vs
-      find-formed h p e = sym (ap₂ foundBy h e)
+      pub find-unformed : wellFormed vs ≡ false → found.Unformed ≡ foundOf n t vs
+      find-unformed h = sym (ap (λ (b : Bool). foundBy b (placeOf n vs) soonestHeard) h)
 
-      module _ (a : Found) (e : a ≡ foundOf n vs) where
+      pub find-formed : wellFormed vs ≡ true → (p s : ℕ) → placeOf n vs ≡ p → soonestHeard ≡ s → found.Formed p s ≡ foundOf n t vs
+      find-formed h p s e f = sym (λ i. foundBy (h i) (e i) (f i))
+
+      module _ (a : Found) (e : a ≡ foundOf n t vs) where
         pub found-unformed : a ≡ found.Unformed → wellFormed vs ≡ false
         found-unformed h = by (wellFormed vs) (sym h ∙ e)
           where
-            by : (b : Bool) → found.Unformed ≡ foundBy b (placeOf n vs) → b ≡ false
+            by : (b : Bool) → found.Unformed ≡ foundBy b (placeOf n vs) soonestHeard → b ≡ false
             by true x = cc
             by false x = refl
 
-        pub found-formed : (p : ℕ) → a ≡ found.Formed p → (wellFormed vs ≡ true) × (p ≡ placeOf n vs)
-        found-formed p h = by (wellFormed vs) (sym h ∙ e)
+        pub found-formed : (p s : ℕ) → a ≡ found.Formed p s → (wellFormed vs ≡ true) × (p ≡ placeOf n vs) × (s ≡ soonestHeard)
+        found-formed p s h = by (wellFormed vs) (sym h ∙ e)
           where
-            by : (b : Bool) → found.Formed p ≡ foundBy b (placeOf n vs) → (b ≡ true) × (p ≡ placeOf n vs)
-            by true x = (refl, cc)
-            by false x = (cc, cc)
+            by : (b : Bool) → found.Formed p s ≡ foundBy b (placeOf n vs) soonestHeard → (b ≡ true) × (p ≡ placeOf n vs) × (s ≡ soonestHeard)
+            by true x = (refl, cc, cc)
+            by false x = (cc, cc, cc)
 
     -- what look answers
     module _ (t : ℕ) where
-      abbrev seenBy : Bool → Bool → Seen
-      seenBy b r = pick b (seen.Formed (not r)) seen.Unformed
+      abbrev seenBy : Bool → Bool → ℕ → Seen
+      seenBy b r s = pick b (pick r (seen.Resting s) seen.Roused) seen.Unformed
 
       pub look-unformed : wellFormed vs ≡ false → seen.Unformed ≡ seenOf t vs
-      look-unformed h = sym (ap (λ (b : Bool). seenBy b (allOf (rests t) vs)) h)
+      look-unformed h = sym (ap (λ (b : Bool). seenBy b (allOf (rests t) vs) (soonest never vs)) h)
 
-      pub look-formed : wellFormed vs ≡ true → (r : Bool) → allOf (rests t) vs ≡ r → seen.Formed (not r) ≡ seenOf t vs
-      look-formed h r e = sym (ap₂ seenBy h e)
+      pub look-roused : wellFormed vs ≡ true → allOf (rests t) vs ≡ false → seen.Roused ≡ seenOf t vs
+      look-roused h e = sym (ap₂ (λ (b r : Bool). seenBy b r (soonest never vs)) h e)
+
+      pub look-rests : wellFormed vs ≡ true → allOf (rests t) vs ≡ true → (s : ℕ) → soonest never vs ≡ s → seen.Resting s ≡ seenOf t vs
+      look-rests h e s f = sym (λ i. seenBy (h i) (e i) (f i))
 
     -- nodes that pass number 3 are at most 32
     pub few : wellFormed vs ≡ true → k ≤ 32

@@ -1,15 +1,17 @@
 -- The watched nodes that words stand for, three words a node, and what is asked of them. Any words stand for nodes: a number that no node
 -- has is one that number 3 declines.
 -- Assumes nothing.
-use Prim.Native.Nat.{ℕ, _+_, _*_, _-_}
-use mathlib.Core.Bool.{Bool, true, not}
+use Prim.Native.Nat.{ℕ, _+_, _*_, _-_, min}
+use mathlib.Core.Bool.{Bool, true}
 use mathlib.Core.List.{List, [], _∷_}
 use lib.Dec.{eqb, leb, ltb}
 use lib.ListN.{getD}
 use Rattle.types.specs.Pick.{pick, both}
 use Rattle.entries.specs.Ring.{listed}
 use Rattle.watched.specs.declared.nodes.WatchedNode.{WatchedNode}
-use Rattle.watched.specs.Watched.{allOf, fits, wellFormed, watchedNode, placeOf}
+use Rattle.watched.specs.Watched.{allOf, fits, wellFormed, watchedNode, heardAt, placeOf}
+use Rattle.watched.specs.declared.nodes.Tried.{Tried}
+use Rattle.watched.specs.declared.nodes.Tried.the-variants as tried
 use Rattle.watched.specs.declared.nodes.Found.{Found}
 use Rattle.watched.specs.declared.nodes.Found.the-variants as found
 use Rattle.watched.specs.declared.nodes.Seen.{Seen}
@@ -33,9 +35,32 @@ abbrev pub rising : ℕ → List WatchedNode → Bool
 rising n [] = true
 rising n (w ∷ ws) = both (both (ltb n (w .node)) (fits w)) (rising (w .node) ws)
 
--- of nodes that pass number 3: where the node n is, and whether one does not rest at t
-abbrev pub foundOf : ℕ → List WatchedNode → Found
-foundOf n vs = pick (wellFormed vs) (found.Formed (placeOf n vs)) found.Unformed
+-- The walks carry the earliest moment at which a node would be late as a number: 2^64 − 1 for none, which no moment is.
+abbrev pub never : ℕ
+never = 18446744073709551615
+
+-- "the smallest of last heard + timeout + 1, over nodes where both are above 0" (document 02, No. 1), and of s
+abbrev pub soonerBy : ℕ → WatchedNode → ℕ
+soonerBy s w = pick (both (ltb 0 (w .timeout)) (ltb 0 (w .«last_heard»))) (min s (w .«last_heard» + w .timeout + 1)) s
+
+-- the same of a node that rests, and 0 for one that does not
+abbrev pub restUntil : ℕ → ℕ → WatchedNode → ℕ
+restUntil t s w = pick (rests t w) (soonerBy s w) 0
+
+abbrev pub soonest : ℕ → List WatchedNode → ℕ
+soonest s [] = s
+soonest s (w ∷ ws) = soonest (soonerBy s w) ws
+
+-- the nodes behind one of number n, of which s is the soonest so far
+abbrev pub triedOf : ℕ → ℕ → List WatchedNode → Tried
+triedOf n s ws = pick (rising n ws) (tried.Formed (soonest s ws)) tried.Unformed
+
+-- of nodes that pass number 3: their soonest; where the node n is, and the soonest with it heard at t; and whether one does not rest at t
+abbrev pub nodesTried : List WatchedNode → Tried
+nodesTried vs = pick (wellFormed vs) (tried.Formed (soonest never vs)) tried.Unformed
+
+abbrev pub foundOf : ℕ → ℕ → List WatchedNode → Found
+foundOf n t vs = pick (wellFormed vs) (found.Formed (placeOf n vs) (soonest never (heardAt n t vs))) found.Unformed
 
 abbrev pub seenOf : ℕ → List WatchedNode → Seen
-seenOf t vs = pick (wellFormed vs) (seen.Formed (not (allOf (rests t) vs))) seen.Unformed
+seenOf t vs = pick (wellFormed vs) (pick (allOf (rests t) vs) (seen.Resting (soonest never vs)) seen.Roused) seen.Unformed

@@ -1,10 +1,10 @@
 -- The watched nodes, as a list: what number 3 declines, and what start and heard make of it.
 -- Assumes nothing.
-use Prim.Native.Nat.{ℕ, suc}
+use Prim.Native.Nat.{ℕ, suc, _-_}
 use mathlib.Core.Bool.{Bool, true, false}
 use mathlib.Core.List.{List, [], _∷_, _++_, map}
 use lib.Dec.{eqb, leb, ltb}
-use lib.ListN.{length, getD, take, drop}
+use lib.ListN.{length, getD, take, drop, replicate}
 use Rattle.types.specs.Pick.{pick, both, either}
 use Rattle.types.specs.Types.{isNode}
 use Rattle.entries.specs.Ring.{listed}
@@ -71,9 +71,44 @@ noNode = watchedNode 0 0 0
 abbrev pub watchedOf : List WatchedNode → ℕ → List WatchedNode
 watchedOf ns k = listed (λ i. getD ns i noNode) k
 
--- the array itself: a node's time set among the first so many, all times of those set to 0; the nodes behind are kept
+-- "The run is lent from now on with 32 places and the number watched beside it" (document 02, No. 1)
+pub record Run : Type 0 where
+  pub places : List WatchedNode
+  pub number : ℕ
+
+abbrev pub run : List WatchedNode → ℕ → Run
+run ns k = record { places = ns; number = k }
+
+-- the watched nodes of a run: those up to the number
+abbrev pub watching : Run → List WatchedNode
+watching r = watchedOf (r .places) (r .number)
+
+-- number 3: "the places past that number are not tried", "and a run of another length gets 3"
+abbrev pub wellLent : Run → Bool
+wellLent r = both (eqb (length (r .places)) 32) (wellFormed (watching r))
+
+-- a change of the first so many nodes alone: the places behind, and the number, are kept
+abbrev pub first : (List WatchedNode → List WatchedNode) → ℕ → List WatchedNode → List WatchedNode
+first f k ns = f (take k ns) ++ drop k ns
+
 abbrev pub heardFirst : ℕ → ℕ → ℕ → List WatchedNode → List WatchedNode
-heardFirst n t k ns = heardAt n t (take k ns) ++ drop k ns
+heardFirst n t = first (heardAt n t)
 
 abbrev pub unheardFirst : ℕ → List WatchedNode → List WatchedNode
-unheardFirst k ns = unheard (take k ns) ++ drop k ns
+unheardFirst = first unheard
+
+abbrev pub changing : (List WatchedNode → List WatchedNode) → Run → Run
+changing f r = run (first f (r .number) (r .places)) (r .number)
+
+-- a node in its place among ascending ones, and nodes without one
+abbrev pub inserted : WatchedNode → List WatchedNode → List WatchedNode
+inserted v [] = v ∷ []
+inserted v (w ∷ ws) = pick (ltb (v .node) (w .node)) (v ∷ w ∷ ws) (w ∷ inserted v ws)
+
+abbrev pub without : ℕ → List WatchedNode → List WatchedNode
+without n [] = []
+without n (w ∷ ws) = pick (eqb (w .node) n) ws (w ∷ without n ws)
+
+-- the run that watches these nodes: the places past them "hold zeros after an accepted add or removal"
+abbrev pub holding : List WatchedNode → Run
+holding ws = run (ws ++ replicate (32 - length ws) noNode) (length ws)

@@ -1,13 +1,13 @@
 // The watched nodes in lent words, three a node: its number, its timeout, when it was last heard. 32 places, of which the first so many are
 // watched.
 ghost use mathlib.Core.Path.{_≡_};
-ghost use Prim.Native.Nat.{_≤_};
+ghost use Prim.Native.Nat.{_≤_, _<_};
 ghost use lib.Dec.{ltb};
 ghost use lib.ListN.{length, take, drop};
 ghost use Rattle.types.specs.Pick.{both};
 ghost use Rattle.types.specs.Types.{isNode};
 ghost use Rattle.watched.specs.Watched.{fits, wellFormed, watchedNode, watchedOf};
-ghost use Rattle.watched.specs.Nodes.{rising, rests, foundOf, seenOf, nodesOf};
+ghost use Rattle.watched.specs.Nodes.{soonerBy, restUntil, triedOf, nodesTried, foundOf, seenOf, nodesOf};
 use crate::time::in_time;
 
 pub type NodeWords = [u64; 96];
@@ -34,16 +34,15 @@ pub fn all_places(nodes: &NodeWords)
     counted(nodes);
 }
 
+// Of a number above 0. Few nodes are above 240: a remainder, which no compiler works out ahead of its test, keeps what these ask out of the walks.
 fn is_node(n: u64) -> bool
+    requires { ⌜ 0 < n ⌝ }
     ensures { λ r. ⌜ r ≡ isNode n ⌝ }
 {
-    if n < 1 {
-        return false;
-    }
     if n <= 240 {
         return true;
     }
-    if n < 253 {
+    if 2 < n % 253 {
         return false;
     }
     n <= 255
@@ -65,88 +64,143 @@ pub fn follows(last: u64, node: u64, timeout: u64, last_heard: u64) -> bool
     in_time(last_heard)
 }
 
-// The nodes from a place on, where `last` is the number before them: ascending, and each within its limits.
-fn formed_from(nodes: &NodeWords, count: usize, place: usize, last: u64) -> bool
+// No moment: the walks carry the earliest one as a number.
+pub const NEVER: u64 = 18446744073709551615;
+
+// The sooner of the soonest moment so far and the one at which a node would be late.
+pub fn sooner(soonest: u64, timeout: u64, last_heard: u64) -> u64
+    requires { ⌜ (timeout ≤ 4611686018427387903) × («last_heard» ≤ 4611686018427387903) ⌝ }
+    ensures { λ r. ⌜ r ≡ soonerBy soonest (watchedNode 0 timeout «last_heard») ⌝ }
+{
+    if timeout == 0 {
+        return soonest;
+    }
+    if last_heard == 0 {
+        return soonest;
+    }
+    let late = last_heard + timeout + 1;
+    if late < soonest {
+        return late;
+    }
+    soonest
+}
+
+// Whether nodes are well formed, and the soonest moment at which one would be late.
+pub enum Tried {
+    Unformed,
+    Formed(u64),
+}
+
+// The nodes from a place on, where `last` is the number before them and `before` the soonest moment: ascending, and each within its limits.
+fn formed_from(nodes: &NodeWords, count: usize, place: usize, last: u64, before: u64) -> Tried
     requires { ⌜ count ≤ 32 ⌝ }
-    ensures { λ r. ⌜ r ≡ rising last (drop place (take count (nodesOf (now (nodes .entry))))) ⌝ }
+    ensures { λ r. ⌜ r ≡ triedOf last before (drop place (take count (nodesOf (now (nodes .entry))))) ⌝ }
 {
     let mut above = last;
+    let mut soonest = before;
     let mut i = place;
     while i < count {
         let at = 3 * i;
         let number = nodes[at];
-        if !follows(above, number, nodes[at + 1], nodes[at + 2]) {
-            return false;
+        let timeout = nodes[at + 1];
+        let last_heard = nodes[at + 2];
+        if !follows(above, number, timeout, last_heard) {
+            return Tried::Unformed;
         }
+        soonest = sooner(soonest, timeout, last_heard);
         above = number;
         i += 1;
     }
-    true
+    Tried::Formed(soonest)
 }
 
-// Whether the first nodes are few enough, ascending, and each within its limits.
+// Whether the first nodes are few enough, ascending, and each within its limits; and their soonest moment.
+pub fn try_nodes(nodes: &NodeWords, count: usize) -> Tried
+    ensures { λ r. ⌜ r ≡ nodesTried (watchedOf (nodesOf (now (nodes .entry))) count) ⌝ }
+{
+    if 32 < count {
+        return Tried::Unformed;
+    }
+    formed_from(nodes, count, 0, 0, NEVER)
+}
+
 pub fn well_formed(nodes: &NodeWords, count: usize) -> bool
     ensures { λ r. ⌜ r ≡ wellFormed (watchedOf (nodesOf (now (nodes .entry))) count) ⌝ }
 {
-    if 32 < count {
-        return false;
+    match try_nodes(nodes, count) {
+        Tried::Formed(_) => true,
+        Tried::Unformed => false,
     }
-    formed_from(nodes, count, 0, 0)
 }
 
-// The place of a node among well formed ones; their number where it is not watched.
+// The place of a node among well formed ones, their number where it is not watched; and the soonest moment with that node heard at a time.
 pub enum Found {
     Unformed,
-    Formed(usize),
+    Formed(usize, u64),
 }
 
-// Each node is read once: up to the one sought here, from there on by formed_from.
-pub fn find(nodes: &NodeWords, count: usize, node: u64) -> Found
-    ensures { λ r. ⌜ r ≡ foundOf node (watchedOf (nodesOf (now (nodes .entry))) count) ⌝ }
+// Each node is read once: up to the one sought here, behind it by formed_from.
+pub fn find(nodes: &NodeWords, count: usize, node: u64, time: u64) -> Found
+    requires { ⌜ time ≤ 4611686018427387903 ⌝ }
+    ensures { λ r. ⌜ r ≡ foundOf node time (watchedOf (nodesOf (now (nodes .entry))) count) ⌝ }
 {
     if 32 < count {
         return Found::Unformed;
     }
     let mut last: u64 = 0;
+    let mut soonest = NEVER;
     let mut i: usize = 0;
     while i < count {
         let at = 3 * i;
         let number = nodes[at];
+        let timeout = nodes[at + 1];
+        let last_heard = nodes[at + 2];
+        if !follows(last, number, timeout, last_heard) {
+            return Found::Unformed;
+        }
         if number == node {
-            if formed_from(nodes, count, i, last) {
-                return Found::Formed(i);
-            }
-            return Found::Unformed;
+            let rest = formed_from(nodes, count, i + 1, number, sooner(soonest, timeout, time));
+            let Tried::Formed(all) = rest else {
+                return Found::Unformed;
+            };
+            return Found::Formed(i, all);
         }
-        if !follows(last, number, nodes[at + 1], nodes[at + 2]) {
-            return Found::Unformed;
-        }
+        soonest = sooner(soonest, timeout, last_heard);
         last = number;
         i += 1;
     }
-    Found::Formed(count)
+    Found::Formed(count, soonest)
 }
 
-// A node that was heard, not after now, and is not late.
-fn rests(timeout: u64, last_heard: u64, time: u64) -> bool
-    ensures { λ r. ⌜ r ≡ rests time (watchedNode 0 timeout «last_heard») ⌝ }
+// The sooner of the soonest moment so far and that of a node which was heard, not after now, and is not late; 0 where it does not rest so.
+fn rest_until(soonest: u64, timeout: u64, last_heard: u64, time: u64) -> u64
+    requires { ⌜ (timeout ≤ 4611686018427387903) × («last_heard» ≤ 4611686018427387903) ⌝ }
+    ensures { λ r. ⌜ r ≡ restUntil time soonest (watchedNode 0 timeout «last_heard») ⌝ }
 {
     if last_heard == 0 {
-        return false;
+        return 0;
     }
     if timeout == 0 {
-        return true;
+        return soonest;
     }
     if time < last_heard {
-        return false;
+        return 0;
     }
-    time - last_heard <= timeout
+    let end = last_heard + timeout + 1;
+    if end <= time {
+        return 0;
+    }
+    if end < soonest {
+        return end;
+    }
+    soonest
 }
 
-// Whether some of well formed nodes does not rest, so that a tick is to look at them.
+// Whether some of well formed nodes does not rest, so that a tick is to look at them; where all do, the soonest moment.
 pub enum Seen {
     Unformed,
-    Formed(bool),
+    Roused,
+    Resting(u64),
 }
 
 // Each node is read once: up to one that does not rest here, from there on by formed_from.
@@ -157,23 +211,27 @@ pub fn look(nodes: &NodeWords, count: usize, time: u64) -> Seen
         return Seen::Unformed;
     }
     let mut last: u64 = 0;
+    let mut soonest = NEVER;
     let mut i: usize = 0;
     while i < count {
         let at = 3 * i;
         let number = nodes[at];
         let timeout = nodes[at + 1];
         let last_heard = nodes[at + 2];
-        if !rests(timeout, last_heard, time) {
-            if formed_from(nodes, count, i, last) {
-                return Seen::Formed(true);
-            }
-            return Seen::Unformed;
-        }
         if !follows(last, number, timeout, last_heard) {
             return Seen::Unformed;
         }
+        let until = rest_until(soonest, timeout, last_heard, time);
+        if until == 0 {
+            let rest = formed_from(nodes, count, i + 1, number, soonest);
+            let Tried::Formed(_) = rest else {
+                return Seen::Unformed;
+            };
+            return Seen::Roused;
+        }
+        soonest = until;
         last = number;
         i += 1;
     }
-    Seen::Formed(false)
+    Seen::Resting(soonest)
 }

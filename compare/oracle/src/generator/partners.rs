@@ -58,7 +58,7 @@ impl Script<'_> {
         lines.iter().try_for_each(|line| self.give(line))
     }
 
-    /// Behind it the run is mostly one of `good_run`, so that the other scenarios are as without this one.
+    /// Behind it the run is mostly one of `good_run`, which the other scenarios go by.
     pub(super) fn partners(&mut self) -> io::Result<()> {
         match self.random.below(14) {
             0..4 => self.arrivals_and_departures()?,

@@ -1,7 +1,7 @@
 -- `drive::head_call` meets its contract: each tag's call.
 -- Assumes nothing.
 use borrow.Author.Needs.{needs}
-use Rattle.watched.specs.Watched.{watchedOf}
+use Rattle.watched.specs.Watched.{run}
 use Rattle.watched.specs.Nodes.{nodesOf}
 use Rattle.drive.proofs.Turning.{turned-as, call-0, call-1, call-2, call-3, call-4, call-11, call-12, call-else}
 use Rattle.drive.proofs.head_call.Statement.{statement}
@@ -15,12 +15,12 @@ head-call-spec =
     (λ c q m ns bytes k.
     let v2 = c .before .before in
     let v4 = v2 .before .before in
-    turned-as (call-0 (v4 .args .row) (watchedOf (nodesOf ns) k) bytes (v2 .if1 .taken)) (c .nmt-turn .ensures q m ns k))
+    turned-as (call-0 (v4 .args .row) (run (nodesOf ns) k) bytes (v2 .if1 .taken)) (c .nmt-turn .ensures q m ns k))
     (λ c κs. search needs)
     (λ c q m ns bytes k.
     let v3 = c .before .before .before in
     let v7 = v3 .before .before .before .before in
-    turned-as (call-1 (v7 .args .row) (watchedOf (nodesOf ns) k) bytes (v3 .if2 .taken)) (c .dll-turn .ensures q m ns k))
+    turned-as (call-1 (v7 .args .row) (run (nodesOf ns) k) bytes (v3 .if2 .taken)) (c .dll-turn .ensures q m ns k))
     (λ c κs. search needs)
     (λ c κs. search needs)
     (λ c κs. search needs)
@@ -29,27 +29,27 @@ head-call-spec =
     let v3 = v2 .before in
     let v4 = v3 .before in
     let v10 = v4 .before .before .before .before .before .before in
-    turned-as (call-2 (v10 .args .row) (watchedOf (nodesOf ns) k) bytes (v4 .if3 .taken) (v3 .byte-of .result) (v2 .byte-of2 .result) (v3 .byte-of .ensures) (v2 .byte-of2 .ensures)) (c .error-turn .ensures q m ns k))
+    turned-as (call-2 (v10 .args .row) (run (nodesOf ns) k) bytes (v4 .if3 .taken) (v3 .byte-of .result) (v2 .byte-of2 .result) (v3 .byte-of .ensures) (v2 .byte-of2 .ensures)) (c .error-turn .ensures q m ns k))
     (λ c κs. search needs)
     (λ c q m ns bytes k.
     let v2 = c .before .before in
     let v10 = v2 .before .before .before .before .before .before .before .before in
-    turned-as (call-3 (v10 .args .row) (watchedOf (nodesOf ns) k) bytes (v2 .if4 .taken)) (c .cycle-turn .ensures q m ns k))
+    turned-as (call-3 (v10 .args .row) (run (nodesOf ns) k) bytes (v2 .if4 .taken)) (c .cycle-turn .ensures q m ns k))
     (λ c κs. search needs)
     (λ c q m ns bytes k.
     let v2 = c .before .before in
     let v12 = v2 .before .before .before .before .before .before .before .before .before .before in
-    turned-as (call-4 (v12 .args .row) (watchedOf (nodesOf ns) k) bytes (v2 .if5 .taken)) (c .withdraw-turn .ensures q m ns k))
+    turned-as (call-4 (v12 .args .row) (run (nodesOf ns) k) bytes (v2 .if5 .taken)) (c .withdraw-turn .ensures q m ns k))
     (λ c κs. search needs)
     (λ c q m ns bytes k.
     let v2 = c .before .before in
     let v14 = v2 .before .before .before .before .before .before .before .before .before .before .before .before in
-    turned-as (call-11 (v14 .args .row) (watchedOf (nodesOf ns) k) bytes (v2 .if6 .taken)) (c .range-turn .ensures q m ns k))
+    turned-as (call-11 (v14 .args .row) (run (nodesOf ns) k) bytes (v2 .if6 .taken)) (c .range-turn .ensures q m ns k))
     (λ c κs. search needs)
     (λ c q m ns bytes k.
     let v2 = c .before .before in
     let v16 = v2 .before .before .before .before .before .before .before .before .before .before .before .before .before .before in
-    turned-as (call-12 (v16 .args .row) (watchedOf (nodesOf ns) k) bytes (v2 .if7 .taken)) (c .margin-turn .ensures q m ns k))
+    turned-as (call-12 (v16 .args .row) (run (nodesOf ns) k) bytes (v2 .if7 .taken)) (c .margin-turn .ensures q m ns k))
     (λ c κs. search needs)
     (λ c q m ns bytes k.
     let v2 = c .before .before in
@@ -60,4 +60,4 @@ head-call-spec =
     let v12 = v10 .before .before in
     let v14 = v12 .before .before in
     let v16 = v14 .before .before in
-    turned-as (call-else (v16 .args .row) (watchedOf (nodesOf ns) k) bytes (v14 .if1 .left) (v12 .if2 .left) (v10 .if3 .left) (v8 .if4 .left) (v6 .if5 .left) (v16 .pre .0) (v16 .pre .1) (v16 .pre .2) (v16 .pre .3) (v4 .if6 .left) (v2 .if7 .left)) (c .arm-turn .ensures q m ns k)))
+    turned-as (call-else (v16 .args .row) (run (nodesOf ns) k) bytes (v14 .if1 .left) (v12 .if2 .left) (v10 .if3 .left) (v8 .if4 .left) (v6 .if5 .left) (v16 .pre .0) (v16 .pre .1) (v16 .pre .2) (v16 .pre .3) (v4 .if6 .left) (v2 .if7 .left) (v16 .pre .4) (v16 .pre .5)) (c .arm-turn .ensures q m ns k)))

@@ -12,7 +12,7 @@ heard-turn-spec =
     (tie.spec
     (λ c κs. search needs)
     (λ c κs. search needs)
-    (λ c ws q m.
+    (λ c q m.
     let v1 = c .before in
-    let a = v1 .before .before .args in
-    turned (made-heard ws q m (a .count) (a .node) (a .time) (v1 .heard .result) (v1 .heard .ensures)) (c .number .ensures)))
+    let a = v1 .before .before .before .args in
+    turned (made-heard q m (a .count) (a .node) (a .time) (v1 .heard .result) (v1 .heard .ensures)) (c .number .ensures)))

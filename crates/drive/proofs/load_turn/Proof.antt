@@ -7,7 +7,7 @@ use lib.Dec.{eqb}
 use lib.ListN.{length, take, drop}
 use denote.Ref.{now}
 use borrow.Author.Needs.{needs}
-use Rattle.watched.specs.Watched.{watchedOf}
+use Rattle.watched.specs.Watched.{run}
 use Rattle.watched.specs.Nodes.{nodesOf}
 use Rattle.drive.proofs.Making.{made-load}
 use Rattle.drive.proofs.Turning.{turned, turned-as, call-7, cut-fits, part-cut}
@@ -45,6 +45,6 @@ load-turn-spec =
     let to = from + v6 .cut2 .result in
     let part = take (to - from) (drop from (now (v9 .args .bytes))) in
     turned-as
-    (call-7 (v9 .args .row) (watchedOf (nodesOf ns) k) (now (v9 .args .bytes)) (v9 .pre) (v3 .values .result) part (v3 .values .ensures)
+    (call-7 (v9 .args .row) (run (nodesOf ns) k) (now (v9 .args .bytes)) (v9 .pre) (v3 .values .result) part (v3 .values .ensures)
     (part-cut (v9 .args .row) (now (v9 .args .bytes)) from (v6 .cut2 .result) to (v7 .cut .ensures) (v6 .cut2 .ensures) refl))
     (turned (made-load q (now (v9 .args .history)) ns k (v3 .values .result) (eqb (v9 .args .row .h) 1) part (c .load .ensures)) refl)))

@@ -20,5 +20,5 @@ play-spec =
     (λ c.
     let v2 = c .before .before in
     let v4 = v2 .before .before in
-    let v9 = v4 .before .before .before .before .before in
-    plays-calls (v9 .if1 .left) (v4 .call .ensures) (v2 .put .ensures)))
+    let v10 = v4 .before .before .before .before .before .before in
+    plays-calls (v10 .if1 .left) (v4 .call .ensures) (v2 .put .ensures)))

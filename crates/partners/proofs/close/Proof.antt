@@ -46,7 +46,7 @@ close-spec =
     let x = c .before .before .before .before .before in
     let t = x .before in
     let l = t .before .loop in
-    (closed-shifts (l .nodes) (l .i) (t .before .before .args .count) _ (l .inv .0) (t .loop-test .taken) (x .if1 .taken) (l .inv .1) _ (c .put .ensures), l .inv .1))
+    (closed-shifts (l .nodes) (l .here) (t .before .before .args .count) _ (l .inv .0) (omega (arith, t .loop-test .taken, l .inv .1)) (omega (arith, x .if1 .taken)) (l .inv .1) _ (c .put .ensures), l .inv .1))
     (λ c κs. omega arith)
     (λ c. omega arith)
     (λ c. omega arith)
@@ -54,7 +54,7 @@ close-spec =
     let x = c .before .before in
     let t = x .before in
     let l = t .before .loop in
-    (closed-clears (l .nodes) (l .i) (t .before .before .args .count) _ (l .inv .0) (t .loop-test .taken) (x .if1 .left) _ (c .put2 .ensures), l .inv .1))
+    (closed-clears (l .nodes) (l .here) (t .before .before .args .count) _ (l .inv .0) (omega (arith, t .loop-test .taken, l .inv .1)) (x .if1 .left) _ (c .put2 .ensures), l .inv .1))
     (λ c.
     let l = c .before .loop in
-    closed-ends (l .nodes) (l .i) (c .before .before .args .count) _ (l .inv .0) (c .loop-test .left)))
+    closed-ends (l .nodes) (l .here) (c .before .before .args .count) _ (l .inv .0) (omega (arith, c .loop-test .left))))

@@ -45,7 +45,7 @@ insert-spec =
     let x = y .before in
     let t = x .before .before .before .before in
     let l = t .before .loop in
-    carried-swaps (l .nodes) (l .i) (t .before .before .args .count) (watchedNode (l .number) (l .limit) (l .heard)) _ (l .inv) (t .loop-test .taken) (x .if1 .taken) (y .if2 .taken) _ (c .put .ensures))
+    carried-swaps (l .nodes) (l .i) (t .before .before .args .count) (watchedNode (l .number) (l .limit) (l .heard)) _ (l .inv) (t .loop-test .taken) (x .if1 .taken) (omega (arith, y .if2 .taken)) _ (c .put .ensures))
     (λ c. omega arith)
     (λ c. omega arith)
     (λ c.

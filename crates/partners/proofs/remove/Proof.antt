@@ -1,9 +1,11 @@
--- `partners::remove` meets its contract: its tests, then the walk.
+-- `partners::remove` meets its contract: its tests, then the walk, and the earliest moment.
 -- Assumes nothing.
+use mathlib.Core.Path.{refl}
+use native.Mathlib.Omega.{arith}
 use denote.Ref.{now}
 use borrow.Author.Needs.{needs}
-use Rattle.watched.proofs.Watching.{found-unformed, found-formed, few}
-use Rattle.partners.proofs.Told.{remove-unformed, remove-nowhere, remove-taken}
+use Rattle.watched.proofs.Watching.{found-unformed, found-formed}
+use Rattle.partners.proofs.Told.{remove-unformed, remove-inside, remove-declined, remove-taken}
 use Rattle.partners.proofs.remove.Statement.{statement}
 use Rattle.partners.proofs.remove.Tie as tie
 
@@ -12,31 +14,56 @@ remove-spec =
     tie.close
     (tie.spec
     (λ c κs. search needs)
+    (λ c κs. search needs)
     (λ c. search needs)
     (λ c. search needs)
+    (λ c κs. search needs)
     (λ c.
-    let f = c .before .before in
-    let a = f .before .before .before .args in
-    remove-unformed (now (a .nodes)) (now (a .count)) (a .node)
-    (found-unformed (now (a .nodes)) (now (a .count)) (a .node) (f .find .result) (f .find .ensures) (c .enum-told .given .1)))
+    let o = c .before in
+    let s = o .before .before in
+    let a = s .before .before .before .before .before .args in
+    remove-unformed (now (a .head)) (now (a .nodes)) (now (a .count)) (a .node)
+    (found-unformed (now (a .nodes)) (now (a .count)) (a .node) 0 (s .find .result) (s .find .ensures) (o .enum-told .given .1))
+    (c .try-remove .result) (c .try-remove .ensures))
+    (λ c κs. search needs)
+    (λ c. search needs)
     (λ c κs.
-    let x = c .before in
-    let d = x .before .before in
-    let f = d .before .before in
-    let a = f .before .before .before .args in
-    let y = found-formed (now (a .nodes)) (now (a .count)) (a .node) (f .find .result) (f .find .ensures) _ (d .found .given .1) in
-    (x .if1 .taken, few (now (a .nodes)) (now (a .count)) (y .0)))
+    let t = c .before in
+    let y = t .before .before in
+    let f = y .before .before in
+    let s = f .before .before in
+    let a = s .before .before .before .before .before .args in
+    let x = found-formed (now (a .nodes)) (now (a .count)) (a .node) 0 (s .find .result) (s .find .ensures) _ _ (f .found .given .1) in
+    remove-inside (now (a .head)) (now (a .nodes)) (now (a .count)) (a .node) (x .0) _ (x .1) _ refl (y .try-remove2 .result) (y .try-remove2 .ensures) (t .enum-told2 .given .1))
+    (λ c.
+    let t = c .before .before in
+    let y = t .before .before in
+    let f = y .before .before in
+    let s = f .before .before in
+    let a = s .before .before .before .before .before .args in
+    let x = found-formed (now (a .nodes)) (now (a .count)) (a .node) 0 (s .find .result) (s .find .ensures) _ _ (f .found .given .1) in
+    let r = remove-inside (now (a .head)) (now (a .nodes)) (now (a .count)) (a .node) (x .0) _ (x .1) _ refl (y .try-remove2 .result) (y .try-remove2 .ensures) (t .enum-told2 .given .1) in
+    omega (arith, r .0))
+    (λ c κs. search needs)
+    (λ c κs. search needs)
+    (λ c.
+    let o = c .before in
+    let l = o .before .before in
+    let t = l .before .before in
+    let y = t .before .before in
+    let f = y .before .before in
+    let s = f .before .before in
+    let h = s .before .before .before in
+    let a = h .before .before .args in
+    let x = found-formed (now (a .nodes)) (now (a .count)) (a .node) 0 (s .find .result) (s .find .ensures) _ _ (f .found .given .1) in
+    remove-taken (now (a .head)) (now (a .nodes)) (now (a .count)) (a .node) (x .0) _ (x .1) _ refl (y .try-remove2 .result) (y .try-remove2 .ensures) (t .enum-told2 .given .1)
+    (h .whole .ensures) _ (l .close .ensures) _ (x .2) (o .moment .result) (o .moment .ensures) _ (c .set-earliest .ensures))
     (λ c. search needs)
     (λ c.
-    let x = c .before .before in
-    let d = x .before .before in
-    let f = d .before .before in
-    let a = f .before .before .before .args in
-    let y = found-formed (now (a .nodes)) (now (a .count)) (a .node) (f .find .result) (f .find .ensures) _ (d .found .given .1) in
-    remove-taken (now (a .nodes)) (now (a .count)) (a .node) (y .0) _ (y .1) (x .if1 .taken) _ (c .close .ensures))
-    (λ c.
-    let d = c .before .before in
-    let f = d .before .before in
-    let a = f .before .before .before .args in
-    let y = found-formed (now (a .nodes)) (now (a .count)) (a .node) (f .find .result) (f .find .ensures) _ (d .found .given .1) in
-    remove-nowhere (now (a .nodes)) (now (a .count)) (a .node) (y .0) _ (y .1) (c .if1 .left)))
+    let q = c .before in
+    let y = q .before .before in
+    let f = y .before .before in
+    let s = f .before .before in
+    let a = s .before .before .before .before .before .args in
+    let x = found-formed (now (a .nodes)) (now (a .count)) (a .node) 0 (s .find .result) (s .find .ensures) _ _ (f .found .given .1) in
+    remove-declined (now (a .head)) (now (a .nodes)) (now (a .count)) (a .node) (x .0) _ (x .1) _ refl (y .try-remove2 .result) (y .try-remove2 .ensures) _ (q .answer .given .1)))

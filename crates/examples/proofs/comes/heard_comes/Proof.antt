@@ -1,4 +1,4 @@
--- `examples::comes::heard_comes` meets its contract: the call, its answer and the head at hand.
+-- `examples::comes::heard_comes` meets its contract: the call, its answer and the head.
 -- Assumes nothing.
 use borrow.Author.Needs.{needs}
 use Rattle.examples.proofs.Coming.{came-heard}
@@ -13,6 +13,6 @@ heard-comes-spec =
     (λ c κs. search needs)
     (λ c κs. search needs)
     (λ c.
-    let v1 = c .before in
-    let v2 = v1 .before in
-    came-heard _ _ _ _ _ _ _ _ _ (v1 .is-taken .ensures) (c .same-head .ensures) (v2 .heard .ensures)))
+    let v2 = c .before .before in
+    let v3 = v2 .before in
+    came-heard _ _ _ _ _ _ _ _ _ _ (v2 .is-taken .ensures) (c .same-head .ensures) (v3 .heard .ensures)))

@@ -1,4 +1,4 @@
--- `examples::same::same_head` meets its contract: the seven parts.
+-- `examples::same::same_head` meets its contract: the eight parts.
 -- Assumes nothing.
 use borrow.Author.Needs.{needs}
 use denote.Ref.{now}
@@ -17,6 +17,7 @@ same-head-spec =
     (λ c κs. search needs)
     (λ c κs. search needs)
     (λ c κs. search needs)
+    (λ c κs. search needs)
     (λ c.
     let v1 = c .before in
     let v2 = v1 .before in
@@ -25,4 +26,5 @@ same-head-spec =
     let v5 = v4 .before in
     let v6 = v5 .before in
     let v7 = v6 .before in
-    exact-is (rw (c .same-history .ensures, v1 .same-queue .ensures, v2 .same-od .ensures, v3 .same-soc .ensures, v4 .same-errors .ensures, v5 .same-dll .ensures, v6 .same-nmt .ensures)) (exact-head (now (v7 .args .a)) (now (v7 .args .b)))))
+    let v8 = v7 .before in
+    exact-is (rw (c .same-earliest .ensures, v1 .same-history .ensures, v2 .same-queue .ensures, v3 .same-od .ensures, v4 .same-soc .ensures, v5 .same-errors .ensures, v6 .same-dll .ensures, v7 .same-nmt .ensures)) (exact-head (now (v8 .args .a)) (now (v8 .args .b)))))

@@ -32,7 +32,7 @@ late-spec =
     let v24 = v20 .before .before .before .before in
     let v26 = v24 .before .before in
     let v28 = v26 .before .before in
-    let h = next (begin late _ (v28 .counting .ensures) (holds 11) _ _) (at-call (ap (Call.heard 5 100) (v24 .watching .ensures)) (v20 .heard-comes .ensures _ _)) refl refl (v26 .counting2 .ensures) in
-    let t = next (h .1) (at-call (ap (Call.tick 150) (h .0 .lent)) (v12 .tick-comes .ensures)) refl refl (v26 .counting2 .ensures) in
-    let l = next (t .1) (at-call (ap (Call.tick 151) (t .0 .lent)) (v2 .tick-comes2 .ensures)) refl refl (v8 .counting3 .ensures) in
+    let h = next (begin late _ (v28 .counting .ensures) (holds 11) _ _) (at-call (ap (Call.heard 5 100) (v24 .watching .ensures)) (v20 .heard-comes .ensures _ _)) refl refl (v26 .awaiting .ensures) in
+    let t = next (h .1) (at-call (ap (Call.tick 150) (h .0 .lent)) (v12 .tick-comes .ensures)) refl refl (v26 .awaiting .ensures) in
+    let l = next (t .1) (at-call (ap (Call.tick 151) (t .0 .lent)) (v2 .tick-comes2 .ensures)) refl refl (v8 .awaiting2 .ensures) in
     record { head = l .0 .whole; lent = l .0 .lent; same = also (also (also (also (also (h .0 .same) (v18 .is-watching .ensures .holds (h .0 .lent))) (t .0 .same)) (v10 .is-watching2 .ensures .holds (t .0 .lent))) (l .0 .same)) (c .is-watching3 .ensures .holds (l .0 .lent)) }))

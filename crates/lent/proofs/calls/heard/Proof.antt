@@ -1,13 +1,16 @@
 -- `lent::calls::heard` meets its contract: the `JudgedHeard` walk over `for_heard`, `survey`, `hear` and `settle`. Assumes nothing.
-use mathlib.Core.List.{map}
 use denote.Triple.Spec.{tripleOf}
 use denote.Triple.Table.{entered, cited}
 use contract.Running.{givenOf, tables, tablesOf}
+use mir.Syntax.{w32, tyInt, tyArray}
+use denote.Builtin.{u32}
+use denote.Array.{Array}
 use Rattle.lentlaws.proofs.JudgedHeard.{meets}
-use Rattle.lent.specs.Runs.{forHeard, foundAll, settled}
+use Rattle.lent.specs.Runs.{forHeard, surveyed, settledAll}
 use Rattle.lent.specs.Judged.{Hears}
+use Rattle.watched.specs.Watched.{run}
 use Rattle.node.specs.Heard.{HeardOn}
-use Rattle.lent.proofs.Types.{node, findings, setting, word8, word64, call-answer, call-parts}
+use Rattle.lent.proofs.Types.{node, surveys, settling, size, word8, word64, call-answer, call-parts}
 use Rattle.lent.proofs.run.for_heard as ask
 use Rattle.lent.proofs.run.for_heard.Symbol as ask-def
 use Rattle.lent.proofs.run.for_heard.Met as ask-thm
@@ -30,7 +33,7 @@ unfolding code.routine tablesOf
 heard-spec 𝓤 H 𝓜 𝓖 𝓡 =
     entered 𝓤 H (tripleOf 𝓤 H (𝓖 .A) f.signature (f.spec 𝓤 H (𝓖 .A) (𝓜 .mem) (𝓡 .run)))
     (tables 𝓤 H 𝓜 𝓡 code.env .C) (tables 𝓤 H 𝓜 𝓡 code.env .Λ) f-key.name code.function (code.unfolded 𝓤 H 𝓜 𝓡)
-    (meets node findings setting call-answer word8 word64 call-parts forHeard foundAll Hears (λ s ws. map (settled s) ws) HeardOn (λ ws n t s r e judged. judged ws e)
+    (meets node surveys settling call-answer size word8 word64 call-parts (Array u32 60) (tyArray (tyInt w32) 60) forHeard surveyed Hears settledAll (λ ws vs k n t a ws′ vs′. HeardOn ws (run vs k) n t a ws′ (run vs′ k)) (λ vs ws k n t s r ws′ e judged. judged vs e)
     ask-def.name survey-def.name judge-def.name settle-def.name 𝓤 H (𝓖 .A) (givenOf 𝓤 H 𝓜 𝓖) (tablesOf 𝓤 H 𝓜 (tables 𝓤 H 𝓜 𝓡 code.env))
     (cited 𝓤 H (tripleOf 𝓤 H (𝓖 .A) ask.signature (ask.spec 𝓤 H (𝓖 .A) (𝓜 .mem) (𝓡 .run))) 𝓜 𝓡 code.env ask-def.name ask-def.routine code.calls-lent·run·for-heard (ask-thm.met 𝓤 H 𝓜 𝓖 𝓡))
     (cited 𝓤 H (tripleOf 𝓤 H (𝓖 .A) survey.signature (survey.spec 𝓤 H (𝓖 .A) (𝓜 .mem) (𝓡 .run))) 𝓜 𝓡 code.env survey-def.name survey-def.routine code.calls-lent·run·survey (survey-thm.met 𝓤 H 𝓜 𝓖 𝓡))

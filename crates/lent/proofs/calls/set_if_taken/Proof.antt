@@ -13,5 +13,5 @@ set-if-taken-spec =
     (tie.spec
     (λ c. search needs)
     (λ c. search needs)
-    (λ c. sym (ap (λ (a : CallAnswer). doneBy a (c .before .before .args .setting)) (c .enum-told .given .1)))
-    (λ c. sym (ap (λ (a : CallAnswer). doneBy a (c .before .before .before .args .setting)) (c .before .answer .given .1))))
+    (λ c. let a = c .before .before .args in sym (ap (λ (x : CallAnswer). doneBy x (a .number) (a .setting)) (c .enum-told .given .1)))
+    (λ c. let a = c .before .before .before .args in sym (ap (λ (x : CallAnswer). doneBy x (a .number) (a .setting)) (c .before .answer .given .1))))

@@ -16,5 +16,5 @@ start-by-spec =
     (λ c.
     let y = c .before in
     let f = y .before .before in
-    let a = f .before .before .args in
-    start-done (now (a .head)) (a .node) (a .feature-flags) (a .basic-ethernet-timeout) (a .queue-capacity) (a .od) (a .thresholds) (a .found) (f .passes .result) (f .passes .ensures) (y .begin .result) _ (y .begin .ensures) (c .set-if-taken .result) (c .set-if-taken .ensures)))
+    let a = f .before .args in
+    start-done (now (a .head)) (a .number) (a .node) (a .feature-flags) (a .basic-ethernet-timeout) (a .queue-capacity) (a .od) (a .thresholds) (a .seen) (f .passes .result) (f .passes .ensures) (y .begin .result) _ (y .begin .ensures) (c .set-if-taken .result) (c .set-if-taken .ensures)))

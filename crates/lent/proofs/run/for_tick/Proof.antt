@@ -1,4 +1,4 @@
--- `lent::run::for_tick` meets its contract: by those of `counter_of` and `ask`.
+-- `lent::run::for_tick` meets its contract: by those of its parts.
 -- Assumes nothing.
 use borrow.Author.Needs.{needs}
 use Rattle.lent.proofs.run.for_tick.Statement.{statement}
@@ -10,4 +10,11 @@ for-tick-spec =
     (tie.spec
     (λ c κs. search needs)
     (λ c κs. search needs)
-    (λ c. rw (c .ask .ensures, c .before .counter-of .ensures)))
+    (λ c κs. search needs)
+    (λ c κs. search needs)
+    (λ c κs. search needs)
+    (λ c.
+    let l = c .before in
+    let h = l .before in
+    let s = h .before in
+    rw (c .ask .ensures, l .look-if .ensures, h .checks-heartbeats .ensures, s .state-at .ensures, s .before .counter-of .ensures)))

@@ -1,14 +1,14 @@
--- `lent::run::settle` meets its contract: the `Each` walk over `set`. Assumes nothing.
+-- `lent::run::settle` meets its contract: the `Scan` walk over `set_next`. Assumes nothing.
 use denote.Triple.Spec.{tripleOf}
 use denote.Triple.Table.{entered, cited}
 use contract.Running.{givenOf, tables, tablesOf}
-use Rattle.lentlaws.proofs.Each.{meets}
+use Rattle.lentlaws.proofs.Scan.{meets}
 use Rattle.watched.specs.Watched.{noNode}
-use Rattle.lent.specs.Runs.{settled}
-use Rattle.lent.proofs.Types.{node, setting}
-use Rattle.lent.proofs.run.set as g
-use Rattle.lent.proofs.run.set.Symbol as g-def
-use Rattle.lent.proofs.run.set.Met as g-thm
+use Rattle.lent.specs.Runs.{setNext}
+use Rattle.lent.proofs.Types.{node, settling, settled-parts}
+use Rattle.lent.proofs.run.set_next as g
+use Rattle.lent.proofs.run.set_next.Symbol as g-def
+use Rattle.lent.proofs.run.set_next.Met as g-thm
 use Rattle.lent.proofs.run.settle as f
 use Rattle.lent.proofs.run.settle.Key as f-key
 use Rattle.lent.proofs.run.settle.Statement as stated
@@ -19,5 +19,5 @@ unfolding code.routine tablesOf
 settle-spec 𝓤 H 𝓜 𝓖 𝓡 =
     entered 𝓤 H (tripleOf 𝓤 H (𝓖 .A) f.signature (f.spec 𝓤 H (𝓖 .A) (𝓜 .mem) (𝓡 .run)))
     (tables 𝓤 H 𝓜 𝓡 code.env .C) (tables 𝓤 H 𝓜 𝓡 code.env .Λ) f-key.name code.function (code.unfolded 𝓤 H 𝓜 𝓡)
-    (meets node setting settled g-def.name noNode tt 𝓤 H (𝓖 .A) (givenOf 𝓤 H 𝓜 𝓖) (tablesOf 𝓤 H 𝓜 (tables 𝓤 H 𝓜 𝓡 code.env))
-    (cited 𝓤 H (tripleOf 𝓤 H (𝓖 .A) g.signature (g.spec 𝓤 H (𝓖 .A) (𝓜 .mem) (𝓡 .run))) 𝓜 𝓡 code.env g-def.name g-def.routine code.calls-lent·run·set (g-thm.met 𝓤 H 𝓜 𝓖 𝓡)))
+    (meets node settling settled-parts setNext g-def.name noNode tt 𝓤 H (𝓖 .A) (givenOf 𝓤 H 𝓜 𝓖) (tablesOf 𝓤 H 𝓜 (tables 𝓤 H 𝓜 𝓡 code.env))
+    (cited 𝓤 H (tripleOf 𝓤 H (𝓖 .A) g.signature (g.spec 𝓤 H (𝓖 .A) (𝓜 .mem) (𝓡 .run))) 𝓜 𝓡 code.env g-def.name g-def.routine code.calls-lent·run·set-next (g-thm.met 𝓤 H 𝓜 𝓖 𝓡)))

@@ -11,13 +11,13 @@ use Rattle.replay.proofs.session.key_after.Statement.{statement}
 use Rattle.replay.proofs.session.key_after.Tie as tie
 
 module _ (s : Session) (k : ℕ) where
-  roomy : k ≡ 87 → s .count < 40 → k ≡ keyAfter s k
+  roomy : k ≡ 87 → s .number < 40 → k ≡ keyAfter s k
   unfolding keyAfter
-  roomy e h = rw (e, lt-ltb (s .count) 40 h)
+  roomy e h = rw (e, lt-ltb (s .number) 40 h)
 
-  full : k ≡ 87 → 40 ≤ s .count → noLine ≡ keyAfter s k
+  full : k ≡ 87 → 40 ≤ s .number → noLine ≡ keyAfter s k
   unfolding keyAfter
-  full e h = rw (e, le-ltb (s .count) 40 h)
+  full e h = rw (e, le-ltb (s .number) 40 h)
 
   headed : 97 ≤ k → k < 123 → s .started ≡ true → k ≡ keyAfter s k
   unfolding keyAfter

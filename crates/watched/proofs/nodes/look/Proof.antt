@@ -1,7 +1,7 @@
 -- `watched::nodes::look` meets its contract: node by node up to one that does not rest. The invariant: what is left gives what the whole gives.
 -- Assumes nothing.
-use Prim.Native.Nat.{_-_, _≤_}
-use mathlib.Core.Path.{_≡_, sym, _∙_}
+use Prim.Native.Nat.{_-_, _≤_, _<_}
+use mathlib.Core.Path.{_≡_, refl, sym, _∙_}
 use mathlib.Core.Bool.{true, false}
 use native.Mathlib.Omega.{arith}
 use lib.ListN.{take, drop}
@@ -9,19 +9,21 @@ use denote.Ref.{now}
 use borrow.Author.Needs.{needs}
 use Rattle.watched.specs.Watched.{allOf, wellFormed, watchedOf}
 use Rattle.watched.proofs.Lists.{not-true, not-false}
-use Rattle.watched.specs.Nodes.{nodesOf, rising, rests}
-use Rattle.watched.proofs.Watching.{many, formed-begins, formed-stops, formed-next, formed-ends, rest-begins, rest-stops, rest-next, rest-ends, look-unformed, look-formed}
+use Rattle.watched.specs.Nodes.{nodeAt, nodesOf, rising, rests, never, soonest}
+use Rattle.watched.proofs.Watching.{many, follows-fit, tried-unformed, tried-formed, formed-begins, formed-stops, formed-next, formed-ends, soonest-begins, soonest-next, soonest-ends, rest-begins, rest-stops, rest-next, rest-ends, until-none, until-one, look-unformed, look-roused, look-rests}
 use Rattle.watched.proofs.nodes.look.Statement.{statement}
 use Rattle.watched.proofs.nodes.look.Tie as tie
 
 abbrev Inv-loop : tie.InvT-loop
-Inv-loop nodes count time last₀ i₀ last i =
+Inv-loop nodes count time last₀ soonest₀ i₀ last sooner i =
     (wellFormed (watchedOf (nodesOf nodes) count) ≡ rising last (drop i (take count (nodesOf nodes))))
     × (allOf (rests time) (watchedOf (nodesOf nodes) count) ≡ allOf (rests time) (drop i (take count (nodesOf nodes))))
     × (count ≤ 32)
+    × (soonest never (watchedOf (nodesOf nodes) count) ≡ soonest sooner (drop i (take count (nodesOf nodes))))
+    × (0 < sooner)
 
 abbrev μ-loop : tie.MeasureT-loop
-μ-loop nodes count time last₀ i₀ last i = count - i
+μ-loop nodes count time last₀ soonest₀ i₀ last sooner i = count - i
 
 pub look-spec : {M : Type 1} → statement M
 look-spec =
@@ -33,8 +35,13 @@ look-spec =
     let a = c .before .args in
     look-unformed (now (a .nodes)) (a .count) (a .time) (many (now (a .nodes)) (a .count) (c .if1 .taken)))
     (λ c.
-    let a = c .before .args in
-    (formed-begins (now (a .nodes)) (a .count) (c .if1 .left), rest-begins (now (a .nodes)) (a .count) (c .if1 .left) (a .time), c .if1 .left))
+    let a = c .before .args in (
+      formed-begins (now (a .nodes)) (a .count) (c .if1 .left),
+      rest-begins (now (a .nodes)) (a .count) (c .if1 .left) (a .time),
+      c .if1 .left,
+      soonest-begins (now (a .nodes)) (a .count) (c .if1 .left),
+      omega arith,
+    ))
     (λ c. omega arith)
     (λ c. omega arith)
     (λ c. omega arith)
@@ -44,50 +51,71 @@ look-spec =
     (λ c. omega arith)
     (λ c. omega arith)
     (λ c. omega arith)
-    (λ c κs. search needs)
-    (λ c κs. c .before .before .before .before .before .before .loop .inv .2)
-    (λ c.
-    let r = c .before in
-    let h = r .before in
-    let s = h .before in
-    let t = s .before .before .before .before in
-    let l = t .before .loop in
-    let a = t .before .before .before .args in
-    look-formed (now (a .nodes)) (a .count) (a .time) (l .inv .0 ∙ sym (r .formed-from .ensures) ∙ c .if3 .taken) false
-    (rest-stops (now (a .nodes)) (a .count) (l .inv .2) (l .i) (t .loop-test .taken) (a .time) _ (l .inv .1)
-    (s .rests .result) (s .rests .ensures) (not-true (s .rests .result) (h .if2 .taken))))
-    (λ c.
-    let r = c .before in
-    let t = r .before .before .before .before .before .before in
-    let l = t .before .loop in
-    let a = t .before .before .before .args in
-    look-unformed (now (a .nodes)) (a .count) (a .time) (l .inv .0 ∙ sym (r .formed-from .ensures) ∙ c .if3 .left))
     (λ c κs. search needs)
     (λ c.
     let f = c .before in
-    let t = f .before .before .before .before .before .before in
+    let t = f .before .before .before .before in
     let l = t .before .loop in
     let a = t .before .before .before .args in
     look-unformed (now (a .nodes)) (a .count) (a .time)
     (formed-stops (now (a .nodes)) (a .count) (l .inv .2) (l .i) (t .loop-test .taken) _ (l .last) (l .inv .0)
-    (f .follows .result) (f .follows .ensures) (not-true (f .follows .result) (c .if4 .taken))))
+    (f .follows .result) (f .follows .ensures) (not-true (f .follows .result) (c .if2 .taken))))
+    (λ c κs.
+    let f = c .before in
+    let t = f .before .before .before .before in
+    let l = t .before .loop in
+    let a = t .before .before .before .args in
+    follows-fit (l .last) (nodeAt (now (a .nodes)) (l .i)) (f .follows .result) (f .follows .ensures) (not-false (f .follows .result) (c .if2 .left)))
+    (λ c. omega arith)
+    (λ c κs. c .before .before .before .before .before .before .before .before .loop .inv .2)
+    (λ c. search needs)
+    (λ c. search needs)
+    (λ c.
+    let r = c .before .before in
+    let e = r .before .before .before in
+    let f = e .before in
+    let t = f .before .before .before .before in
+    let l = t .before .loop in
+    let a = t .before .before .before .args in
+    look-unformed (now (a .nodes)) (a .count) (a .time)
+    (formed-next (now (a .nodes)) (a .count) (l .inv .2) (l .i) (t .loop-test .taken) _ (l .last) (l .inv .0)
+    (f .follows .result) (f .follows .ensures) (not-false (f .follows .result) (e .if2 .left))
+    ∙ tried-unformed _ _ (r .formed-from .result) (r .formed-from .ensures) (c .enum-told2 .given .1)))
+    (λ c.
+    let r = c .before .before in
+    let h = r .before in
+    let s = h .before in
+    let e = s .before in
+    let f = e .before in
+    let t = f .before .before .before .before in
+    let l = t .before .loop in
+    let a = t .before .before .before .args in
+    let x = tried-formed _ _ (r .formed-from .result) (r .formed-from .ensures) _ (c .enum-told .given .1) in
+    look-roused (now (a .nodes)) (a .count) (a .time)
+    (formed-next (now (a .nodes)) (a .count) (l .inv .2) (l .i) (t .loop-test .taken) _ (l .last) (l .inv .0)
+    (f .follows .result) (f .follows .ensures) (not-false (f .follows .result) (e .if2 .left)) ∙ x .0)
+    (rest-stops (now (a .nodes)) (a .count) (l .inv .2) (l .i) (t .loop-test .taken) (a .time) _ (l .inv .1)
+    false (sym (until-none (a .time) (l .soonest) (nodeAt (now (a .nodes)) (l .i)) (l .inv .4) (s .rest-until .result) (s .rest-until .ensures) (h .if3 .taken))) refl))
     (λ c. omega arith)
     (λ c. omega arith)
     (λ c.
-    let f = c .before in
-    let e = f .before in
-    let s = e .before in
-    let t = s .before .before .before .before in
+    let s = c .before in
+    let e = s .before in
+    let f = e .before in
+    let t = f .before .before .before .before in
     let l = t .before .loop in
-    let a = t .before .before .before .args in (
+    let a = t .before .before .before .args in
+    let u = until-one (a .time) (l .soonest) (nodeAt (now (a .nodes)) (l .i)) (l .inv .4) (s .rest-until .result) (s .rest-until .ensures) (c .if3 .left) in (
       formed-next (now (a .nodes)) (a .count) (l .inv .2) (l .i) (t .loop-test .taken) _ (l .last) (l .inv .0)
-          (f .follows .result) (f .follows .ensures) (not-false (f .follows .result) (c .if4 .left)),
-      rest-next (now (a .nodes)) (a .count) (l .inv .2) (l .i) (t .loop-test .taken) (a .time) _ (l .inv .1)
-          (s .rests .result) (s .rests .ensures) (not-false (s .rests .result) (e .if2 .left)),
+          (f .follows .result) (f .follows .ensures) (not-false (f .follows .result) (e .if2 .left)),
+      rest-next (now (a .nodes)) (a .count) (l .inv .2) (l .i) (t .loop-test .taken) (a .time) _ (l .inv .1) true (sym (u .0)) refl,
       l .inv .2,
+      soonest-next (now (a .nodes)) (a .count) (l .inv .2) (l .i) (t .loop-test .taken) _ (l .soonest) (l .inv .3) (s .rest-until .result) (u .1),
+      u .2,
     ))
     (λ c.
     let l = c .before .loop in
     let a = c .before .before .before .args in
-    look-formed (now (a .nodes)) (a .count) (a .time) (formed-ends (now (a .nodes)) (a .count) (l .inv .2) (l .i) _ (l .last) (l .inv .0) (c .loop-test .left)) true
-    (rest-ends (now (a .nodes)) (a .count) (l .inv .2) (l .i) (a .time) _ (l .inv .1) (c .loop-test .left))))
+    look-rests (now (a .nodes)) (a .count) (a .time) (formed-ends (now (a .nodes)) (a .count) (l .inv .2) (l .i) _ (l .last) (l .inv .0) (c .loop-test .left))
+    (rest-ends (now (a .nodes)) (a .count) (l .inv .2) (l .i) (a .time) _ (l .inv .1) (c .loop-test .left)) (l .soonest)
+    (soonest-ends (now (a .nodes)) (a .count) (l .inv .2) (l .i) _ (l .soonest) (l .inv .3) (c .loop-test .left))))

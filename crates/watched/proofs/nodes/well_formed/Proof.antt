@@ -1,8 +1,8 @@
--- `watched::nodes::well_formed` meets its contract: how many, then all nodes from the first on.
+-- `watched::nodes::well_formed` meets its contract.
 -- Assumes nothing.
-use mathlib.Core.Path.{sym, _∙_}
-use denote.Ref.{now}
-use Rattle.watched.proofs.Watching.{many, formed-begins}
+use mathlib.Core.Path.{sym}
+use borrow.Author.Needs.{needs}
+use Rattle.watched.proofs.Watching.{tried-unformed, tried-formed}
 use Rattle.watched.proofs.nodes.well_formed.Statement.{statement}
 use Rattle.watched.proofs.nodes.well_formed.Tie as tie
 
@@ -10,10 +10,12 @@ pub well-formed-spec : {M : Type 1} → statement M
 well-formed-spec =
     tie.close
     (tie.spec
+    (λ c κs. search needs)
+    (λ c. search needs)
+    (λ c. search needs)
     (λ c.
-    let a = c .before .args in
-    sym (many (now (a .nodes)) (a .count) (c .if1 .taken)))
-    (λ c κs. c .if1 .left)
+    let t = c .before .before in
+    sym (tried-formed _ _ (t .try-nodes .result) (t .try-nodes .ensures) _ (c .enum-told .given .1) .0))
     (λ c.
-    let a = c .before .before .args in
-    c .formed-from .ensures ∙ sym (formed-begins (now (a .nodes)) (a .count) (c .before .if1 .left))))
+    let t = c .before .before in
+    sym (tried-unformed _ _ (t .try-nodes .result) (t .try-nodes .ensures) (c .enum-told2 .given .1))))
