@@ -21,20 +21,20 @@ use Rattle.counters.specs.declared.counters.HandledError.{HandledError}
 use Rattle.head.specs.Head.{Head, with-errors}
 use Rattle.watched.specs.declared.nodes.WatchedNode.{WatchedNode}
 use Rattle.watched.specs.Watched.{latest, inTime, allOf, fits, wellFormed, noNode, heardNow, watchedNode, watchedOf, Run, watching, wellLent, changing}
-use Rattle.node.specs.Tick.{notBefore, isLate, looked, lateOnes, acts, signalled, timeoutOf, beat, beatAll}
+use Rattle.node.specs.Tick.{isLate, looked, lateOnes, acts, signalled, timeoutOf, beat, beatAll}
 use Rattle.node.specs.Refines.{plain, Becomes}
 use Rattle.watched.proofs.Lists.{watched-take, each-ahead, each-turn, from-here, at-end, whole}
 use Rattle.heartbeats.specs.Parts.{Finishes, lookedFirst}
 use Rattle.heartbeats.proofs.Beats.{beat-signalled, beat-unsignalled, Beating, beats-begin, beats-over, beats-pass, beats-stop, beats-go-on}
 use Rattle.head.specs.Words.{errorsOf, headOf}
-use Rattle.watched.specs.Nodes.{nodeAt, nodesOf, rests, never, soonerBy, soonest}
+use Rattle.watched.specs.Nodes.{nodeAt, nodesOf, rests, notBefore, never, soonerBy, soonest}
 use Rattle.node.specs.InPlace.{replied, effectWords}
 use Rattle.node.specs.declared.calls.ErrorTaken.{ErrorTaken}
 use Rattle.node.proofs.Refining.{effect-written}
 use Rattle.node.proofs.Moments.{now-fits}
 use Rattle.types.proofs.Tests.{both-first, both-second}
 use Rattle.watched.proofs.Limits.{all-at, node-fits}
-use Rattle.watched.proofs.Watching.{places, few, node-at, times-fit, heard-written}
+use Rattle.watched.proofs.Watching.{places, few, node-at, times-fit, rests-heard, heard-written}
 use Rattle.heartbeats.specs.declared.dealt.Dealt.{Dealt}
 use Rattle.heartbeats.specs.PartWords.{signalWords, lookedTime, lookWords, lookedWords, finishedWords, endsBy, beatWords, beatAllWords}
 use Rattle.heartbeats.specs.PartsIn.{Turns, dealtOf, FinishesIn, TicksIn}
@@ -134,9 +134,6 @@ module _ (t : ℕ) (ns : List ℕ) (k : ℕ) (formed : wellFormed (watchedOf (no
       sym (e ∙ ap (λ (l : List WatchedNode). soonest s (map (looked t) l)) (at-end (nodesOf ns) k (places ns) (few ns k formed) i h))
 
 -- what is read at a node's words is read of the node
-pub before-at : (t : ℕ) (ns : List ℕ) (i : ℕ) → i < 32 → (b : Bool) → b ≡ notBefore t (nodeAt ns i) → b ≡ notBefore t (getD (nodesOf ns) i noNode)
-before-at t ns i h b e = e ∙ ap (notBefore t) (sym (node-at ns i h))
-
 pub late-at : (t : ℕ) (ns : List ℕ) (i : ℕ) → i < 32 → (b : Bool) → b ≡ isLate t (nodeAt ns i) → b ≡ isLate t (getD (nodesOf ns) i noNode)
 late-at t ns i h b e = e ∙ ap (isLate t) (sym (node-at ns i h))
 
@@ -159,44 +156,43 @@ module _ (t : ℕ) (w : WatchedNode) where
   abbrev restsBy : Bool → Bool → Bool → Bool → Bool
   restsBy a b c d = both a (pick b true (both c d))
 
-  rested : rests t w ≡ true → (notBefore t w ≡ true) × (isLate t w ≡ false) × (l ≡ 0 → ⊥)
+  rested : rests t w ≡ true → (isLate t w ≡ false) × (l ≡ 0 → ⊥)
   rested h = by (eqb o 0) refl h
     where
-      by : (b : Bool) → eqb o 0 ≡ b → restsBy (ltb 0 l) b (leb l t) (leb (t - l) o) ≡ true → (notBefore t w ≡ true) × (isLate t w ≡ false) × (l ≡ 0 → ⊥)
+      by : (b : Bool) → eqb o 0 ≡ b → restsBy (ltb 0 l) b (leb l t) (leb (t - l) o) ≡ true → (isLate t w ≡ false) × (l ≡ 0 → ⊥)
       by true e r =
           let z : o ≡ 0 = eqb-true o 0 e in
           let a : 0 < l = ltb-true 0 l (both-left (ltb 0 l) true r) in
-          (rw (le-ltb 0 o (omega arith)), rw (lt-ltb 0 l a, le-ltb 0 o (omega arith)), λ h. omega arith)
+          (rw (lt-ltb 0 l a, le-ltb 0 o (omega arith)), λ h. omega arith)
       by false e r =
           let z = eqb-false o 0 e in
           let a : 0 < l = ltb-true 0 l (both-left (ltb 0 l) _ r) in
           let u : both (leb l t) (leb (t - l) o) ≡ true = both-right (ltb 0 l) _ r in
-          let c : leb l t ≡ true = both-left (leb l t) _ u in
           let d : t - l ≤ o = leb-true (t - l) o (both-right (leb l t) _ u) in
           let p : 0 < o = omega arith in
-          (rw (lt-ltb 0 o p, lt-ltb 0 l a, c), rw (lt-ltb 0 l a, lt-ltb 0 o p, le-ltb o (t - l) d), λ h. omega arith)
+          (rw (lt-ltb 0 l a, lt-ltb 0 o p, le-ltb o (t - l) d), λ h. omega arith)
 
 -- nodes that all rest: none is before now, none is late, and the look leaves their words
 module _ (t : ℕ) where
   pub rest-before : (vs : List WatchedNode) → allOf (rests t) vs ≡ true → allOf (notBefore t) vs ≡ true
   rest-before [] h = refl
   rest-before (v ∷ vs) h =
-      ap₂ both (rested t v (both-left (rests t v) _ h) .0) (rest-before vs (both-right (rests t v) _ h))
+      ap₂ both (rests-heard t v (both-left (rests t v) _ h)) (rest-before vs (both-right (rests t v) _ h))
 
   pub rest-late : (vs : List WatchedNode) → allOf (rests t) vs ≡ true → lateOnes t vs ≡ []
   rest-late [] h = refl
   rest-late (v ∷ vs) h =
-      ap₂ (λ (b : Bool) (l : List WatchedNode). pick b (v ∷ l) l) (rested t v (both-left (rests t v) _ h) .1) (rest-late vs (both-right (rests t v) _ h))
+      ap₂ (λ (b : Bool) (l : List WatchedNode). pick b (v ∷ l) l) (rested t v (both-left (rests t v) _ h) .0) (rest-late vs (both-right (rests t v) _ h))
 
   rest-looked : (v : WatchedNode) → rests t v ≡ true → looked t v ≡ v
   rest-looked v h =
       let r = rested t v h in
-      ap₂ (λ (a b : Bool). pick (either a b) (heardNow t v) v) (ne-eqb (v .«last_heard») 0 (r .2)) (r .1)
+      ap₂ (λ (a b : Bool). pick (either a b) (heardNow t v) v) (ne-eqb (v .«last_heard») 0 (r .1)) (r .0)
 
   rest-time : (v : WatchedNode) → rests t v ≡ true → lookedTime t (v .timeout) (v .«last_heard») ≡ v .«last_heard»
   rest-time v h =
       let r = rested t v h in
-      ap₂ (λ (a b : Bool). pick (either a b) t (v .«last_heard»)) (ne-eqb (v .«last_heard») 0 (r .2)) (r .1)
+      ap₂ (λ (a b : Bool). pick (either a b) t (v .«last_heard»)) (ne-eqb (v .«last_heard») 0 (r .1)) (r .0)
 
   same-set : (ns : List ℕ) (i : ℕ) → set ns i (getD ns i 0) ≡ ns
   same-set [] i = refl

@@ -21,7 +21,7 @@ use Rattle.head.specs.Head.{Head, with-errors}
 use Rattle.watched.specs.declared.nodes.WatchedNode.{WatchedNode}
 use Rattle.watched.specs.Watched.{allOf, watchedOf}
 use Rattle.node.specs.Plain.{Plain}
-use Rattle.node.specs.Tick.{Ticked, goesOn, behind, notBefore, isLate, lateOnes, acts, signalled, eventInTick, dealt, beatBy, timeoutOf, beat, beatAll}
+use Rattle.node.specs.Tick.{Ticked, goesOn, behind, isLate, lateOnes, acts, signalled, eventInTick, dealt, beatBy, timeoutOf, beat, beatAll}
 use Rattle.node.specs.Refines.{plain, SamePlaces, Becomes, Rings, rings, joinsAll}
 use Rattle.heartbeats.specs.Parts.{PartLeft, Finishes, Ticks}
 use Rattle.watched.proofs.Lists.{from-here, at-end, whole}
@@ -35,43 +35,12 @@ module _ (t : ℕ) (w : WatchedNode) where
   pub late-unheard : w .«last_heard» ≡ 0 → false ≡ isLate t w
   late-unheard h = rw (le-ltb 0 (w .«last_heard») (omega arith))
 
-  pub before-idle : w .timeout ≡ 0 → true ≡ notBefore t w
-  before-idle h = rw (le-ltb 0 (w .timeout) (omega arith))
-
   module _ (heard : w .«last_heard» ≡ 0 → ⊥) where
     pub late-idle : w .timeout ≡ 0 → false ≡ isLate t w
     late-idle h = rw (above (w .«last_heard») heard, le-ltb 0 (w .timeout) (omega arith))
 
     pub late-tested : (w .timeout ≡ 0 → ⊥) → (e : ℕ) → e ≡ t - w .«last_heard» → ltb (w .timeout) e ≡ isLate t w
     late-tested h e d = rw (above (w .«last_heard») heard, above (w .timeout) h, d)
-
-  module _ (timed : w .timeout ≡ 0 → ⊥) where
-    pub before-unheard : w .«last_heard» ≡ 0 → true ≡ notBefore t w
-    before-unheard h = rw (above (w .timeout) timed, le-ltb 0 (w .«last_heard») (omega arith))
-
-    pub before-tested : (w .«last_heard» ≡ 0 → ⊥) → leb (w .«last_heard») t ≡ notBefore t w
-    before-tested h = rw (above (w .timeout) timed, above (w .«last_heard») h)
-
--- the test of the times, node by node
-module _ (ns : List WatchedNode) (k : ℕ) (long : length ns ≡ 32) (few : k ≤ 32) (t : ℕ) where
-  pub befores-begin : allOf (notBefore t) (watchedOf ns k) ≡ allOf (notBefore t) (drop 0 (take k ns))
-  befores-begin = ap (allOf (notBefore t)) (whole ns k long few)
-
-  module _ (i : ℕ) (b : Bool) (e : b ≡ allOf (notBefore t) (drop i (take k ns))) where
-    pub befores-end : k ≤ i → b ≡ true
-    befores-end h = e ∙ ap (allOf (notBefore t)) (at-end ns k long few i h)
-
-    module _ (d : WatchedNode) (inside : i < k) (z : Bool) (n : z ≡ notBefore t (getD ns i d)) where
-      before-turn : b ≡ both z (allOf (notBefore t) (drop (i + 1) (take k ns)))
-      before-turn =
-          e ∙ ap (allOf (notBefore t)) (from-here ns k long few i d inside)
-          ∙ ap (λ (b : Bool). both b (allOf (notBefore t) (drop (i + 1) (take k ns)))) (sym n)
-
-      pub before-fails : z ≡ false → b ≡ false
-      before-fails h = before-turn ∙ ap (λ (b : Bool). both b (allOf (notBefore t) (drop (i + 1) (take k ns)))) h
-
-      pub before-next : z ≡ true → b ≡ allOf (notBefore t) (drop (i + 1) (take k ns))
-      before-next h = before-turn ∙ ap (λ (b : Bool). both b (allOf (notBefore t) (drop (i + 1) (take k ns)))) h
 
 -- the error of one late node, from what its parts left
 module _ (h : Head) (w : WatchedNode) (r : HandledError) (e : r ≡ handled (h .errors) (timeoutOf w)) (a : Bool) (n : a ≡ acts (r .action)) (f : PartLeft) where

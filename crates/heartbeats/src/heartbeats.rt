@@ -4,8 +4,8 @@ ghost use mathlib.Core.Bool.{true};
 ghost use mathlib.Core.List.{List, map};
 ghost use Prim.Native.Nat.{ℕ, _≤_};
 ghost use Rattle.watched.specs.declared.nodes.WatchedNode.{WatchedNode};
-ghost use Rattle.watched.specs.Watched.{allOf, wellFormed, watchedNode, watchedOf};
-ghost use Rattle.node.specs.Tick.{notBefore, isLate, looked, lateOnes, beat, beatAll};
+ghost use Rattle.watched.specs.Watched.{wellFormed, watchedNode, watchedOf};
+ghost use Rattle.node.specs.Tick.{isLate, looked, lateOnes, beat, beatAll};
 ghost use Rattle.node.specs.Refines.{plain};
 ghost use Rattle.heartbeats.specs.Parts.{lookedFirst};
 ghost use Rattle.head.specs.Words.{headOf};
@@ -73,34 +73,6 @@ pub fn look_all(nodes: &mut NodeWords, count: usize, time: u64) -> u64
         i += 1;
     }
     soonest
-}
-
-// Where a node has a timeout and was heard, the time is not before that.
-pub fn heard_by(timeout: u64, last_heard: u64, time: u64) -> bool
-    ensures { λ r. ⌜ r ≡ notBefore time (watchedNode 0 timeout «last_heard») ⌝ }
-{
-    if timeout == 0 {
-        return true;
-    }
-    if last_heard == 0 {
-        return true;
-    }
-    last_heard <= time
-}
-
-pub fn not_before(nodes: &NodeWords, count: usize, time: u64) -> bool
-    requires { ⌜ count ≤ 32 ⌝ }
-    ensures { λ r. ⌜ r ≡ allOf (notBefore time) (watchedOf (nodesOf (now (nodes .entry))) count) ⌝ }
-{
-    let mut i: usize = 0;
-    while i < count {
-        let at = 3 * i;
-        if !heard_by(nodes[at + 1], nodes[at + 2], time) {
-            return false;
-        }
-        i += 1;
-    }
-    true
 }
 
 // The error of a late node: neither counter 1 nor an entry follows from it.

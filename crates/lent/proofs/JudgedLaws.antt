@@ -23,7 +23,8 @@ use Rattle.node.specs.declared.calls.CallAnswer.{CallAnswer}
 use Rattle.node.specs.declared.calls.CallAnswer.the-variants as answer
 use Rattle.node.specs.Plain.{heard}
 use Rattle.node.specs.Steps.{earliest}
-use Rattle.node.specs.Tick.{checksHeartbeats, notBefore, looked, tickTaken}
+use Rattle.node.specs.Tick.{checksHeartbeats, looked, tickTaken}
+use Rattle.watched.specs.Nodes.{notBefore}
 use Rattle.node.specs.Refines.{plain}
 use Rattle.node.specs.InPlace.{unlessRefused, momentOf}
 use Rattle.node.specs.Heard.{heardAnswer, HeardOn}

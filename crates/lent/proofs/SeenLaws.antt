@@ -14,11 +14,10 @@ use Rattle.counters.specs.declared.counters.ThresholdCounter.{ThresholdCounter}
 use Rattle.watched.specs.declared.nodes.WatchedNode.{WatchedNode}
 use Rattle.entries.proofs.Rings.{listed-long}
 use Rattle.watched.specs.Watched.{latest, allOf, ascending, fits, wellFormed, noNode, watchedNode, heardNow, isWatched, heardAt, watchedOf, run, wellLent, first}
-use Rattle.node.specs.Tick.{notBefore}
 use Rattle.node.specs.Steps.{earliest}
 use Rattle.node.specs.InPlace.{momentOf}
 use Rattle.node.proofs.Moments.{moment-of}
-use Rattle.watched.specs.Nodes.{rising, never, soonest}
+use Rattle.watched.specs.Nodes.{notBefore, rising, never, soonest}
 use Rattle.watched.proofs.Lists.{rising-all, watched-take, few}
 use Rattle.watched.proofs.Watching.{times-fit}
 use Rattle.lentlaws.specs.Fold.{folded}

@@ -12,8 +12,8 @@ use Rattle.head.specs.Places as at
 use Rattle.head.specs.Words.{nmtOf, counterAt}
 use Rattle.watched.specs.declared.nodes.WatchedNode.{WatchedNode}
 use Rattle.watched.specs.Watched.{latest, fits, heardNow, watchedNode}
-use Rattle.watched.specs.Nodes.{never, soonerBy}
-use Rattle.node.specs.Tick.{checksHeartbeats, notBefore, isLate, looked}
+use Rattle.watched.specs.Nodes.{notBefore, never, soonerBy}
+use Rattle.node.specs.Tick.{checksHeartbeats, isLate, looked}
 use Rattle.lentlaws.specs.Fold.{folded}
 use Rattle.lentlaws.specs.Scan.{scanned}
 use Rattle.lent.specs.declared.run.Tried.{Tried}

@@ -3,8 +3,7 @@ ghost use mathlib.Core.Path.{_≡_};
 ghost use lib.Dec.{eqb, ltb};
 ghost use Rattle.types.specs.Pick.{pick, both, either};
 ghost use Rattle.watched.specs.Watched.{fits};
-ghost use Rattle.watched.specs.Nodes.{soonerBy};
-ghost use Rattle.node.specs.Tick.{notBefore};
+ghost use Rattle.watched.specs.Nodes.{notBefore, soonerBy};
 ghost use Rattle.lentlaws.specs.Scan.{scanned};
 ghost use Rattle.lent.specs.Runs.{asked, forStart, forHeard, forTick, passes, upTo33, triedBy, beatenBy, inReach, foundBy, surveyedBy, surveyed, settled, setNext, settledAll};
 use counters::counters::CounterKind;
@@ -12,7 +11,6 @@ use counters::counters::ThresholdCounter;
 use head::parts::counter_of;
 use head::parts::state_at;
 use head::state::Head;
-use heartbeats::heartbeats::heard_by;
 use heartbeats::heartbeats::is_late;
 use heartbeats::heartbeats::looked;
 use node::heard::within;
@@ -20,6 +18,7 @@ use tick::tick::checks_heartbeats;
 use watched::nodes::NEVER;
 use watched::nodes::WatchedNode;
 use watched::nodes::follows;
+use watched::nodes::heard_by;
 use watched::nodes::sooner;
 
 // Number 3, node by node.

@@ -31,6 +31,7 @@ use Rattle.head.specs.declared.state.SocWatch.{SocWatch}
 use Rattle.head.specs.declared.state.Dictionary.{Dictionary}
 use Rattle.watched.specs.declared.nodes.WatchedNode.{WatchedNode}
 use Rattle.watched.specs.Watched.{latest, inTime, allOf, heardNow, Run, watching, wellLent, changing}
+use Rattle.watched.specs.Nodes.{notBefore}
 use Rattle.node.specs.Plain.{Plain, tickAnswer, EventMade, made, noEvent, Step}
 use Rattle.node.specs.Steps.{Test, must, tried, plainOf, withNmt, withDll, withErrors, withSoc, declines, upToDate, cycleOf, toleranceOf, limitOf}
 use Rattle.head.specs.Head.{socWatch}
@@ -64,10 +65,6 @@ behind a b =
 -- "Heartbeats are checked where the state's number is 0x5D or more, so not in CsStopped (0x4D)."
 abbrev pub checksHeartbeats : NmtState → Bool
 checksHeartbeats s = leb 0x5D (stateNumber s)
-
--- "the time is below the last-heard time of a node whose timeout and last-heard time are both above 0"
-abbrev pub notBefore : ℕ → WatchedNode → Bool
-notBefore t w = pick (both (ltb 0 (w .timeout)) (ltb 0 (w .«last_heard»))) (leb (w .«last_heard») t) true
 
 -- numbers 3, 5 and 6
 abbrev pub tickTests : Plain → ℕ → Run → List (Test ℕ)

@@ -13,7 +13,8 @@ use Rattle.watched.specs.declared.nodes.WatchedNode.{WatchedNode}
 use Rattle.watched.specs.Watched.{inTime, allOf, Run, watching, wellLent, changing}
 use Rattle.node.specs.Plain.{Plain, tick, Answer, refused, tickAnswer, Step}
 use Rattle.node.specs.Steps.{earliest, upToDate, declines}
-use Rattle.node.specs.Tick.{Ticked, goesOn, behind, checksHeartbeats, notBefore, looked, lateOnes, beat, beatAll, timeoutOf, byDeadline, tickTaken, tickAnswered, lookedAt}
+use Rattle.watched.specs.Nodes.{notBefore}
+use Rattle.node.specs.Tick.{Ticked, goesOn, behind, checksHeartbeats, looked, lateOnes, beat, beatAll, timeoutOf, byDeadline, tickTaken, tickAnswered, lookedAt}
 use Rattle.node.specs.Run.{step}
 use Rattle.node.specs.Refines.{plain, left, rings, joinsAll, Refines}
 use Rattle.heartbeats.specs.Parts.{PartLeft, Ticks}

@@ -22,7 +22,7 @@ use Rattle.tick.specs.declared.tick.TickAnswer.{TickAnswer}
 use Rattle.types.specs.declared.refusals.Refusal.the-variants.{WatchedNodes, TimeLimit, BeforeHeard}
 use Rattle.watched.specs.declared.nodes.WatchedNode.{WatchedNode}
 use Rattle.watched.specs.Watched.{inTime, allOf, wellFormed, watchedOf, Run, run, watching, wellLent, changing}
-use Rattle.node.specs.Tick.{checksHeartbeats, notBefore, looked, lateOnes, beatAll, byDeadline, tickTaken}
+use Rattle.node.specs.Tick.{checksHeartbeats, looked, lateOnes, beatAll, byDeadline, tickTaken}
 use Rattle.node.specs.Refines.{plain}
 use Rattle.heartbeats.specs.Parts.{lookedFirst}
 use Rattle.tick.specs.declared.tick.TickAnswer.the-variants as answer
@@ -31,7 +31,7 @@ use Rattle.tick.proofs.TickRefines.{tick-idle, tick-ended, tick-goes-on
 use Rattle.head.specs.Words.{nmtOf, socOf, headOf}
 use Rattle.watched.specs.declared.nodes.Tried.{Tried}
 use Rattle.watched.specs.declared.nodes.Tried.the-variants as tried
-use Rattle.watched.specs.Nodes.{nodesOf, rests, never, soonest, nodesTried, seenOf}
+use Rattle.watched.specs.Nodes.{nodesOf, rests, notBefore, never, soonest, nodesTried, seenOf}
 use Rattle.types.specs.declared.nmt.states.NmtState.{NmtState}
 use Rattle.watched.specs.declared.nodes.Seen.{Seen}
 use Rattle.watched.specs.declared.nodes.Seen.the-variants as seen
@@ -181,7 +181,7 @@ module _ (ws q m : List ℕ) (t s : ℕ) where
 -- what the first look answers, by whether heartbeats are checked
 module _ (c : Bool) (t : ℕ) (vs : List WatchedNode) where
   abbrev rousedBy : Bool → Bool → ℕ → Seen
-  rousedBy c f s = pick f (pick (isStill c t vs) (seen.Resting s) seen.Roused) seen.Unformed
+  rousedBy c f s = pick f (pick (isStill c t vs) (seen.Resting s) (seen.Roused (allOf (notBefore t) vs))) seen.Unformed
 
   pub looks-roused : c ≡ true → (a : Seen) → a ≡ seenOf t vs → a ≡ rousedOf c t vs
   looks-roused e a g = g ∙ ap (λ (c : Bool). rousedBy c (wellFormed vs) (soonest never vs)) (sym e)
@@ -211,14 +211,15 @@ module _ (ws q m ns : List ℕ) (k t : ℕ) where
     pub unformed : a ≡ seen.Unformed → TickedIn ws q m ns k t (answer.Refused WatchedNodes) ws q m ns
     unformed h =
         record {
-          on = run-unformed ws q m lentRun t (lent-words ns k ∙ seen-unformed (wellFormed vs) (isStill c t vs) (soonest never vs) a g h);
+          on = run-unformed ws q m lentRun t (lent-words ns k ∙ seen-unformed (wellFormed vs) (isStill c t vs) (allOf (notBefore t) vs) (soonest never vs) a g h);
           nodes = refl;
         }
 
-    pub is-roused : a ≡ seen.Roused → (wellFormed vs ≡ true) × (checksHeartbeats (nmtOf ws .«current_state») ≡ true)
-    is-roused h =
-        let x = seen-roused (wellFormed vs) (isStill c t vs) (soonest never vs) a g h in
-        (x .0, sym same-checks ∙ by c (x .1))
+    pub is-roused :
+        (y : Bool) → a ≡ seen.Roused y → (wellFormed vs ≡ true) × (checksHeartbeats (nmtOf ws .«current_state») ≡ true) × (y ≡ allOf (notBefore t) vs)
+    is-roused y h =
+        let x = seen-roused (wellFormed vs) (isStill c t vs) (allOf (notBefore t) vs) (soonest never vs) a g y h in
+        (x .0, sym same-checks ∙ by c (x .1), x .2)
       where
         by : (c : Bool) → isStill c t vs ≡ false → c ≡ true
         by true z = refl
@@ -228,7 +229,7 @@ module _ (ws q m ns : List ℕ) (k t : ℕ) where
         (x : ℕ) → a ≡ seen.Resting x → (z : TickAnswer) (ws′ q′ m′ : List ℕ) → StillTicks ws q m t x z ws′ q′ m′ →
         TickedIn ws q m ns k t z ws′ q′ m′ ns
     is-still x h z ws′ q′ m′ y =
-        let o = seen-resting (wellFormed vs) (isStill c t vs) (soonest never vs) a g x h in
+        let o = seen-resting (wellFormed vs) (isStill c t vs) (allOf (notBefore t) vs) (soonest never vs) a g x h in
         let still : isStill (checksHeartbeats (nmtOf ws .«current_state»)) t vs ≡ true =
         ap (λ (c : Bool). isStill c t vs) (sym same-checks) ∙ o .1 in
         record { on = y lentRun (lent-words ns k ∙ o .0) still (o .2); nodes = stay z still (few ns k (o .0)) }

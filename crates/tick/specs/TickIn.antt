@@ -16,7 +16,7 @@ use Rattle.node.specs.Run.{step}
 use Rattle.node.specs.Refines.{plain, left, rings, joinsAll, Refines}
 use Rattle.tick.specs.Ticks.{Loses}
 use Rattle.head.specs.Words.{nmtOf, headOf}
-use Rattle.watched.specs.Nodes.{nodesOf, rests, never, soonest}
+use Rattle.watched.specs.Nodes.{nodesOf, rests, notBefore, never, soonest}
 use Rattle.head.specs.Written.{earliestWritten}
 use Rattle.watched.specs.declared.nodes.WatchedNode.{WatchedNode}
 use Rattle.watched.specs.declared.nodes.Seen.{Seen}
@@ -34,9 +34,12 @@ pub record LosesIn (ws : List ℕ) (es : DllErrors) (ws′ : List ℕ) : Type 0 
 abbrev pub isStill : Bool → ℕ → List WatchedNode → Bool
 isStill c t vs = pick c (allOf (rests t) vs) true
 
--- number 3; and of nodes that pass it, whether one asks for something
+-- number 3; and of nodes that pass it, whether one asks for something, and then whether they pass number 6
 abbrev pub rousedOf : Bool → ℕ → List WatchedNode → Seen
-rousedOf c t vs = pick (wellFormed vs) (pick (isStill c t vs) (seen.Resting (soonest never vs)) seen.Roused) seen.Unformed
+rousedOf c t vs =
+    pick (wellFormed vs)
+    (pick (isStill c t vs) (seen.Resting (soonest never vs)) (seen.Roused (allOf (notBefore t) vs)))
+    seen.Unformed
 
 -- what a tick answers
 abbrev pub tickSaid : TickAnswer → Answer

@@ -2,11 +2,11 @@
 ghost use mathlib.Core.Path.{_≡_};
 ghost use mathlib.Core.Bool.{true};
 ghost use Prim.Native.Nat.{_≤_};
-ghost use Rattle.watched.specs.Watched.{wellFormed, watchedOf};
+ghost use Rattle.watched.specs.Watched.{allOf, wellFormed, watchedOf};
 ghost use Rattle.node.specs.Tick.{checksHeartbeats, tickTaken};
 ghost use Rattle.node.specs.Refines.{plain};
 ghost use Rattle.head.specs.Words.{nmtOf, headOf};
-ghost use Rattle.watched.specs.Nodes.{nodesOf};
+ghost use Rattle.watched.specs.Nodes.{notBefore, nodesOf};
 ghost use Rattle.tick.specs.TickWords.{tickWords};
 ghost use Rattle.heartbeats.specs.PartsIn.{TicksIn};
 ghost use Rattle.tick.specs.TickIn.{rousedOf, TickedIn, StillTicks};
@@ -18,7 +18,6 @@ use head::state::Head;
 use heartbeats::dealt::Dealt;
 use heartbeats::heartbeats::beat_all;
 use heartbeats::heartbeats::look_all;
-use heartbeats::heartbeats::not_before;
 use node::heard::moment;
 use types::frame::error::types::DllErrors;
 use types::nmt::states::NmtState;
@@ -75,7 +74,7 @@ fn phases(
     by_deadline(head, queue, history, time)
 }
 
-// A tick at which some node asks for something. Nothing is written before the last test is passed.
+// A tick at which some node asks for something; `heard` is whether all were heard by now. Nothing is written before the last test is passed.
 fn tick_roused(
     head: &mut Head,
     queue: &mut [u8; 640],
@@ -83,14 +82,17 @@ fn tick_roused(
     nodes: &mut NodeWords,
     count: usize,
     time: u64,
+    heard: bool,
 ) -> TickAnswer
-    requires { ⌜ (wellFormed (watchedOf (nodesOf (now nodes)) count) ≡ true) × (checksHeartbeats (nmtOf (now head) .«current_state») ≡ true) ⌝ }
+    requires { ⌜ (wellFormed (watchedOf (nodesOf (now nodes)) count) ≡ true)
+        × (checksHeartbeats (nmtOf (now head) .«current_state») ≡ true)
+        × (heard ≡ allOf (notBefore time) (watchedOf (nodesOf (now nodes)) count)) ⌝ }
     ensures { λ r. ⌜ TickedIn (now (head .entry)) (now (queue .entry)) (now (history .entry)) (now (nodes .entry)) count time r (now (head .exit)) (now (queue .exit)) (now (history .exit)) (now (nodes .exit)) ⌝ }
 {
     if !in_time(time) {
         return TickAnswer::Refused(Refusal::TimeLimit);
     }
-    if !not_before(nodes, count, time) {
+    if !heard {
         return TickAnswer::Refused(Refusal::BeforeHeard);
     }
     let dealt = phases(head, queue, history, nodes, count, time);
@@ -133,8 +135,8 @@ pub fn process_tick(
     ensures { λ r. ⌜ TickedIn (now (head .entry)) (now (queue .entry)) (now (history .entry)) (now (nodes .entry)) count time r (now (head .exit)) (now (queue .exit)) (now (history .exit)) (now (nodes .exit)) ⌝ }
 {
     match roused(checks_heartbeats(state_at(head)), nodes, count, time) {
-        Seen::Roused => {
-            return tick_roused(head, queue, history, nodes, count, time);
+        Seen::Roused(heard) => {
+            return tick_roused(head, queue, history, nodes, count, time, heard);
         }
         Seen::Resting(soonest) => {
             return tick_still(head, queue, history, time, soonest);

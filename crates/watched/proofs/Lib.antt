@@ -1,3 +1,4 @@
 pub mod Lists
 pub mod Watching
+pub mod Climbing
 pub mod Limits

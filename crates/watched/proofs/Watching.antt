@@ -25,7 +25,7 @@ use Rattle.watched.specs.declared.nodes.Found.{Found}
 use Rattle.watched.specs.declared.nodes.Found.the-variants as found
 use Rattle.watched.specs.declared.nodes.Seen.{Seen}
 use Rattle.watched.specs.declared.nodes.Seen.the-variants as seen
-use Rattle.watched.specs.Nodes.{nodeAt, nodesOf, rising, rests, never, soonerBy, restUntil, soonest, triedOf, nodesTried, foundOf, seenOf}
+use Rattle.watched.specs.Nodes.{nodeAt, nodesOf, rests, notBefore, rising, never, soonerBy, restUntil, soonest, triedOf, rousedFrom, nodesTried, foundOf, seenOf}
 
 -- the item at an index of a list that is given by index
 pub listed-at : {A : Type 0} (f : ℕ → A) (n i : ℕ) (d : A) → i < n → getD (listed f n) i d ≡ f i
@@ -61,27 +61,27 @@ module _ (b : Bool) (s : ℕ) (a : Tried) (e : a ≡ pick b (tried.Formed s) tri
       by false x = (cc, cc)
 
 -- what an answer of look says
-module _ (b r : Bool) (s : ℕ) (a : Seen) (e : a ≡ pick b (pick r (seen.Resting s) seen.Roused) seen.Unformed) where
+module _ (b r q : Bool) (s : ℕ) (a : Seen) (e : a ≡ pick b (pick r (seen.Resting s) (seen.Roused q)) seen.Unformed) where
   pub seen-unformed : a ≡ seen.Unformed → b ≡ false
   seen-unformed h = by b r (sym h ∙ e)
     where
-      by : (b r : Bool) → seen.Unformed ≡ pick b (pick r (seen.Resting s) seen.Roused) seen.Unformed → b ≡ false
+      by : (b r : Bool) → seen.Unformed ≡ pick b (pick r (seen.Resting s) (seen.Roused q)) seen.Unformed → b ≡ false
       by true true x = cc
       by true false x = cc
       by false r x = refl
 
-  pub seen-roused : a ≡ seen.Roused → (b ≡ true) × (r ≡ false)
-  seen-roused h = by b r (sym h ∙ e)
+  pub seen-roused : (y : Bool) → a ≡ seen.Roused y → (b ≡ true) × (r ≡ false) × (y ≡ q)
+  seen-roused y h = by b r (sym h ∙ e)
     where
-      by : (b r : Bool) → seen.Roused ≡ pick b (pick r (seen.Resting s) seen.Roused) seen.Unformed → (b ≡ true) × (r ≡ false)
-      by true true x = (refl, cc)
-      by true false x = (refl, refl)
-      by false r x = (cc, cc)
+      by : (b r : Bool) → seen.Roused y ≡ pick b (pick r (seen.Resting s) (seen.Roused q)) seen.Unformed → (b ≡ true) × (r ≡ false) × (y ≡ q)
+      by true true x = (refl, cc, cc)
+      by true false x = (refl, refl, cc)
+      by false r x = (cc, cc, cc)
 
   pub seen-resting : (x : ℕ) → a ≡ seen.Resting x → (b ≡ true) × (r ≡ true) × (x ≡ s)
   seen-resting y h = by b r (sym h ∙ e)
     where
-      by : (b r : Bool) → seen.Resting y ≡ pick b (pick r (seen.Resting s) seen.Roused) seen.Unformed → (b ≡ true) × (r ≡ true) × (y ≡ s)
+      by : (b r : Bool) → seen.Resting y ≡ pick b (pick r (seen.Resting s) (seen.Roused q)) seen.Unformed → (b ≡ true) × (r ≡ true) × (y ≡ s)
       by true true x = (refl, refl, cc)
       by true false x = (refl, cc, cc)
       by false r x = (cc, cc, cc)
@@ -118,6 +118,13 @@ module _ (s : ℕ) (w : WatchedNode) where
   pub sooner-idle : w .timeout ≡ 0 → s ≡ soonerBy s w
   sooner-idle h = sym (ap (λ (a : Bool). soonerIf a (ltb 0 (w .«last_heard»))) (le-ltb 0 (w .timeout) (omega arith)))
 
+  pub sooner-passed : s ≤ late → s ≡ soonerBy s w
+  sooner-passed h = by (both (ltb 0 (w .timeout)) (ltb 0 (w .«last_heard»)))
+    where
+      by : (b : Bool) → s ≡ pick b (min s late) s
+      by true = omega (arith, h)
+      by false = refl
+
   module _ (timed : w .timeout ≡ 0 → ⊥) where
     timed-up : ltb 0 (w .timeout) ≡ true
     timed-up = lt-ltb 0 (w .timeout) (omega arith)
@@ -134,6 +141,30 @@ module _ (s : ℕ) (w : WatchedNode) where
 
       pub sooner-kept : s ≤ late → s ≡ soonerBy s w
       sooner-kept h = let m : s ≡ min s late = omega arith in m ∙ sym both-up
+
+-- a node that is not before now, by its tests
+module _ (t : ℕ) (w : WatchedNode) where
+  pub before-idle : w .timeout ≡ 0 → true ≡ notBefore t w
+  before-idle h = rw (le-ltb 0 (w .timeout) (omega arith))
+
+  module _ (timed : w .timeout ≡ 0 → ⊥) where
+    pub before-unheard : w .«last_heard» ≡ 0 → true ≡ notBefore t w
+    before-unheard h = rw (lt-ltb 0 (w .timeout) (omega arith), le-ltb 0 (w .«last_heard») (omega arith))
+
+    pub before-tested : (w .«last_heard» ≡ 0 → ⊥) → leb (w .«last_heard») t ≡ notBefore t w
+    before-tested h = rw (lt-ltb 0 (w .timeout) (omega arith), lt-ltb 0 (w .«last_heard») (omega arith))
+
+  -- one that rests is not
+  pub rests-heard : rests t w ≡ true → notBefore t w ≡ true
+  rests-heard h = by (eqb (w .timeout) 0) refl (both-second (ltb 0 (w .«last_heard»)) _ h)
+    where
+      by : (b : Bool) → eqb (w .timeout) 0 ≡ b → pick b true (both (leb (w .«last_heard») t) (leb (t - w .«last_heard») (w .timeout))) ≡ true → notBefore t w ≡ true
+      by true e r = sym (before-idle (eqb-true (w .timeout) 0 e))
+      by false e r = some (both (ltb 0 (w .timeout)) (ltb 0 (w .«last_heard»))) (both-first (leb (w .«last_heard») t) _ r)
+        where
+          some : (a : Bool) {c : Bool} → c ≡ true → pick a c true ≡ true
+          some true g = g
+          some false g = refl
 
 -- a node that rests, by its tests
 module _ (t : ℕ) (w : WatchedNode) where
@@ -286,15 +317,12 @@ module _ (ws : List ℕ) where
       pub heard-begins : (n t : ℕ) → soonest never (heardAt n t vs) ≡ soonest never (heardAt n t (left 0))
       heard-begins n t = ap (λ (l : List WatchedNode). soonest never (heardAt n t l)) (Lists.whole (nodesOf ws) k places below)
 
-      pub rest-begins : (t : ℕ) → allOf (rests t) vs ≡ allOf (rests t) (left 0)
-      rest-begins t = ap (allOf (rests t)) (Lists.whole (nodesOf ws) k places below)
+      pub all-begins : (p : WatchedNode → Bool) → allOf p vs ≡ allOf p (left 0)
+      all-begins p = ap (allOf p) (Lists.whole (nodesOf ws) k places below)
 
       module _ (i : ℕ) where
         pub formed-ends : (b : Bool) (n : ℕ) → b ≡ rising n (left i) → k ≤ i → b ≡ true
         formed-ends b n e h = e ∙ ap (rising n) (at-end (nodesOf ws) k places below i h)
-
-        pub tries-end : (n s : ℕ) (a : Tried) → a ≡ triedOf n s (left i) → k ≤ i → tried.Formed s ≡ a
-        tries-end n s a e h = sym (e ∙ ap (triedOf n s) (at-end (nodesOf ws) k places below i h))
 
         pub soonest-ends : (x s : ℕ) → x ≡ soonest s (left i) → k ≤ i → x ≡ s
         soonest-ends x s e h = e ∙ ap (soonest s) (at-end (nodesOf ws) k places below i h)
@@ -302,12 +330,12 @@ module _ (ws : List ℕ) where
         pub heard-ends : (n t x s : ℕ) → x ≡ soonest s (heardAt n t (left i)) → k ≤ i → x ≡ s
         heard-ends n t x s e h = e ∙ ap (λ (l : List WatchedNode). soonest s (heardAt n t l)) (at-end (nodesOf ws) k places below i h)
 
-        pub rest-ends : (t : ℕ) (b : Bool) → b ≡ allOf (rests t) (left i) → k ≤ i → b ≡ true
-        rest-ends t b e h = e ∙ ap (allOf (rests t)) (at-end (nodesOf ws) k places below i h)
+        pub all-ends : (p : WatchedNode → Bool) (b : Bool) → b ≡ allOf p (left i) → k ≤ i → b ≡ true
+        all-ends p b e h = e ∙ ap (allOf p) (at-end (nodesOf ws) k places below i h)
 
         -- a turn at the words of the i-th node
         module _ (inside : i < k) where
-          turn : left i ≡ nodeAt ws i ∷ left (i + 1)
+          pub turn : left i ≡ nodeAt ws i ∷ left (i + 1)
           turn =
               from-here (nodesOf ws) k places below i noNode inside
               ∙ ap (λ (w : WatchedNode). w ∷ left (i + 1)) (node-at i (omega arith))
@@ -321,19 +349,6 @@ module _ (ws : List ℕ) where
 
             pub formed-next : z ≡ true → b ≡ rising (getD ws (3 * i) 0) (left (i + 1))
             formed-next h = formed-turn ∙ ap (λ (z : Bool). both z (rising (getD ws (3 * i) 0) (left (i + 1)))) h
-
-          module _ (n s : ℕ) (a : Tried) (e : a ≡ triedOf n s (left i)) (z : Bool) (f : z ≡ both (ltb n (getD ws (3 * i) 0)) (fits (nodeAt ws i))) where
-            abbrev triesBy : Bool → Tried
-            triesBy z = pick (both z (rising (getD ws (3 * i) 0) (left (i + 1)))) (tried.Formed (soonest (soonerBy s (nodeAt ws i)) (left (i + 1)))) tried.Unformed
-
-            tries-turn : (y : Bool) → z ≡ y → a ≡ triesBy y
-            tries-turn y h = e ∙ ap (triedOf n s) turn ∙ ap triesBy (sym f ∙ h)
-
-            pub tries-stop : z ≡ false → tried.Unformed ≡ a
-            tries-stop h = sym (tries-turn false h)
-
-            pub tries-next : z ≡ true → (x : ℕ) → x ≡ soonerBy s (nodeAt ws i) → a ≡ triedOf (getD ws (3 * i) 0) x (left (i + 1))
-            tries-next h x g = tries-turn true h ∙ ap (λ (x : ℕ). triedOf (getD ws (3 * i) 0) x (left (i + 1))) (sym g)
 
           -- the soonest moment of the nodes, and of those with n heard at t
           pub soonest-next : (x s : ℕ) → x ≡ soonest s (left i) → (y : ℕ) → y ≡ soonerBy s (nodeAt ws i) → x ≡ soonest y (left (i + 1))
@@ -362,15 +377,16 @@ module _ (ws : List ℕ) where
             pub place-next : (getD ws (3 * i) 0 ≡ n → ⊥) → placeOf n vs ≡ i + 1 + placeOf n (left (i + 1))
             place-next h = e ∙ ap (λ (l : List WatchedNode). i + placeOf n l) turn ∙ ap by-number (ne-eqb (getD ws (3 * i) 0) n h) ∙ omega arith
 
-          module _ (t : ℕ) (b : Bool) (e : b ≡ allOf (rests t) (left i)) (z : Bool) (f : z ≡ rests t (nodeAt ws i)) where
-            rest-turn : b ≡ both z (allOf (rests t) (left (i + 1)))
-            rest-turn = e ∙ ap (allOf (rests t)) turn ∙ ap (λ (z : Bool). both z (allOf (rests t) (left (i + 1)))) (sym f)
+          -- a test of all nodes
+          module _ (p : WatchedNode → Bool) (b : Bool) (e : b ≡ allOf p (left i)) where
+            all-turn : (z : Bool) → p (nodeAt ws i) ≡ z → b ≡ both z (allOf p (left (i + 1)))
+            all-turn z f = e ∙ ap (allOf p) turn ∙ ap (λ (z : Bool). both z (allOf p (left (i + 1)))) f
 
-            pub rest-stops : z ≡ false → b ≡ false
-            rest-stops h = rest-turn ∙ ap (λ (z : Bool). both z (allOf (rests t) (left (i + 1)))) h
+            pub all-stops : p (nodeAt ws i) ≡ false → b ≡ false
+            all-stops = all-turn false
 
-            pub rest-next : z ≡ true → b ≡ allOf (rests t) (left (i + 1))
-            rest-next h = rest-turn ∙ ap (λ (z : Bool). both z (allOf (rests t) (left (i + 1)))) h
+            pub all-next : p (nodeAt ws i) ≡ true → b ≡ allOf p (left (i + 1))
+            all-next = all-turn true
 
     pub nodes-unformed : wellFormed vs ≡ false → tried.Unformed ≡ nodesTried vs
     nodes-unformed h = sym (ap (λ (b : Bool). pick b (tried.Formed (soonest never vs)) tried.Unformed) h)
@@ -406,17 +422,19 @@ module _ (ws : List ℕ) where
 
     -- what look answers
     module _ (t : ℕ) where
-      abbrev seenBy : Bool → Bool → ℕ → Seen
-      seenBy b r s = pick b (pick r (seen.Resting s) seen.Roused) seen.Unformed
+      abbrev seenBy : Bool → Bool → Bool → ℕ → Seen
+      seenBy b r q s = pick b (pick r (seen.Resting s) (seen.Roused q)) seen.Unformed
 
       pub look-unformed : wellFormed vs ≡ false → seen.Unformed ≡ seenOf t vs
-      look-unformed h = sym (ap (λ (b : Bool). seenBy b (allOf (rests t) vs) (soonest never vs)) h)
+      look-unformed h = sym (ap (λ (b : Bool). seenBy b (allOf (rests t) vs) (allOf (notBefore t) vs) (soonest never vs)) h)
 
-      pub look-roused : wellFormed vs ≡ true → allOf (rests t) vs ≡ false → seen.Roused ≡ seenOf t vs
-      look-roused h e = sym (ap₂ (λ (b r : Bool). seenBy b r (soonest never vs)) h e)
+      pub look-roused :
+          (n : ℕ) (ws : List WatchedNode) → wellFormed vs ≡ rising n ws → allOf (rests t) vs ≡ false → allOf (notBefore t) vs ≡ allOf (notBefore t) ws →
+          rousedFrom n t ws ≡ seenOf t vs
+      look-roused n ws h e f = sym (λ i. seenBy (h i) (e i) (f i) (soonest never vs))
 
       pub look-rests : wellFormed vs ≡ true → allOf (rests t) vs ≡ true → (s : ℕ) → soonest never vs ≡ s → seen.Resting s ≡ seenOf t vs
-      look-rests h e s f = sym (λ i. seenBy (h i) (e i) (f i))
+      look-rests h e s f = sym (λ i. seenBy (h i) (e i) (allOf (notBefore t) vs) (f i))
 
     -- nodes that pass number 3 are at most 32
     pub few : wellFormed vs ≡ true → k ≤ 32

@@ -7,9 +7,10 @@ use mathlib.Core.List.{List, [], _∷_}
 use lib.Dec.{eqb, leb, ltb}
 use lib.ListN.{getD}
 use Rattle.types.specs.Pick.{pick, both}
+use Rattle.types.specs.Types.{isNode}
 use Rattle.entries.specs.Ring.{listed}
 use Rattle.watched.specs.declared.nodes.WatchedNode.{WatchedNode}
-use Rattle.watched.specs.Watched.{allOf, fits, wellFormed, watchedNode, heardAt, placeOf}
+use Rattle.watched.specs.Watched.{allOf, timed, fits, wellFormed, watchedNode, heardAt, placeOf}
 use Rattle.watched.specs.declared.nodes.Tried.{Tried}
 use Rattle.watched.specs.declared.nodes.Tried.the-variants as tried
 use Rattle.watched.specs.declared.nodes.Found.{Found}
@@ -30,10 +31,22 @@ rests t w =
     both (ltb 0 (w .«last_heard»))
     (pick (eqb (w .timeout) 0) true (both (leb (w .«last_heard») t) (leb (t - w .«last_heard») (w .timeout))))
 
+-- "the time is below the last-heard time of a node whose timeout and last-heard time are both above 0"
+abbrev pub notBefore : ℕ → WatchedNode → Bool
+notBefore t w = pick (both (ltb 0 (w .timeout)) (ltb 0 (w .«last_heard»))) (leb (w .«last_heard») t) true
+
 -- number 3 node by node: each above the one before, and within its limits
 abbrev pub rising : ℕ → List WatchedNode → Bool
 rising n [] = true
 rising n (w ∷ ws) = both (both (ltb n (w .node)) (fits w)) (rising (w .node) ws)
+
+-- the same but for whether a node has the number, which is asked of all together
+abbrev pub climbing : ℕ → List WatchedNode → Bool
+climbing n [] = true
+climbing n (w ∷ ws) = both (both (ltb n (w .node)) (timed w)) (climbing (w .node) ws)
+
+abbrev pub numbered : WatchedNode → Bool
+numbered w = isNode (w .node)
 
 -- The walks carry the earliest moment at which a node would be late as a number: 2^64 − 1 for none, which no moment is.
 abbrev pub never : ℕ
@@ -55,6 +68,13 @@ soonest s (w ∷ ws) = soonest (soonerBy s w) ws
 abbrev pub triedOf : ℕ → ℕ → List WatchedNode → Tried
 triedOf n s ws = pick (rising n ws) (tried.Formed (soonest s ws)) tried.Unformed
 
+abbrev pub climbedOf : ℕ → ℕ → List WatchedNode → Tried
+climbedOf n s ws = pick (climbing n ws) (tried.Formed (soonest s ws)) tried.Unformed
+
+-- the same where one of them does not rest at t: whether t is before none's last-heard time (number 6)
+abbrev pub rousedFrom : ℕ → ℕ → List WatchedNode → Seen
+rousedFrom n t ws = pick (rising n ws) (seen.Roused (allOf (notBefore t) ws)) seen.Unformed
+
 -- of nodes that pass number 3: their soonest; where the node n is, and the soonest with it heard at t; and whether one does not rest at t
 abbrev pub nodesTried : List WatchedNode → Tried
 nodesTried vs = pick (wellFormed vs) (tried.Formed (soonest never vs)) tried.Unformed
@@ -63,4 +83,7 @@ abbrev pub foundOf : ℕ → ℕ → List WatchedNode → Found
 foundOf n t vs = pick (wellFormed vs) (found.Formed (placeOf n vs) (soonest never (heardAt n t vs))) found.Unformed
 
 abbrev pub seenOf : ℕ → List WatchedNode → Seen
-seenOf t vs = pick (wellFormed vs) (pick (allOf (rests t) vs) (seen.Resting (soonest never vs)) seen.Roused) seen.Unformed
+seenOf t vs =
+    pick (wellFormed vs)
+    (pick (allOf (rests t) vs) (seen.Resting (soonest never vs)) (seen.Roused (allOf (notBefore t) vs)))
+    seen.Unformed

@@ -33,8 +33,11 @@ ascending (v ∷ []) = true
 ascending (v ∷ w ∷ ws) = both (ltb (v .node) (w .node)) (ascending (w ∷ ws))
 
 -- "or one has a number outside item 1, or a timeout or last-heard time above 2^62 − 1"
+abbrev pub timed : WatchedNode → Bool
+timed w = both (inTime (w .timeout)) (inTime (w .«last_heard»))
+
 abbrev pub fits : WatchedNode → Bool
-fits w = both (isNode (w .node)) (both (inTime (w .timeout)) (inTime (w .«last_heard»)))
+fits w = both (isNode (w .node)) (timed w)
 
 -- what number 3 asks of the watched nodes
 unfoldable pub wellFormed : List WatchedNode → Bool

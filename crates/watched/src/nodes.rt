@@ -6,8 +6,9 @@ ghost use lib.Dec.{ltb};
 ghost use lib.ListN.{length, take, drop};
 ghost use Rattle.types.specs.Pick.{both};
 ghost use Rattle.types.specs.Types.{isNode};
-ghost use Rattle.watched.specs.Watched.{fits, wellFormed, watchedNode, watchedOf};
-ghost use Rattle.watched.specs.Nodes.{soonerBy, restUntil, triedOf, nodesTried, foundOf, seenOf, nodesOf};
+ghost use mathlib.Core.Bool.{true};
+ghost use Rattle.watched.specs.Watched.{allOf, timed, fits, wellFormed, watchedNode, watchedOf};
+ghost use Rattle.watched.specs.Nodes.{notBefore, climbing, numbered, soonerBy, restUntil, triedOf, climbedOf, rousedFrom, nodesTried, foundOf, seenOf, nodesOf};
 use crate::time::in_time;
 
 pub type NodeWords = [u64; 96];
@@ -48,20 +49,50 @@ fn is_node(n: u64) -> bool
     n <= 255
 }
 
-// Above the number before it, and within its limits.
-pub fn follows(last: u64, node: u64, timeout: u64, last_heard: u64) -> bool
-    ensures { λ r. ⌜ r ≡ both (ltb last node) (fits (watchedNode node timeout «last_heard»)) ⌝ }
+// Above the number before it, with its times within their limits.
+fn climbs(last: u64, node: u64, timeout: u64, last_heard: u64) -> bool
+    ensures { λ r. ⌜ r ≡ both (ltb last node) (timed (watchedNode node timeout «last_heard»)) ⌝ }
 {
     if node <= last {
-        return false;
-    }
-    if !is_node(node) {
         return false;
     }
     if !in_time(timeout) {
         return false;
     }
     in_time(last_heard)
+}
+
+// Above the number before it, and within its limits.
+pub fn follows(last: u64, node: u64, timeout: u64, last_heard: u64) -> bool
+    ensures { λ r. ⌜ r ≡ both (ltb last node) (fits (watchedNode node timeout «last_heard»)) ⌝ }
+{
+    if !climbs(last, node, timeout, last_heard) {
+        return false;
+    }
+    is_node(node)
+}
+
+// Where a node has a timeout and was heard, the time is not before that.
+pub fn heard_by(timeout: u64, last_heard: u64, time: u64) -> bool
+    ensures { λ r. ⌜ r ≡ notBefore time (watchedNode 0 timeout «last_heard») ⌝ }
+{
+    if timeout == 0 {
+        return true;
+    }
+    if last_heard == 0 {
+        return true;
+    }
+    last_heard <= time
+}
+
+// The same of this node and all before it.
+fn all_heard_by(before: bool, timeout: u64, last_heard: u64, time: u64) -> bool
+    ensures { λ r. ⌜ r ≡ both before (notBefore time (watchedNode 0 timeout «last_heard»)) ⌝ }
+{
+    if before {
+        return heard_by(timeout, last_heard, time);
+    }
+    false
 }
 
 // No moment: the walks carry the earliest one as a number.
@@ -91,25 +122,98 @@ pub enum Tried {
     Formed(u64),
 }
 
-// The nodes from a place on, where `last` is the number before them and `before` the soonest moment: ascending, and each within its limits.
-fn formed_from(nodes: &NodeWords, count: usize, place: usize, last: u64, before: u64) -> Tried
+// A place up to which nodes were passed, and the number before it.
+struct Passed {
+    place: usize,
+    last: u64,
+}
+
+// Passes the nodes that climb and are late no sooner than `soonest`: most nodes of most runs, so the tests here are all that a walk makes at a node.
+fn pass(nodes: &NodeWords, count: usize, place: usize, last: u64, soonest: u64) -> Passed
     requires { ⌜ count ≤ 32 ⌝ }
-    ensures { λ r. ⌜ r ≡ triedOf last before (drop place (take count (nodesOf (now (nodes .entry))))) ⌝ }
+    ensures { λ r. ⌜ (place ≤ r .place)
+        × (climbedOf last soonest (drop place (take count (nodesOf (now (nodes .entry))))) ≡ climbedOf (r .last) soonest (drop (r .place) (take count (nodesOf (now (nodes .entry)))))) ⌝ }
+{
+    let mut above = last;
+    let mut i = place;
+    'walk: while i < count {
+        let at = 3 * i;
+        let number = nodes[at];
+        let timeout = nodes[at + 1];
+        let last_heard = nodes[at + 2];
+        if !climbs(above, number, timeout, last_heard) {
+            break 'walk;
+        }
+        if last_heard + timeout + 1 < soonest {
+            break 'walk;
+        }
+        above = number;
+        i += 1;
+    }
+    Passed {
+        place: i,
+        last: above,
+    }
+}
+
+// The nodes from a place on, where `last` is the number before them and `before` the soonest moment: whether they climb, and the soonest moment then.
+fn climb_from(nodes: &NodeWords, count: usize, place: usize, last: u64, before: u64) -> Tried
+    requires { ⌜ count ≤ 32 ⌝ }
+    ensures { λ r. ⌜ r ≡ climbedOf last before (drop place (take count (nodesOf (now (nodes .entry))))) ⌝ }
 {
     let mut above = last;
     let mut soonest = before;
     let mut i = place;
     while i < count {
-        let at = 3 * i;
+        let passed = pass(nodes, count, i, above, soonest);
+        let here = passed.place;
+        if count <= here {
+            return Tried::Formed(soonest);
+        }
+        let at = 3 * here;
         let number = nodes[at];
         let timeout = nodes[at + 1];
         let last_heard = nodes[at + 2];
-        if !follows(above, number, timeout, last_heard) {
+        if !climbs(passed.last, number, timeout, last_heard) {
             return Tried::Unformed;
         }
         soonest = sooner(soonest, timeout, last_heard);
         above = number;
-        i += 1;
+        i = here + 1;
+    }
+    Tried::Formed(soonest)
+}
+
+// Whether all nodes from a place on, which climb, have a node's number: from the last one back to one of at most 240, since those before it are below it.
+fn have_numbers(nodes: &NodeWords, count: usize, place: usize, last: u64) -> bool
+    requires { ⌜ (count ≤ 32) × (climbing last (drop place (take count (nodesOf (now nodes)))) ≡ true) ⌝ }
+    ensures { λ r. ⌜ r ≡ allOf numbered (drop place (take count (nodesOf (now (nodes .entry))))) ⌝ }
+{
+    let mut end = count;
+    while place < end {
+        let number = nodes[3 * (end - 1)];
+        if number <= 240 {
+            return true;
+        }
+        if !is_node(number) {
+            return false;
+        }
+        end -= 1;
+    }
+    true
+}
+
+// The nodes from a place on, where `last` is the number before them and `before` the soonest moment: ascending, and each within its limits.
+fn formed_from(nodes: &NodeWords, count: usize, place: usize, last: u64, before: u64) -> Tried
+    requires { ⌜ count ≤ 32 ⌝ }
+    ensures { λ r. ⌜ r ≡ triedOf last before (drop place (take count (nodesOf (now (nodes .entry))))) ⌝ }
+{
+    let climbed = climb_from(nodes, count, place, last, before);
+    let Tried::Formed(soonest) = climbed else {
+        return Tried::Unformed;
+    };
+    if !have_numbers(nodes, count, place, last) {
+        return Tried::Unformed;
     }
     Tried::Formed(soonest)
 }
@@ -196,14 +300,41 @@ fn rest_until(soonest: u64, timeout: u64, last_heard: u64, time: u64) -> u64
     soonest
 }
 
-// Whether some of well formed nodes does not rest, so that a tick is to look at them; where all do, the soonest moment.
+// Whether some of well formed nodes does not rest, so that a tick is to look at them, and then whether its time is before no last-heard time (number 6);
+// where all rest, the soonest moment.
 pub enum Seen {
     Unformed,
-    Roused,
+    Roused(bool),
     Resting(u64),
 }
 
-// Each node is read once: up to one that does not rest here, from there on by formed_from.
+// The nodes from one on that does not rest: no moment is worked out, since the look will work it out.
+fn roused_from(nodes: &NodeWords, count: usize, place: usize, last: u64, time: u64) -> Seen
+    requires { ⌜ count ≤ 32 ⌝ }
+    ensures { λ r. ⌜ r ≡ rousedFrom last time (drop place (take count (nodesOf (now (nodes .entry))))) ⌝ }
+{
+    let mut above = last;
+    let mut heard = true;
+    let mut i = place;
+    while i < count {
+        let at = 3 * i;
+        let number = nodes[at];
+        let timeout = nodes[at + 1];
+        let last_heard = nodes[at + 2];
+        if !climbs(above, number, timeout, last_heard) {
+            return Seen::Unformed;
+        }
+        heard = all_heard_by(heard, timeout, last_heard, time);
+        above = number;
+        i += 1;
+    }
+    if !have_numbers(nodes, count, place, last) {
+        return Seen::Unformed;
+    }
+    Seen::Roused(heard)
+}
+
+// Each node is read once: up to one that does not rest here, from there on by roused_from.
 pub fn look(nodes: &NodeWords, count: usize, time: u64) -> Seen
     ensures { λ r. ⌜ r ≡ seenOf time (watchedOf (nodesOf (now (nodes .entry))) count) ⌝ }
 {
@@ -223,11 +354,7 @@ pub fn look(nodes: &NodeWords, count: usize, time: u64) -> Seen
         }
         let until = rest_until(soonest, timeout, last_heard, time);
         if until == 0 {
-            let rest = formed_from(nodes, count, i + 1, number, soonest);
-            let Tried::Formed(_) = rest else {
-                return Seen::Unformed;
-            };
-            return Seen::Roused;
+            return roused_from(nodes, count, i, last, time);
         }
         soonest = until;
         last = number;

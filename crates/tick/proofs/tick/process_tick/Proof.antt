@@ -15,12 +15,12 @@ process-tick-spec =
     (λ c κs. search needs)
     (λ c. search needs)
     (λ c κs.
-    let m = c .before .before .before .before in
+    let m = c .before .before .before .before .before in
     let o = m .before .before in
     let k = o .before .before in
     let s = k .before in
     let a = s .before .before .args in
-    is-roused (now (a .head)) (now (a .queue)) (now (a .history)) (now (a .nodes)) (a .count) (a .time) (k .checks-heartbeats .result) _ (k .checks-heartbeats .ensures) (s .state-at .ensures) (o .roused .result) (o .roused .ensures) (m .enum-told .given .1))
+    is-roused (now (a .head)) (now (a .queue)) (now (a .history)) (now (a .nodes)) (a .count) (a .time) (k .checks-heartbeats .result) _ (k .checks-heartbeats .ensures) (s .state-at .ensures) (o .roused .result) (o .roused .ensures) _ (m .heard .given .1))
     (λ c. c .tick-roused .ensures)
     (λ c. search needs)
     (λ c κs. search needs)
@@ -38,4 +38,4 @@ process-tick-spec =
     let k = o .before .before in
     let s = k .before in
     let a = s .before .before .args in
-    unformed (now (a .head)) (now (a .queue)) (now (a .history)) (now (a .nodes)) (a .count) (a .time) (k .checks-heartbeats .result) _ (k .checks-heartbeats .ensures) (s .state-at .ensures) (o .roused .result) (o .roused .ensures) (c .enum-told2 .given .1)))
+    unformed (now (a .head)) (now (a .queue)) (now (a .history)) (now (a .nodes)) (a .count) (a .time) (k .checks-heartbeats .result) _ (k .checks-heartbeats .ensures) (s .state-at .ensures) (o .roused .result) (o .roused .ensures) (c .enum-told .given .1)))

@@ -5,7 +5,6 @@ use borrow.Author.Needs.{needs}
 use borrow.Author.Tests.{leb-true}
 use mathlib.Core.Path.{sym, _∙_}
 use Rattle.watched.proofs.Lists.{not-true, not-false}
-use Rattle.watched.proofs.Watching.{few}
 use Rattle.tick.proofs.Tickings.{late, before, accepted}
 use Rattle.tick.proofs.tick.tick_roused.Statement.{statement}
 use Rattle.tick.proofs.tick.tick_roused.Tie as tie
@@ -20,24 +19,20 @@ tick-roused-spec =
     let s = i .before in
     let a = s .args in
     late (now (a .head)) (now (a .queue)) (now (a .history)) (now (a .nodes)) (a .count) (a .time) (s .pre .0) (s .pre .1) (sym (i .in-time .ensures) ∙ not-true (i .in-time .result) (c .if1 .taken)))
-    (λ c κs.
-    let s = c .before .before .before in
-    few (now (s .args .nodes)) (s .args .count) (s .pre .0))
     (λ c.
-    let n = c .before in
-    let j = n .before .before in
+    let j = c .before in
     let i = j .before in
     let s = i .before in
     let a = s .args in
     before (now (a .head)) (now (a .queue)) (now (a .history)) (now (a .nodes)) (a .count) (a .time) (s .pre .0) (s .pre .1) (sym (i .in-time .ensures) ∙ not-false (i .in-time .result) (j .if1 .left))
-    (sym (n .not-before .ensures) ∙ not-true (n .not-before .result) (c .if2 .taken)))
+    (sym (s .pre .2) ∙ not-true (a .heard) (c .if2 .taken)))
     (λ c κs.
-    let j = c .before .before .before .before .before .before .before in
+    let j = c .before .before .before .before .before in
     let i = j .before in
     let s = i .before in
     (leb-true (s .args .time) 4611686018427387903 (sym (i .in-time .ensures) ∙ not-false (i .in-time .result) (j .if1 .left)), s .pre .0, s .pre .1))
     (λ c κs.
-    let j = c .before .before .before .before .before .before .before .before .before in
+    let j = c .before .before .before .before .before .before .before in
     let i = j .before in
     let s = i .before in
     (leb-true (s .args .time) 4611686018427387903 (sym (i .in-time .ensures) ∙ not-false (i .in-time .result) (j .if1 .left)), s .pre .0))
@@ -50,11 +45,10 @@ tick-roused-spec =
     let l = w .before .before in
     let p = l .before .before in
     let e = p .before .before .before .before .before in
-    let n = e .before in
-    let j = n .before .before in
+    let j = e .before in
     let i = j .before in
     let s = i .before in
     let a = s .args in
     accepted (now (a .head)) (now (a .queue)) (now (a .history)) (now (a .nodes)) (a .count) (a .time) (s .pre .0) (s .pre .1) (sym (i .in-time .ensures) ∙ not-false (i .in-time .result) (j .if1 .left))
-    (sym (n .not-before .ensures) ∙ not-false (n .not-before .result) (e .if2 .left))
+    (sym (s .pre .2) ∙ not-false (a .heard) (e .if2 .left))
     (p .phases .result) _ _ _ (p .phases .ensures) (w .whole .ensures) _ (l .look-all .result) (l .look-all .ensures) (o .moment .result) (o .moment .ensures) _ (c .set-earliest .ensures)))

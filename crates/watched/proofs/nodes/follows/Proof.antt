@@ -1,9 +1,10 @@
--- `watched::nodes::follows` meets its contract: the number is tried against the one before and by itself, then the two times.
+-- `watched::nodes::follows` meets its contract: it climbs, and has a node's number.
 -- Assumes nothing.
-use mathlib.Core.Path.{sym, _∙_}
+use native.Mathlib.Omega.{arith}
 use borrow.Author.Needs.{needs}
-use borrow.Author.Tests.{lt-ltb, le-ltb}
+use Rattle.watched.specs.Watched.{watchedNode}
 use Rattle.watched.proofs.Lists.{not-true, not-false}
+use Rattle.watched.proofs.Climbing.{follows-not, follows-by, climbs-up}
 use Rattle.watched.proofs.nodes.follows.Statement.{statement}
 use Rattle.watched.proofs.nodes.follows.Tie as tie
 
@@ -11,26 +12,17 @@ pub follows-spec : {M : Type 1} → statement M
 follows-spec =
     tie.close
     (tie.spec
-    (λ c.
-    let a = c .before .args in
-    rw (le-ltb (a .last) (a .node) (c .if1 .taken)))
     (λ c κs. search needs)
     (λ c.
-    let n = c .before in
-    let b = n .before in
-    let a = b .before .args in
-    rw (lt-ltb (a .last) (a .node) (b .if1 .left), sym (n .is-node .ensures) ∙ not-true (n .is-node .result) (c .if2 .taken)))
-    (λ c κs. search needs)
+    let f = c .before in
+    let a = f .before .args in
+    follows-not (a .last) (watchedNode (a .node) (a .timeout) (a .last-heard)) (f .climbs .result) (f .climbs .ensures) (not-true (f .climbs .result) (c .if1 .taken)))
+    (λ c κs.
+    let f = c .before in
+    let a = f .before .args in
+    omega (arith, climbs-up (a .last) (watchedNode (a .node) (a .timeout) (a .last-heard)) (f .climbs .result) (f .climbs .ensures) (not-false (f .climbs .result) (c .if1 .left))))
     (λ c.
-    let t = c .before in
-    let n = t .before .before in
-    let b = n .before in
-    let a = b .before .args in
-    rw (lt-ltb (a .last) (a .node) (b .if1 .left), sym (n .is-node .ensures) ∙ not-false (n .is-node .result) (t .before .if2 .left), sym (t .in-time .ensures) ∙ not-true (t .in-time .result) (c .if3 .taken)))
-    (λ c κs. search needs)
-    (λ c.
-    let t = c .before .before in
-    let n = t .before .before in
-    let b = n .before in
-    let a = b .before .args in
-    rw (lt-ltb (a .last) (a .node) (b .if1 .left), sym (n .is-node .ensures) ∙ not-false (n .is-node .result) (t .before .if2 .left), sym (t .in-time .ensures) ∙ not-false (t .in-time .result) (c .before .if3 .left), c .in-time2 .ensures)))
+    let f = c .before .before in
+    let a = f .before .args in
+    follows-by (a .last) (watchedNode (a .node) (a .timeout) (a .last-heard)) (f .climbs .result) (f .climbs .ensures) (not-false (f .climbs .result) (c .before .if1 .left))
+    (c .is-node .result) (c .is-node .ensures)))

@@ -9,8 +9,8 @@ use denote.Ref.{now}
 use borrow.Author.Needs.{needs}
 use Rattle.watched.specs.Watched.{allOf, wellFormed, watchedOf}
 use Rattle.watched.proofs.Lists.{not-true, not-false}
-use Rattle.watched.specs.Nodes.{nodeAt, nodesOf, rising, rests, never, soonest}
-use Rattle.watched.proofs.Watching.{many, follows-fit, tried-unformed, tried-formed, formed-begins, formed-stops, formed-next, formed-ends, soonest-begins, soonest-next, soonest-ends, rest-begins, rest-stops, rest-next, rest-ends, until-none, until-one, look-unformed, look-roused, look-rests}
+use Rattle.watched.specs.Nodes.{nodeAt, nodesOf, rests, notBefore, rising, never, soonest}
+use Rattle.watched.proofs.Watching.{many, follows-fit, formed-begins, formed-stops, formed-next, formed-ends, soonest-begins, soonest-next, soonest-ends, all-begins, all-stops, all-next, all-ends, rests-heard, until-none, until-one, look-unformed, look-roused, look-rests}
 use Rattle.watched.proofs.nodes.look.Statement.{statement}
 use Rattle.watched.proofs.nodes.look.Tie as tie
 
@@ -21,6 +21,7 @@ Inv-loop nodes count time last₀ soonest₀ i₀ last sooner i =
     × (count ≤ 32)
     × (soonest never (watchedOf (nodesOf nodes) count) ≡ soonest sooner (drop i (take count (nodesOf nodes))))
     × (0 < sooner)
+    × (allOf (notBefore time) (watchedOf (nodesOf nodes) count) ≡ allOf (notBefore time) (drop i (take count (nodesOf nodes))))
 
 abbrev μ-loop : tie.MeasureT-loop
 μ-loop nodes count time last₀ soonest₀ i₀ last sooner i = count - i
@@ -37,10 +38,11 @@ look-spec =
     (λ c.
     let a = c .before .args in (
       formed-begins (now (a .nodes)) (a .count) (c .if1 .left),
-      rest-begins (now (a .nodes)) (a .count) (c .if1 .left) (a .time),
+      all-begins (now (a .nodes)) (a .count) (c .if1 .left) (rests (a .time)),
       c .if1 .left,
       soonest-begins (now (a .nodes)) (a .count) (c .if1 .left),
       omega arith,
+      all-begins (now (a .nodes)) (a .count) (c .if1 .left) (notBefore (a .time)),
     ))
     (λ c. omega arith)
     (λ c. omega arith)
@@ -66,36 +68,20 @@ look-spec =
     let l = t .before .loop in
     let a = t .before .before .before .args in
     follows-fit (l .last) (nodeAt (now (a .nodes)) (l .i)) (f .follows .result) (f .follows .ensures) (not-false (f .follows .result) (c .if2 .left)))
-    (λ c. omega arith)
     (λ c κs. c .before .before .before .before .before .before .before .before .loop .inv .2)
-    (λ c. search needs)
-    (λ c. search needs)
     (λ c.
-    let r = c .before .before in
-    let e = r .before .before .before in
-    let f = e .before in
-    let t = f .before .before .before .before in
-    let l = t .before .loop in
-    let a = t .before .before .before .args in
-    look-unformed (now (a .nodes)) (a .count) (a .time)
-    (formed-next (now (a .nodes)) (a .count) (l .inv .2) (l .i) (t .loop-test .taken) _ (l .last) (l .inv .0)
-    (f .follows .result) (f .follows .ensures) (not-false (f .follows .result) (e .if2 .left))
-    ∙ tried-unformed _ _ (r .formed-from .result) (r .formed-from .ensures) (c .enum-told2 .given .1)))
-    (λ c.
-    let r = c .before .before in
-    let h = r .before in
+    let h = c .before in
     let s = h .before in
     let e = s .before in
     let f = e .before in
     let t = f .before .before .before .before in
     let l = t .before .loop in
     let a = t .before .before .before .args in
-    let x = tried-formed _ _ (r .formed-from .result) (r .formed-from .ensures) _ (c .enum-told .given .1) in
-    look-roused (now (a .nodes)) (a .count) (a .time)
-    (formed-next (now (a .nodes)) (a .count) (l .inv .2) (l .i) (t .loop-test .taken) _ (l .last) (l .inv .0)
-    (f .follows .result) (f .follows .ensures) (not-false (f .follows .result) (e .if2 .left)) ∙ x .0)
-    (rest-stops (now (a .nodes)) (a .count) (l .inv .2) (l .i) (t .loop-test .taken) (a .time) _ (l .inv .1)
-    false (sym (until-none (a .time) (l .soonest) (nodeAt (now (a .nodes)) (l .i)) (l .inv .4) (s .rest-until .result) (s .rest-until .ensures) (h .if3 .taken))) refl))
+    c .roused-from .ensures
+    ∙ look-roused (now (a .nodes)) (a .count) (a .time) (l .last) (drop (l .i) (take (a .count) (nodesOf (now (a .nodes))))) (l .inv .0)
+    (all-stops (now (a .nodes)) (a .count) (l .inv .2) (l .i) (t .loop-test .taken) (rests (a .time)) _ (l .inv .1)
+    (until-none (a .time) (l .soonest) (nodeAt (now (a .nodes)) (l .i)) (l .inv .4) (s .rest-until .result) (s .rest-until .ensures) (h .if3 .taken)))
+    (l .inv .5))
     (λ c. omega arith)
     (λ c. omega arith)
     (λ c.
@@ -108,14 +94,15 @@ look-spec =
     let u = until-one (a .time) (l .soonest) (nodeAt (now (a .nodes)) (l .i)) (l .inv .4) (s .rest-until .result) (s .rest-until .ensures) (c .if3 .left) in (
       formed-next (now (a .nodes)) (a .count) (l .inv .2) (l .i) (t .loop-test .taken) _ (l .last) (l .inv .0)
           (f .follows .result) (f .follows .ensures) (not-false (f .follows .result) (e .if2 .left)),
-      rest-next (now (a .nodes)) (a .count) (l .inv .2) (l .i) (t .loop-test .taken) (a .time) _ (l .inv .1) true (sym (u .0)) refl,
+      all-next (now (a .nodes)) (a .count) (l .inv .2) (l .i) (t .loop-test .taken) (rests (a .time)) _ (l .inv .1) (u .0),
       l .inv .2,
       soonest-next (now (a .nodes)) (a .count) (l .inv .2) (l .i) (t .loop-test .taken) _ (l .soonest) (l .inv .3) (s .rest-until .result) (u .1),
       u .2,
+      all-next (now (a .nodes)) (a .count) (l .inv .2) (l .i) (t .loop-test .taken) (notBefore (a .time)) _ (l .inv .5) (rests-heard (a .time) (nodeAt (now (a .nodes)) (l .i)) (u .0)),
     ))
     (λ c.
     let l = c .before .loop in
     let a = c .before .before .before .args in
     look-rests (now (a .nodes)) (a .count) (a .time) (formed-ends (now (a .nodes)) (a .count) (l .inv .2) (l .i) _ (l .last) (l .inv .0) (c .loop-test .left))
-    (rest-ends (now (a .nodes)) (a .count) (l .inv .2) (l .i) (a .time) _ (l .inv .1) (c .loop-test .left)) (l .soonest)
+    (all-ends (now (a .nodes)) (a .count) (l .inv .2) (l .i) (rests (a .time)) _ (l .inv .1) (c .loop-test .left)) (l .soonest)
     (soonest-ends (now (a .nodes)) (a .count) (l .inv .2) (l .i) _ (l .soonest) (l .inv .3) (c .loop-test .left))))

@@ -1,9 +1,9 @@
--- `heartbeats::heartbeats::heard_by` meets its contract.
+-- `watched::nodes::heard_by` meets its contract.
 -- Assumes nothing.
 use Rattle.watched.specs.Watched.{watchedNode}
-use Rattle.heartbeats.proofs.Beats.{before-idle, before-unheard, before-tested}
-use Rattle.heartbeats.proofs.heartbeats.heard_by.Statement.{statement}
-use Rattle.heartbeats.proofs.heartbeats.heard_by.Tie as tie
+use Rattle.watched.proofs.Watching.{before-idle, before-unheard, before-tested}
+use Rattle.watched.proofs.nodes.heard_by.Statement.{statement}
+use Rattle.watched.proofs.nodes.heard_by.Tie as tie
 
 pub heard-by-spec : {M : Type 1} → statement M
 heard-by-spec =
