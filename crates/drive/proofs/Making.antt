@@ -4,7 +4,6 @@ use Prim.Native.Nat.{ℕ}
 use mathlib.Core.Path.{_≡_}
 use mathlib.Core.Bool.{Bool}
 use mathlib.Core.List.{List, []}
-use lib.ListN.{length}
 use denote.Ref.{RefT}
 use Rattle.types.specs.Events.{readEvent}
 use Rattle.types.specs.CsEvents.{readCsEvent}
@@ -101,20 +100,19 @@ module _ {ws ns ws′ ns′ : List ℕ} (q m : List ℕ) where
   made-heard k n t r e =
       Made.heard ([], ([], tt)) (lying ws, (lying ns, (k, (n, (t, tt))))) r (lying ws′, (lying ns′, (k, (n, (t, tt))))) e
 
-  module _ (long : length ns ≡ 96) (long′ : length ns′ ≡ 96) where
-    pub made-add :
-        {k k′ : ℕ} (n o : ℕ) (r : CallAnswer) →
-        Added ws ns k n o r ws′ ns′ k′ →
-        Made ws q m ns k (Call.add n o (run (nodesOf ns) k)) (says (said r) (run (nodesOf ns′) k′)) ws′ q m ns′ k′
-    made-add {k} {k′} n o r e =
-        Made.add ([], ([], ([], tt))) (lying ws, (lying ns, (lying k, (n, (o, tt))))) r (lying ws′, (lying ns′, (lying k′, (n, (o, tt))))) e long long′
+  pub made-add :
+      {k k′ : ℕ} (n o : ℕ) (r : CallAnswer) →
+      Added ws ns k n o r ws′ ns′ k′ →
+      Made ws q m ns k (Call.add n o (run (nodesOf ns) k)) (says (said r) (run (nodesOf ns′) k′)) ws′ q m ns′ k′
+  made-add {k} {k′} n o r e =
+      Made.add ([], ([], ([], tt))) (lying ws, (lying ns, (lying k, (n, (o, tt))))) r (lying ws′, (lying ns′, (lying k′, (n, (o, tt))))) e
 
-    pub made-remove :
-        {k k′ : ℕ} (n : ℕ) (r : CallAnswer) →
-        Removed ws ns k n r ws′ ns′ k′ →
-        Made ws q m ns k (Call.remove n (run (nodesOf ns) k)) (says (said r) (run (nodesOf ns′) k′)) ws′ q m ns′ k′
-    made-remove {k} {k′} n r e =
-        Made.remove ([], ([], ([], tt))) (lying ws, (lying ns, (lying k, (n, tt)))) r (lying ws′, (lying ns′, (lying k′, (n, tt)))) e long long′
+  pub made-remove :
+      {k k′ : ℕ} (n : ℕ) (r : CallAnswer) →
+      Removed ws ns k n r ws′ ns′ k′ →
+      Made ws q m ns k (Call.remove n (run (nodesOf ns) k)) (says (said r) (run (nodesOf ns′) k′)) ws′ q m ns′ k′
+  made-remove {k} {k′} n r e =
+      Made.remove ([], ([], ([], tt))) (lying ws, (lying ns, (lying k, (n, tt)))) r (lying ws′, (lying ns′, (lying k′, (n, tt)))) e
 
 module _ {ws : List ℕ} (q m ns : List ℕ) (k : ℕ) where
   pub made-range :

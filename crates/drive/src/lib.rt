@@ -43,7 +43,6 @@ use tick::tick::TickAnswer;
 use tick::tick::process_tick;
 use types::nmt::flags::FeatureFlags;
 use watched::nodes::NodeWords;
-use watched::nodes::all_places;
 
 // A row of a script: which call, and its arguments; of tag 10, a watched node that is lent next.
 pub struct Row {
@@ -268,7 +267,7 @@ fn heard_turn(head: &mut Head, nodes: &mut NodeWords, count: usize, node: u8, ti
     number(heard(head, nodes, count, node, time))
 }
 
-// A node is watched from now on. Before and after it the nodes have their 96 words.
+// A node is watched from now on.
 fn add_turn(
     head: &mut Head,
     nodes: &mut NodeWords,
@@ -279,9 +278,7 @@ fn add_turn(
     ensures { λ r. ⌜ ((q m : List ℕ) → Turned (now (head .entry)) q m (now (nodes .entry)) (now (count .entry)) (Call.add node timeout (run (nodesOf (now (nodes .entry))) (now (count .entry)))) r
         (now (head .exit)) q m (now (nodes .exit)) (now (count .exit))) ⌝ }
 {
-    all_places(nodes);
     let answer = add(head, nodes, count, node, timeout);
-    all_places(nodes);
     number(answer)
 }
 
@@ -290,9 +287,7 @@ fn remove_turn(head: &mut Head, nodes: &mut NodeWords, count: &mut usize, node: 
     ensures { λ r. ⌜ ((q m : List ℕ) → Turned (now (head .entry)) q m (now (nodes .entry)) (now (count .entry)) (Call.remove node (run (nodesOf (now (nodes .entry))) (now (count .entry)))) r
         (now (head .exit)) q m (now (nodes .exit)) (now (count .exit))) ⌝ }
 {
-    all_places(nodes);
     let answer = remove(head, nodes, count, node);
-    all_places(nodes);
     number(answer)
 }
 

@@ -19,13 +19,13 @@ pub add-refines :
     (κs : _) (a : _) (o : CallAnswer) (x : _) → add-reads.Learnt κs a o x → (q m : List ℕ) →
     Refines (headOf (now (a .0))) q m (Call.add (a .1 .1 .1 .0) (a .1 .1 .1 .1 .0) (run (nodesOf (now (a .1 .0))) (now (a .1 .1 .0))))
     (left (headOf (now (x .0))) (said o)) q m (run (nodesOf (now (x .1 .0))) (now (x .1 .1 .0)))
-add-refines κs a o x e = e .refines
+add-refines κs a o x e = e .on .refines
 
 pub remove-refines :
     (κs : _) (a : _) (o : CallAnswer) (x : _) → remove-reads.Learnt κs a o x → (q m : List ℕ) →
     Refines (headOf (now (a .0))) q m (Call.remove (a .1 .1 .1 .0) (run (nodesOf (now (a .1 .0))) (now (a .1 .1 .0))))
     (left (headOf (now (x .0))) (said o)) q m (run (nodesOf (now (x .1 .0))) (now (x .1 .1 .0)))
-remove-refines κs a o x e = e .refines
+remove-refines κs a o x e = e .on .refines
 
 pub asks-nothing : ((κs : _) (a : _) → add-reads.Asked κs a) × ((κs : _) (a : _) → remove-reads.Asked κs a)
 asks-nothing = (λ κs a. tt, λ κs a. tt)

@@ -154,6 +154,8 @@ pub fn add(
     match answer {
         CallAnswer::Taken => {
             insert(nodes, number, node as u64, timeout);
+            // 96 words, of which the places fix every one.
+            all_places(nodes);
             *count = number + 1;
             set_earliest(head, moment(soonest));
             return CallAnswer::Taken;
@@ -178,6 +180,7 @@ pub fn remove(head: &mut Head, nodes: &mut NodeWords, count: &mut usize, node: u
     match answer {
         CallAnswer::Taken => {
             close(nodes, number, place);
+            all_places(nodes);
             *count = number - 1;
             set_earliest(head, moment(soonest));
             return CallAnswer::Taken;

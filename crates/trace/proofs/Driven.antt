@@ -46,9 +46,9 @@ refines (Made.tick κs a o x e) = process-tick-refines κs a o x e
 refines (Made.tickRun r t o r′ e) = e .refines
 refines {q = q} {m = m} (Made.range κs a o x e) = Links.soc-range-refines κs a o x e q m
 refines {q = q} {m = m} (Made.margin κs a o x e) = Links.soc-margin-refines κs a o x e q m
-refines {q = q} {m = m} (Made.add κs a o x e l l′) = partners-links.add-refines κs a o x e q m
+refines {q = q} {m = m} (Made.add κs a o x e) = partners-links.add-refines κs a o x e q m
 refines {q = q} {m = m} (Made.addRun r n t o r′ e) = e .refines q m
-refines {q = q} {m = m} (Made.remove κs a o x e l l′) = partners-links.remove-refines κs a o x e q m
+refines {q = q} {m = m} (Made.remove κs a o x e) = partners-links.remove-refines κs a o x e q m
 refines {q = q} {m = m} (Made.removeRun r n o r′ e) = e .refines q m
 
 pub follows :

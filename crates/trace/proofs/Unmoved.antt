@@ -216,9 +216,9 @@ brings long (Made.tick κs a o x e) = brings-ticked long (e .on)
 brings long (Made.tickRun r t o r′ e) = brings-ticked long e
 brings long (Made.range κs a o x e) = brings-none refl refl
 brings long (Made.margin κs a o x e) = brings-none refl refl
-brings long (Made.add κs a o x e l l′) = brings-none (e .places .history) refl
+brings long (Made.add κs a o x e) = brings-none (e .on .places .history) refl
 brings long (Made.addRun r n t o r′ e) = brings-none (e .places .history) refl
-brings long (Made.remove κs a o x e l l′) = brings-none (e .places .history) refl
+brings long (Made.remove κs a o x e) = brings-none (e .on .places .history) refl
 brings long (Made.removeRun r n o r′ e) = brings-none (e .places .history) refl
 
 -- and a list of them, between any two moments

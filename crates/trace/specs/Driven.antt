@@ -1,12 +1,10 @@
--- A start, one call of a real function, and a list of them: at each, what that function's contract in src/ ensures, and nothing else; but of add and removal
--- also that the nodes' words are 96, which their type has and no contract says. The watched nodes are lent in either form, as words or as a run of records,
--- mixed as one likes. A function over a run has no generated reading (`Learnt`) of its contract, so that is written here: `HeardOn`, `TickedOn`, `StartedOn` and
--- `OnRun`, to which crates/lent/proofs/Links.antt holds the contracts of `lent`. It stands in specs/ so that the contract of `drive` can cite it.
+-- A start, one call of a real function, and a list of them: at each, what that function's contract in src/ ensures, and nothing else. The watched nodes are
+-- lent in either form, as words or as a run of records, mixed as one likes. A function over a run has no generated reading (`Learnt`) of its contract, so that
+-- is written here: `HeardOn`, `TickedOn`, `StartedOn` and `OnRun`, to which crates/lent/proofs/Links.antt holds the contracts of `lent`. It stands in specs/ so
+-- that the contract of `drive` can cite it.
 -- Assumes nothing.
 use Prim.Native.Nat.{ℕ}
-use mathlib.Core.Path.{_≡_}
 use mathlib.Core.List.{List, [], _∷_}
-use lib.ListN.{length}
 use denote.Ref.{now}
 use Rattle.types.specs.declared.nmt.flags.FeatureFlags.{FeatureFlags}
 use Rattle.counters.specs.declared.counters.Thresholds.{Thresholds}
@@ -118,12 +116,10 @@ pub data Made : List ℕ → List ℕ → List ℕ → List ℕ → ℕ → Call
       {q m ns : List ℕ} {k : ℕ} (κs : _) (a : _) (o : MarginAnswer) (x : _) →
       soc-margin-reads.Learnt κs a o x →
       Made (now (a .0)) q m ns k (Call.margin (a .1 .0)) (saysOnly (marginSaid o)) (now (a .0)) q m ns k
-  -- partners come and go: of 96 words the places, of which the contract speaks, fix every one
+  -- partners come and go
   add :
       {q m : List ℕ} (κs : _) (a : _) (o : CallAnswer) (x : _) →
       add-reads.Learnt κs a o x →
-      length (now (a .1 .0)) ≡ 96 →
-      length (now (x .1 .0)) ≡ 96 →
       Made (now (a .0)) q m (now (a .1 .0)) (now (a .1 .1 .0))
       (Call.add (a .1 .1 .1 .0) (a .1 .1 .1 .1 .0) (run (nodesOf (now (a .1 .0))) (now (a .1 .1 .0))))
       (says (said o) (run (nodesOf (now (x .1 .0))) (now (x .1 .1 .0)))) (now (x .0)) q m (now (x .1 .0)) (now (x .1 .1 .0))
@@ -134,8 +130,6 @@ pub data Made : List ℕ → List ℕ → List ℕ → List ℕ → ℕ → Call
   remove :
       {q m : List ℕ} (κs : _) (a : _) (o : CallAnswer) (x : _) →
       remove-reads.Learnt κs a o x →
-      length (now (a .1 .0)) ≡ 96 →
-      length (now (x .1 .0)) ≡ 96 →
       Made (now (a .0)) q m (now (a .1 .0)) (now (a .1 .1 .0)) (Call.remove (a .1 .1 .1 .0) (run (nodesOf (now (a .1 .0))) (now (a .1 .1 .0))))
       (says (said o) (run (nodesOf (now (x .1 .0))) (now (x .1 .1 .0)))) (now (x .0)) q m (now (x .1 .0)) (now (x .1 .1 .0))
   removeRun :

@@ -12,11 +12,7 @@ add-turn-spec =
     (tie.spec
     (λ c κs. search needs)
     (λ c κs. search needs)
-    (λ c κs. search needs)
-    (λ c κs. search needs)
     (λ c q m.
-    let v1 = c .before in
-    let v3 = v1 .before .before in
-    let v7 = v3 .before .before .before .before in
-    let a = v7 .before .before .args in
-    turned (made-add q m (v7 .all-places .ensures) (v1 .all-places2 .ensures) (a .node) (a .timeout) (v3 .add .result) (v3 .add .ensures)) (c .number .ensures)))
+    let t = c .before in
+    let a = t .before .before .before .before .args in
+    turned (made-add q m (a .node) (a .timeout) (t .add .result) (t .add .ensures)) (c .number .ensures)))

@@ -12,11 +12,7 @@ remove-turn-spec =
     (tie.spec
     (λ c κs. search needs)
     (λ c κs. search needs)
-    (λ c κs. search needs)
-    (λ c κs. search needs)
     (λ c q m.
-    let v1 = c .before in
-    let v3 = v1 .before .before in
-    let v7 = v3 .before .before .before .before in
-    let a = v7 .before .before .args in
-    turned (made-remove q m (v7 .all-places .ensures) (v1 .all-places2 .ensures) (a .node) (v3 .remove .result) (v3 .remove .ensures)) (c .number .ensures)))
+    let t = c .before in
+    let a = t .before .before .before .before .args in
+    turned (made-remove q m (a .node) (t .remove .result) (t .remove .ensures)) (c .number .ensures)))
