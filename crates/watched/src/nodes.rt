@@ -262,6 +262,7 @@ pub fn find(nodes: &NodeWords, count: usize, node: u64, time: u64) -> Found
         if !follows(last, number, timeout, last_heard) {
             return Found::Unformed;
         }
+        let unheard = sooner(soonest, timeout, last_heard);
         if number == node {
             let rest = formed_from(nodes, count, i + 1, number, sooner(soonest, timeout, time));
             let Tried::Formed(all) = rest else {
@@ -269,7 +270,7 @@ pub fn find(nodes: &NodeWords, count: usize, node: u64, time: u64) -> Found
             };
             return Found::Formed(i, all);
         }
-        soonest = sooner(soonest, timeout, last_heard);
+        soonest = unheard;
         last = number;
         i += 1;
     }

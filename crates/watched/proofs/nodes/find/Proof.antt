@@ -59,21 +59,27 @@ find-spec =
     find-unformed (now (a .nodes)) (a .count) (a .node) (a .time)
     (formed-stops (now (a .nodes)) (a .count) (l .inv .3) (l .i) (t .loop-test .taken) _ (l .last) (l .inv .0)
     (f .follows .result) (f .follows .ensures) (not-true (f .follows .result) (c .if2 .taken))))
+    (λ c κs.
+    let f = c .before in
+    let t = f .before .before .before .before in
+    let l = t .before .loop in
+    let a = t .before .before .before .args in
+    follows-fit (l .last) (nodeAt (now (a .nodes)) (l .i)) (f .follows .result) (f .follows .ensures) (not-false (f .follows .result) (c .if2 .left)))
     (λ c. omega arith)
     (λ c κs.
-    let e = c .before in
+    let e = c .before .before in
     let f = e .before in
     let t = f .before .before .before .before in
     let l = t .before .loop in
     let s = t .before .before .before in
     (follows-fit (l .last) (nodeAt (now (s .args .nodes)) (l .i)) (f .follows .result) (f .follows .ensures) (not-false (f .follows .result) (e .if2 .left)) .0, s .pre))
-    (λ c κs. omega (arith, c .before .before .before .before .before .before .before .before .loop .inv .3))
+    (λ c κs. omega (arith, c .before .before .before .before .before .before .before .before .before .loop .inv .3))
     (λ c. search needs)
     (λ c. search needs)
     (λ c.
     let r = c .before .before in
     let h = r .before .before in
-    let e = h .before in
+    let e = h .before .before in
     let f = e .before in
     let t = f .before .before .before .before in
     let l = t .before .loop in
@@ -87,7 +93,7 @@ find-spec =
     let r = d .before .before in
     let s = r .before in
     let h = s .before in
-    let e = h .before in
+    let e = h .before .before in
     let f = e .before in
     let t = f .before .before .before .before in
     let l = t .before .loop in
@@ -99,30 +105,23 @@ find-spec =
     (l .i) _
     (place-here (now (a .nodes)) (a .count) (l .inv .3) (l .i) (t .loop-test .taken) (a .node) (l .inv .1) (h .if3 .taken))
     (heard-here (now (a .nodes)) (a .count) (l .inv .3) (l .i) (t .loop-test .taken) (a .node) (a .time) _ (l .soonest) (l .inv .4) (h .if3 .taken)
-    (s .sooner .result) (s .sooner .ensures) ∙ sym (x .1)))
-    (λ c κs.
-    let e = c .before in
-    let f = e .before in
-    let t = f .before .before .before .before in
-    let l = t .before .loop in
-    let a = t .before .before .before .args in
-    follows-fit (l .last) (nodeAt (now (a .nodes)) (l .i)) (f .follows .result) (f .follows .ensures) (not-false (f .follows .result) (e .if2 .left)))
+    (s .sooner2 .result) (s .sooner2 .ensures) ∙ sym (x .1)))
     (λ c. omega arith)
     (λ c. omega arith)
     (λ c.
-    let h = c .before in
-    let e = h .before in
+    let u = c .before in
+    let e = u .before in
     let f = e .before in
     let t = f .before .before .before .before in
     let l = t .before .loop in
     let a = t .before .before .before .args in (
       formed-next (now (a .nodes)) (a .count) (l .inv .3) (l .i) (t .loop-test .taken) _ (l .last) (l .inv .0)
           (f .follows .result) (f .follows .ensures) (not-false (f .follows .result) (e .if2 .left)),
-      place-next (now (a .nodes)) (a .count) (l .inv .3) (l .i) (t .loop-test .taken) (a .node) (l .inv .1) (h .if3 .left),
+      place-next (now (a .nodes)) (a .count) (l .inv .3) (l .i) (t .loop-test .taken) (a .node) (l .inv .1) (c .if3 .left),
       omega arith,
       l .inv .3,
-      heard-next (now (a .nodes)) (a .count) (l .inv .3) (l .i) (t .loop-test .taken) (a .node) (a .time) _ (l .soonest) (l .inv .4) (h .if3 .left)
-          (c .sooner2 .result) (c .sooner2 .ensures),
+      heard-next (now (a .nodes)) (a .count) (l .inv .3) (l .i) (t .loop-test .taken) (a .node) (a .time) _ (l .soonest) (l .inv .4) (c .if3 .left)
+          (u .sooner .result) (u .sooner .ensures),
     ))
     (λ c.
     let l = c .before .loop in

@@ -2,6 +2,7 @@
 -- Assumes nothing.
 use mathlib.Core.Path.{_∙_}
 use denote.Ref.{now}
+use native.Mathlib.Omega.{arith}
 use Rattle.watched.proofs.Watching.{many, tries-begin, nodes-unformed}
 use Rattle.watched.proofs.nodes.try_nodes.Statement.{statement}
 use Rattle.watched.proofs.nodes.try_nodes.Tie as tie
@@ -13,7 +14,7 @@ try-nodes-spec =
     (λ c.
     let a = c .before .args in
     nodes-unformed (now (a .nodes)) (a .count) (many (now (a .nodes)) (a .count) (c .if1 .taken)))
-    (λ c κs. c .if1 .left)
+    (λ c κs. omega (arith, c .if1 .left))
     (λ c.
     let a = c .before .before .args in
     c .formed-from .ensures ∙ tries-begin (now (a .nodes)) (a .count) (c .before .if1 .left)))
