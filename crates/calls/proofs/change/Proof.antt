@@ -26,7 +26,7 @@ change-spec =
     let n = f .before in
     let a = n .before .before .args in
     made-as (call-add (a .given) (run (nodesOf (now (a .nodes))) (now (a .count))) (n .byte .ensures ∙ ap byteOf (n .before .number .ensures)) (f .if1 .taken) (t .number2 .ensures))
-    (made (h .add .ensures .refines q m) (c .call .ensures)))
+    (made (h .add .ensures .on .refines q m) (c .call .ensures)))
     (λ c κs. search needs)
     (λ c κs. search needs)
     (λ c q m.
@@ -35,4 +35,4 @@ change-spec =
     let n = f .before in
     let a = n .before .before .args in
     made-as (call-remove (a .given) (run (nodesOf (now (a .nodes))) (now (a .count))) (n .byte .ensures ∙ ap byteOf (n .before .number .ensures)) (f .if1 .left))
-    (made (h .remove .ensures .refines q m) (c .call2 .ensures))))
+    (made (h .remove .ensures .on .refines q m) (c .call2 .ensures))))
