@@ -1,4 +1,1 @@
-pub mod Values
-pub mod Words
 pub mod Forms
-pub mod Keys

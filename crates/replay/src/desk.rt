@@ -7,15 +7,10 @@ use crate::print::Buffer;
 use crate::print::say;
 use crate::print::say_bytes;
 use crate::print::say_form;
-use crate::run::least;
-use crate::script::NO_LINE;
-use crate::values::entry_of;
-use crate::values::number;
-use crate::words::Given;
 use answers::Numbers;
-use entries::desk::ErrorEntryWrite;
-use entries::desk::write_at;
-use entries::status_response::ErrorEntry;
+use patterns::Given;
+use session::NO_LINE;
+use session::least;
 
 // As many bytes as a desk's buffer may have.
 pub type Desk = [u8; 100];
@@ -65,51 +60,26 @@ pub(crate) fn lay(desk: &mut Desk, bytes: &EntryBuffer, given: Given) -> usize {
     for i in 0..100usize {
         desk[i] = bytes[i];
     }
-    least(number(given, 0) as usize, 100)
+    least(given[0] as usize, 100)
 }
 
 // Writes an entry into the first bytes of a run.
-fn write(run: &mut [u8], count: usize, given: Given) -> ErrorEntryWrite
+fn write(run: &mut [u8], count: usize, given: Given, answer: &mut Numbers)
     requires { ⌜ count ≤ length (now run) ⌝ }
 {
-    write_at(&mut run[0..count], number(given, 0), entry_of(given))
+    calls::entry_write(&mut run[0..count], given, answer)
 }
 
 pub(crate) fn entry_write(desk: &mut Desk, count: usize, given: Given, answer: &mut Numbers) {
-    match write(desk, least(count, 100), given) {
-        ErrorEntryWrite::Taken => answer[0] = 0,
-        ErrorEntryWrite::Refused(refusal) => answer[0] = refusal.number() as u64,
-    }
-}
-
-// The first 20 bytes.
-fn front(bytes: &EntryBuffer) -> [u8; 20] {
-    let mut entry = [0u8; 20];
-    for i in 0..20usize {
-        entry[i] = bytes[i];
-    }
-    entry
+    write(desk, least(count, 100), given, answer)
 }
 
 // The entry in the bytes that were read.
 pub(crate) fn entry_read(out: &mut Buffer, bytes: &EntryBuffer) {
-    let entry = ErrorEntry::deserialize(front(bytes));
-    let entry_type = entry.entry_type;
-    let mode = entry_type.mode;
-    let time = entry.timestamp;
     say_form(
         out,
         b"(taken (entry (status #) (queue #) (mode #) (profile #) (code @) (seconds #) (ns #) (additional #)))\n",
-        &[
-            entry_type.is_status_entry as u64,
-            entry_type.send_to_queue as u64,
-            mode.as_u16() as u64,
-            entry_type.profile as u64,
-            entry.error_code as u64,
-            time.seconds as u64,
-            time.nanoseconds as u64,
-            entry.additional_information,
-        ],
+        &shown::entry(bytes),
     )
 }
 

@@ -1,15 +1,13 @@
 // Reading a `load`: the values that it names, and the entries of its history, each a word of 40 hexadecimal digits.
 ghost use Prim.Native.Nat.{_+_, _*_, _≤_};
 ghost use lib.ListN.{length};
-use crate::script::NO_LINE;
-use crate::words::Given;
-use crate::words::UNREADABLE;
-use crate::words::digit_of;
-use crate::words::match_at;
 use bytes::scan::find;
-
-// In place of a value that a load does not name.
-pub const KEPT: u64 = 8589934592;
+use calls::KEPT;
+use patterns::Given;
+use patterns::UNREADABLE;
+use patterns::digit_of;
+use patterns::match_at;
+use session::NO_LINE;
 
 // The bytes of as many entries as a load may have, 300.
 pub type EntryBuffer = [u8; 6000];

@@ -1,16 +1,12 @@
 // Drives a head by a call script from standard input and prints what each call answers (docs/CALLS.md).
-mod calls;
 mod desk;
 mod lines;
 mod load;
+mod play;
 mod print;
-mod run;
 mod said;
 mod script;
-mod session;
 mod show;
-mod values;
-mod words;
 
 use lines::Gathered;
 use session::Session;
@@ -46,7 +42,8 @@ fn main() {
         line = lines::next_line(line, &mut part, &mut text, &mut out);
         let read = script::read(&text, line.length, &mut given, &mut bytes);
         let key = session::key_after(session, read);
-        session = session.play(
+        session = play::play(
+            session,
             key,
             place,
             given,

@@ -1,11 +1,12 @@
 // What is printed gathers in a buffer, which is written when it is full and whenever the program waits for more of the
 // script.
 ghost use mathlib.Core.Path.{_≡_};
-ghost use Prim.Native.Nat.{_+_, _≤_, _<_};
-ghost use Rattle.replay.specs.Forms.{placeOf, numberIn, opens};
-use answers::NOTHING;
+ghost use Rattle.replay.specs.Forms.{placeOf};
 use bytes::scan::find;
 use libc::STDOUT_FILENO;
+use shown::marks::hiding;
+use shown::marks::number_at;
+use shown::marks::numbers_in;
 
 // As many bytes as a u16 has values, so that each value is a place; and behind them the place of the next byte, in two
 // bytes, the low one first.
@@ -72,57 +73,6 @@ fn say_mark(out: &mut Buffer, mark: u8, n: u64) {
     }
 }
 
-// How many numbers a character of a form stands for.
-fn numbers_in(mark: u8) -> usize
-    ensures { λ r. ⌜ r ≤ 1 ⌝ }
-{
-    match mark {
-        b'#' | b'%' | b'@' | b'-' => 1,
-        _ => 0,
-    }
-}
-
-// How many groups hide what follows, after one more is opened.
-fn opened(hidden: usize, hides: bool) -> usize
-    requires { ⌜ hidden < 18446744073709551615 ⌝ }
-    ensures { λ r. ⌜ (r ≡ opens hidden hides) × (r ≤ hidden + 1) ⌝ }
-{
-    if 0 < hidden {
-        return hidden + 1;
-    }
-    if hides {
-        return 1;
-    }
-    0
-}
-
-// The same behind a character of a form: [..] is hidden where the number that follows is not there, {..} where it is.
-fn hiding(hidden: usize, mark: u8, n: u64) -> usize
-    requires { ⌜ hidden < 18446744073709551615 ⌝ }
-    ensures { λ r. ⌜ r ≤ hidden + 1 ⌝ }
-{
-    match mark {
-        b'[' => opened(hidden, n == NOTHING),
-        b'{' => opened(hidden, n != NOTHING),
-        b']' | b'}' => {
-            if 0 < hidden {
-                return hidden - 1;
-            }
-            0
-        }
-        _ => hidden,
-    }
-}
-
-// The number at a place; behind the last it is 0.
-fn number_at(numbers: &[u64], place: usize) -> u64
-    ensures { λ r. ⌜ r ≡ numberIn (now (numbers .entry)) place ⌝ }
-{
-    if place < numbers.len() {
-        return numbers[place];
-    }
-    0
-}
 // A form with a number for each of its marks.
 pub(crate) fn say_form(out: &mut Buffer, form: &[u8], numbers: &[u64]) {
     let mut next = 0;

@@ -68,9 +68,10 @@ pub(crate) fn say_found(out: &mut Buffer, found: FoundEntry) -> bool {
 }
 
 // An entry leaves the queue, and is printed.
-pub(crate) fn hand_out(out: &mut Buffer, head: &mut Head, queue: &[u8; 640]) {
+pub(crate) fn hand_out(out: &mut Buffer, head: &mut Head, queue: &[u8; 640], answer: &mut Numbers) {
     let mut bytes = [0u8; 20];
-    if answers::found(node::calls::hand_out(head, queue), &mut bytes) {
+    calls::hand_out(head, queue, answer, &mut bytes);
+    if answer[3] == 1 {
         say(out, b"(taken (entry");
         say_entry(out, &bytes);
         return say(out, b"))\n");

@@ -1,4 +1,5 @@
-// What a line of a script says: its key, and the numbers that it gives.
+// What a line of a script says: its key, and the numbers that it gives. The key of a comment is a space, that of a load l, of a desk D, of the reading of
+// an entry r, and the others stand in the table in `read_table`.
 ghost use Prim.Native.Nat.{_≤_};
 ghost use lib.ListN.{length};
 use crate::desk::read_desk;
@@ -6,14 +7,11 @@ use crate::desk::read_entry;
 use crate::lines::LineBuffer;
 use crate::load::EntryBuffer;
 use crate::load::read_load;
-use crate::words::Given;
-use crate::words::UNREADABLE;
-use crate::words::match_at;
 use bytes::scan::find;
-
-// The key of a line that can't be read. That of a comment is a space, that of a load l, of a desk D, of the reading of an entry r, and
-// the others stand in the table in `read_table`.
-pub const NO_LINE: u8 = b'?';
+use patterns::Given;
+use patterns::UNREADABLE;
+use patterns::match_at;
+use session::NO_LINE;
 
 // Reads a line by a table, whose rows are a key and a pattern.
 fn read_by(rows: &[u8], line: &[u8], given: &mut Given) -> u8 {

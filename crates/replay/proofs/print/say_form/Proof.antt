@@ -6,7 +6,7 @@ use Rattle.replay.proofs.print.say_form.Statement.{statement}
 use Rattle.replay.proofs.print.say_form.Tie as tie
 
 abbrev Inv-loop : tie.InvT-loop
-Inv-loop out₀ form numbers next₀ hidden₀ i₀ i-end out next hidden i = (next ≤ i) × (hidden ≤ i)
+Inv-loop out₀ form numbers next₀ hidden₀ i₀ i-end out next hidden i = next ≤ i
 
 abbrev μ-loop : tie.MeasureT-loop
 μ-loop out₀ form numbers next₀ hidden₀ i₀ i-end out next hidden i = i-end - i
