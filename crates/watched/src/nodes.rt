@@ -128,7 +128,7 @@ struct Passed {
     last: u64,
 }
 
-// Passes the nodes that climb and are late no sooner than `soonest`: most nodes of most runs, so the tests here are all that a walk makes at a node.
+// Passes the nodes that climb and are late no sooner than `soonest`. It stops at one that was not heard or has no timeout too, where its sum is below `soonest`.
 fn pass(nodes: &NodeWords, count: usize, place: usize, last: u64, soonest: u64) -> Passed
     requires { ⌜ count ≤ 32 ⌝ }
     ensures { λ r. ⌜ (place ≤ r .place)
@@ -243,7 +243,7 @@ pub enum Found {
     Formed(usize, u64),
 }
 
-// Each node is read once: up to the one sought here, behind it by formed_from.
+// Up to the node that is sought here, behind it by formed_from.
 pub fn find(nodes: &NodeWords, count: usize, node: u64, time: u64) -> Found
     requires { ⌜ time ≤ 4611686018427387903 ⌝ }
     ensures { λ r. ⌜ r ≡ foundOf node time (watchedOf (nodesOf (now (nodes .entry))) count) ⌝ }
@@ -335,7 +335,7 @@ fn roused_from(nodes: &NodeWords, count: usize, place: usize, last: u64, time: u
     Seen::Roused(heard)
 }
 
-// Each node is read once: up to one that does not rest here, from there on by roused_from.
+// Up to a node that does not rest each is read once; from that one on all are tried by roused_from.
 pub fn look(nodes: &NodeWords, count: usize, time: u64) -> Seen
     ensures { λ r. ⌜ r ≡ seenOf time (watchedOf (nodesOf (now (nodes .entry))) count) ⌝ }
 {
