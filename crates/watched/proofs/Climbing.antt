@@ -8,18 +8,16 @@ use native.Mathlib.Omega.{arith}
 use lib.Dec.{ltb}
 use lib.ListN.{length, getD, take, drop, length-drop}
 use lib.Seq.{length-take-le, take-all, getD-take, getD-drop}
-use borrow.Author.Tests.{ltb-true, leb-true, le-leb, le-ltb, lt-ltb}
+use borrow.Author.Tests.{ltb-true, leb-true, le-leb}
 use Rattle.types.specs.Pick.{pick, both}
 use Rattle.types.specs.Types.{isNode}
 use Rattle.types.proofs.Tests.{both-first, both-second}
 use Rattle.watched.specs.declared.nodes.WatchedNode.{WatchedNode}
-use Rattle.watched.specs.declared.nodes.Tried.{Tried}
 use Rattle.watched.specs.declared.nodes.Tried.the-variants as tried
-use Rattle.watched.specs.declared.nodes.Seen.{Seen}
 use Rattle.watched.specs.declared.nodes.Seen.the-variants as seen
-use Rattle.watched.specs.Watched.{latest, inTime, timed, fits, allOf, noNode, watchedNode}
-use Rattle.watched.specs.Nodes.{nodeAt, nodesOf, notBefore, rising, climbing, numbered, soonerBy, soonest, triedOf, climbedOf, rousedFrom}
-use Rattle.watched.proofs.Lists.{from-here, at-end}
+use Rattle.watched.specs.Watched.{latest, inTime, timed, fits, allOf, noNode}
+use Rattle.watched.specs.Nodes.{nodeAt, nodesOf, notBefore, rising, climbing, numbered, rousedFrom}
+use Rattle.watched.proofs.Lists.{at-end}
 use Rattle.watched.proofs.Watching.{places, node-at, turn as turn-at}
 
 both-false : (b : Bool) → both b false ≡ false
@@ -73,7 +71,7 @@ climbs-timed n w z f h =
     (leb-true (w .timeout) latest (both-first (inTime (w .timeout)) _ b), leb-true (w .«last_heard») latest (both-second (inTime (w .timeout)) _ b))
 
 -- of nodes that climb, each is above the number before them, and those before one of at most 240 have a number
-climb-head : (n : ℕ) (w : WatchedNode) (ws : List WatchedNode) → climbing n (w ∷ ws) ≡ true → n < w .node
+pub climb-head : (n : ℕ) (w : WatchedNode) (ws : List WatchedNode) → climbing n (w ∷ ws) ≡ true → n < w .node
 climb-head n w ws c = ltb-true n (w .node) (both-first (ltb n (w .node)) (timed w) (both-first (both (ltb n (w .node)) (timed w)) (climbing (w .node) ws) c))
 
 climb-tail : (n : ℕ) (w : WatchedNode) (ws : List WatchedNode) → climbing n (w ∷ ws) ≡ true → climbing (w .node) ws ≡ true
@@ -153,24 +151,6 @@ module _ (ns : List ℕ) (k : ℕ) (below : k ≤ 32) where
         pub numbers-rest : (n : ℕ) → climbing n (left p) ≡ true → getD ns (3 * (e - 1)) 0 ≤ 240 → b ≡ true
         numbers-rest n c l = one-more ∙ numbers-low n (left p) j noNode c in-left (rw here l)
 
-  -- the walk: what is left climbs, and has the soonest moment, as the whole
-  module _ (i n s : ℕ) (a : Tried) (e : a ≡ climbedOf n s (left i)) where
-    pub climb-ends : k ≤ i → tried.Formed s ≡ a
-    climb-ends h = sym (e ∙ ap (climbedOf n s) (at-end (nodesOf ns) k (places ns) below i h))
-
-    module _ (inside : i < k) (z : Bool) (f : z ≡ both (ltb n (getD ns (3 * i) 0)) (timed (nodeAt ns i))) where
-      abbrev climbedBy : Bool → Tried
-      climbedBy z = pick (both z (climbing (getD ns (3 * i) 0) (left (i + 1)))) (tried.Formed (soonest (soonerBy s (nodeAt ns i)) (left (i + 1)))) tried.Unformed
-
-      climb-turn : (y : Bool) → z ≡ y → a ≡ climbedBy y
-      climb-turn y h = e ∙ ap (climbedOf n s) (turn-at ns k below i inside) ∙ ap climbedBy (sym f ∙ h)
-
-      pub climb-stops : z ≡ false → tried.Unformed ≡ a
-      climb-stops h = sym (climb-turn false h)
-
-      pub climb-next : z ≡ true → (x : ℕ) → x ≡ soonerBy s (nodeAt ns i) → a ≡ climbedOf (getD ns (3 * i) 0) x (left (i + 1))
-      climb-next h x g = climb-turn true h ∙ ap (λ (x : ℕ). climbedOf (getD ns (3 * i) 0) x (left (i + 1))) (sym g)
-
   -- whether what is left climbs, and whether it is before now, as the whole
   module _ (i n : ℕ) (b : Bool) (e : b ≡ climbing n (left i)) where
     pub climbing-ends : k ≤ i → b ≡ true
@@ -209,12 +189,6 @@ module _ (n : ℕ) (ws : List WatchedNode) where
 
   pub is-rising : climbing n ws ≡ true → allOf numbered ws ≡ true → rising n ws ≡ true
   is-rising = rising-by true true
-
-  pub tried-not : (s : ℕ) → rising n ws ≡ false → tried.Unformed ≡ triedOf n s ws
-  tried-not s e = sym (ap (λ (b : Bool). pick b (tried.Formed (soonest s ws)) tried.Unformed) e)
-
-  pub tried-all : (s x : ℕ) → x ≡ soonest s ws → rising n ws ≡ true → tried.Formed x ≡ triedOf n s ws
-  tried-all s x g e = ap tried.Formed g ∙ sym (ap (λ (b : Bool). pick b (tried.Formed (soonest s ws)) tried.Unformed) e)
 
   pub roused-not : (t : ℕ) → rising n ws ≡ false → seen.Unformed ≡ rousedFrom n t ws
   roused-not t e = sym (ap (λ (b : Bool). pick b (seen.Roused (allOf (notBefore t) ws)) seen.Unformed) e)

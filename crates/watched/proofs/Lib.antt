@@ -1,4 +1,5 @@
 pub mod Lists
 pub mod Watching
 pub mod Climbing
+pub mod Walk
 pub mod Limits

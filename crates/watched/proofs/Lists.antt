@@ -4,7 +4,6 @@ use Prim.Native.Nat.{ℕ, zero, suc, _+_, _≤_, _<_}
 use mathlib.Core.Path.{_≡_, refl, sym, ap, ap₂, _∙_}
 use mathlib.Core.Bool.{Bool, true, false, not, false≢true}
 use mathlib.Core.List.{List, [], _∷_, _++_, map}
-use native.Mathlib.Nat.{add-zero}
 use native.Mathlib.Omega.{arith}
 use native.Mathlib.Numerals.{add-one}
 use lib.Dec.{eqb, leb, ltb}
@@ -100,14 +99,8 @@ module _ (ns : List WatchedNode) (k : ℕ) where
           let l : i < length (take k ns) = rw (length-take-le k ns within) inside in
           rw (add-one, ← getD-take k ns i d inside) (drop-cons (take k ns) i d l)
 
-    pub place-begins : (n : ℕ) → placeOf n (watchedOf ns k) ≡ 0 + placeOf n (drop 0 (take k ns))
-    place-begins n = let e : placeOf n (watchedOf ns k) ≡ placeOf n (take k ns) = ap (placeOf n) (watched-take ns k within) in omega arith
-
     pub at-end : (i : ℕ) → k ≤ i → drop i (take k ns) ≡ []
     at-end i h = drop-of-length-le (take k ns) {i = i} (rw (length-take-le k ns within) h)
-
-    pub place-end : (n i : ℕ) → placeOf n (watchedOf ns k) ≡ i + placeOf n (drop i (take k ns)) → i ≡ k → k ≡ placeOf n (watchedOf ns k)
-    place-end n i e h = sym (e ∙ ap (λ (l : List WatchedNode). i + placeOf n l) (at-end i (omega arith)) ∙ add-zero i ∙ h)
 
 -- a node is watched exactly where its place is before the end
 place-inside : (n : ℕ) (ws : List WatchedNode) → placeOf n ws < length ws → isWatched n ws ≡ true

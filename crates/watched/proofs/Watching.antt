@@ -4,7 +4,6 @@ use Prim.Native.Nat.{ℕ, zero, suc, _+_, _*_, _-_, _%_, _<_, _≤_, min}
 use mathlib.Core.Path.{_≡_, refl, sym, ap, ap₂, _∙_}
 use mathlib.Core.Bool.{Bool, true, false}
 use mathlib.Core.List.{List, _∷_}
-use native.Mathlib.Nat.{add-zero}
 use native.Mathlib.Omega.{arith}
 use lib.Dec.{eqb, leb, ltb}
 use lib.ListN.{length, getD, set, take, drop}
@@ -16,7 +15,7 @@ use Rattle.entries.proofs.Rings.{listed-long, listed-same}
 use Rattle.watched.specs.declared.nodes.WatchedNode.{WatchedNode}
 use Rattle.types.specs.Types.{isNode}
 use Rattle.types.proofs.Tests.{both-first, both-second}
-use Rattle.watched.specs.Watched.{latest, inTime, allOf, fits, wellFormed, noNode, heardNow, heardAt, watchedNode, watchedOf, placeOf, Run, run, watching, wellLent}
+use Rattle.watched.specs.Watched.{latest, inTime, allOf, fits, wellFormed, noNode, heardNow, heardAt, watchedNode, watchedOf, placeOf, Run, run, wellLent}
 use Rattle.watched.proofs.Lists as Lists
 use Rattle.watched.proofs.Lists.{too-many, tests-begin, from-here, at-end}
 use Rattle.watched.specs.declared.nodes.Tried.{Tried}
@@ -25,7 +24,7 @@ use Rattle.watched.specs.declared.nodes.Found.{Found}
 use Rattle.watched.specs.declared.nodes.Found.the-variants as found
 use Rattle.watched.specs.declared.nodes.Seen.{Seen}
 use Rattle.watched.specs.declared.nodes.Seen.the-variants as seen
-use Rattle.watched.specs.Nodes.{nodeAt, nodesOf, rests, notBefore, rising, never, soonerBy, restUntil, soonest, triedOf, rousedFrom, nodesTried, foundOf, seenOf}
+use Rattle.watched.specs.Nodes.{nodeAt, nodesOf, rests, notBefore, rising, never, soonerBy, restUntil, soonest, rousedFrom, nodesTried, foundOf, seenOf}
 
 -- the item at an index of a list that is given by index
 pub listed-at : {A : Type 0} (f : ℕ → A) (n i : ℕ) (d : A) → i < n → getD (listed f n) i d ≡ f i
@@ -44,7 +43,7 @@ listed-set f g (suc n) (suc i) h same =
     rw (same 0 (λ e. omega arith))
     (ap (λ (l : List _). f 0 ∷ l) (listed-set (λ (j : ℕ). f (suc j)) (λ (j : ℕ). g (suc j)) n i (omega arith) (λ j apart. same (suc j) (λ e. apart (omega arith)))))
 
--- what an answer of formed_from or try_nodes says
+-- what an answer of climb_from or try_nodes says
 module _ (b : Bool) (s : ℕ) (a : Tried) (e : a ≡ pick b (tried.Formed s) tried.Unformed) where
   pub tried-unformed : a ≡ tried.Unformed → b ≡ false
   tried-unformed h = by b (sym h ∙ e)
@@ -118,13 +117,6 @@ module _ (s : ℕ) (w : WatchedNode) where
   pub sooner-idle : w .timeout ≡ 0 → s ≡ soonerBy s w
   sooner-idle h = sym (ap (λ (a : Bool). soonerIf a (ltb 0 (w .«last_heard»))) (le-ltb 0 (w .timeout) (omega arith)))
 
-  pub sooner-passed : s ≤ late → s ≡ soonerBy s w
-  sooner-passed h = by (both (ltb 0 (w .timeout)) (ltb 0 (w .«last_heard»)))
-    where
-      by : (b : Bool) → s ≡ pick b (min s late) s
-      by true = omega (arith, h)
-      by false = refl
-
   module _ (timed : w .timeout ≡ 0 → ⊥) where
     timed-up : ltb 0 (w .timeout) ≡ true
     timed-up = lt-ltb 0 (w .timeout) (omega arith)
@@ -133,7 +125,7 @@ module _ (s : ℕ) (w : WatchedNode) where
     sooner-unheard h = sym (ap₂ soonerIf timed-up (le-ltb 0 (w .«last_heard») (omega arith)))
 
     module _ (heard : w .«last_heard» ≡ 0 → ⊥) where
-      both-up : soonerBy s w ≡ min s late
+      pub both-up : soonerBy s w ≡ min s late
       both-up = ap₂ soonerIf timed-up (lt-ltb 0 (w .«last_heard») (omega arith))
 
       pub sooner-this : late < s → late ≡ soonerBy s w
@@ -306,16 +298,8 @@ module _ (ws : List ℕ) where
       pub formed-begins : wellFormed vs ≡ rising 0 (left 0)
       formed-begins = tests-begin (nodesOf ws) k places below
 
-      pub tries-begin : triedOf 0 never (left 0) ≡ nodesTried vs
-      tries-begin =
-          ap₂ (λ (b : Bool) (l : List WatchedNode). pick b (tried.Formed (soonest never l)) tried.Unformed) (sym formed-begins)
-          (sym (Lists.whole (nodesOf ws) k places below))
-
       pub soonest-begins : soonest never vs ≡ soonest never (left 0)
       soonest-begins = ap (soonest never) (Lists.whole (nodesOf ws) k places below)
-
-      pub heard-begins : (n t : ℕ) → soonest never (heardAt n t vs) ≡ soonest never (heardAt n t (left 0))
-      heard-begins n t = ap (λ (l : List WatchedNode). soonest never (heardAt n t l)) (Lists.whole (nodesOf ws) k places below)
 
       pub all-begins : (p : WatchedNode → Bool) → allOf p vs ≡ allOf p (left 0)
       all-begins p = ap (allOf p) (Lists.whole (nodesOf ws) k places below)
@@ -326,9 +310,6 @@ module _ (ws : List ℕ) where
 
         pub soonest-ends : (x s : ℕ) → x ≡ soonest s (left i) → k ≤ i → x ≡ s
         soonest-ends x s e h = e ∙ ap (soonest s) (at-end (nodesOf ws) k places below i h)
-
-        pub heard-ends : (n t x s : ℕ) → x ≡ soonest s (heardAt n t (left i)) → k ≤ i → x ≡ s
-        heard-ends n t x s e h = e ∙ ap (λ (l : List WatchedNode). soonest s (heardAt n t l)) (at-end (nodesOf ws) k places below i h)
 
         pub all-ends : (p : WatchedNode → Bool) (b : Bool) → b ≡ allOf p (left i) → k ≤ i → b ≡ true
         all-ends p b e h = e ∙ ap (allOf p) (at-end (nodesOf ws) k places below i h)
@@ -350,32 +331,9 @@ module _ (ws : List ℕ) where
             pub formed-next : z ≡ true → b ≡ rising (getD ws (3 * i) 0) (left (i + 1))
             formed-next h = formed-turn ∙ ap (λ (z : Bool). both z (rising (getD ws (3 * i) 0) (left (i + 1)))) h
 
-          -- the soonest moment of the nodes, and of those with n heard at t
+          -- the soonest moment of the nodes
           pub soonest-next : (x s : ℕ) → x ≡ soonest s (left i) → (y : ℕ) → y ≡ soonerBy s (nodeAt ws i) → x ≡ soonest y (left (i + 1))
           soonest-next x s e y g = e ∙ ap (soonest s) turn ∙ ap (λ (y : ℕ). soonest y (left (i + 1))) (sym g)
-
-          module _ (n t x s : ℕ) (e : x ≡ soonest s (heardAt n t (left i))) where
-            abbrev heardBy : Bool → ℕ
-            heardBy b = soonest s (pick b (heardNow t (nodeAt ws i) ∷ left (i + 1)) (nodeAt ws i ∷ heardAt n t (left (i + 1))))
-
-            heard-turn : x ≡ heardBy (eqb (getD ws (3 * i) 0) n)
-            heard-turn = e ∙ ap (λ (l : List WatchedNode). soonest s (heardAt n t l)) turn
-
-            pub heard-here : getD ws (3 * i) 0 ≡ n → (y : ℕ) → y ≡ soonerBy s (heardNow t (nodeAt ws i)) → x ≡ soonest y (left (i + 1))
-            heard-here h y g = heard-turn ∙ ap heardBy (eq-eqb (getD ws (3 * i) 0) n h) ∙ ap (λ (y : ℕ). soonest y (left (i + 1))) (sym g)
-
-            pub heard-next : (getD ws (3 * i) 0 ≡ n → ⊥) → (y : ℕ) → y ≡ soonerBy s (nodeAt ws i) → x ≡ soonest y (heardAt n t (left (i + 1)))
-            heard-next h y g = heard-turn ∙ ap heardBy (ne-eqb (getD ws (3 * i) 0) n h) ∙ ap (λ (y : ℕ). soonest y (heardAt n t (left (i + 1)))) (sym g)
-
-          module _ (n : ℕ) (e : placeOf n vs ≡ i + placeOf n (left i)) where
-            abbrev by-number : Bool → ℕ
-            by-number b = i + pick b 0 (suc (placeOf n (left (i + 1))))
-
-            pub place-here : getD ws (3 * i) 0 ≡ n → placeOf n vs ≡ i
-            place-here h = e ∙ ap (λ (l : List WatchedNode). i + placeOf n l) turn ∙ ap by-number (eq-eqb (getD ws (3 * i) 0) n h) ∙ add-zero i
-
-            pub place-next : (getD ws (3 * i) 0 ≡ n → ⊥) → placeOf n vs ≡ i + 1 + placeOf n (left (i + 1))
-            place-next h = e ∙ ap (λ (l : List WatchedNode). i + placeOf n l) turn ∙ ap by-number (ne-eqb (getD ws (3 * i) 0) n h) ∙ omega arith
 
           -- a test of all nodes
           module _ (p : WatchedNode → Bool) (b : Bool) (e : b ≡ allOf p (left i)) where
@@ -390,6 +348,9 @@ module _ (ws : List ℕ) where
 
     pub nodes-unformed : wellFormed vs ≡ false → tried.Unformed ≡ nodesTried vs
     nodes-unformed h = sym (ap (λ (b : Bool). pick b (tried.Formed (soonest never vs)) tried.Unformed) h)
+
+    pub nodes-formed : wellFormed vs ≡ true → (x : ℕ) → soonest never vs ≡ x → tried.Formed x ≡ nodesTried vs
+    nodes-formed h x e = sym (ap₂ (λ (b : Bool) (x : ℕ). pick b (tried.Formed x) tried.Unformed) h e)
 
     -- what find answers, and what that says
     module _ (n t : ℕ) where

@@ -1,2 +1,3 @@
 pub mod Watched
 pub mod Nodes
+pub mod Climb

@@ -64,14 +64,7 @@ abbrev pub soonest : ℕ → List WatchedNode → ℕ
 soonest s [] = s
 soonest s (w ∷ ws) = soonest (soonerBy s w) ws
 
--- the nodes behind one of number n, of which s is the soonest so far
-abbrev pub triedOf : ℕ → ℕ → List WatchedNode → Tried
-triedOf n s ws = pick (rising n ws) (tried.Formed (soonest s ws)) tried.Unformed
-
-abbrev pub climbedOf : ℕ → ℕ → List WatchedNode → Tried
-climbedOf n s ws = pick (climbing n ws) (tried.Formed (soonest s ws)) tried.Unformed
-
--- the same where one of them does not rest at t: whether t is before none's last-heard time (number 6)
+-- the nodes behind one of number n, of which one does not rest at t: whether t is before none's last-heard time (number 6)
 abbrev pub rousedFrom : ℕ → ℕ → List WatchedNode → Seen
 rousedFrom n t ws = pick (rising n ws) (seen.Roused (allOf (notBefore t) ws)) seen.Unformed
 

@@ -1,14 +1,15 @@
 // The watched nodes in lent words, three a node: its number, its timeout, when it was last heard. 32 places, of which the first so many are
 // watched.
 ghost use mathlib.Core.Path.{_≡_};
-ghost use Prim.Native.Nat.{_≤_, _<_};
+ghost use Prim.Native.Nat.{_≤_, _<_, min};
 ghost use lib.Dec.{ltb};
 ghost use lib.ListN.{length, take, drop};
 ghost use Rattle.types.specs.Pick.{both};
 ghost use Rattle.types.specs.Types.{isNode};
 ghost use mathlib.Core.Bool.{true};
 ghost use Rattle.watched.specs.Watched.{allOf, timed, fits, wellFormed, watchedNode, watchedOf};
-ghost use Rattle.watched.specs.Nodes.{notBefore, climbing, numbered, soonerBy, restUntil, triedOf, climbedOf, rousedFrom, nodesTried, foundOf, seenOf, nodesOf};
+ghost use Rattle.watched.specs.Climb.{oneLess, sumOf, threeBefore, climbed, climbOf, climbedOf, heardClimbed};
+ghost use Rattle.watched.specs.Nodes.{never, notBefore, climbing, numbered, soonerBy, restUntil, rousedFrom, nodesTried, foundOf, seenOf, nodesOf};
 use crate::time::in_time;
 
 pub type NodeWords = [u64; 96];
@@ -122,37 +123,82 @@ pub enum Tried {
     Formed(u64),
 }
 
-// A place up to which nodes were passed, and the number before it.
-struct Passed {
-    place: usize,
-    last: u64,
+// One less; of 0, NEVER.
+fn one_less(time: u64) -> u64
+    ensures { λ r. ⌜ r ≡ oneLess time ⌝ }
+{
+    if 0 < time {
+        return time - 1;
+    }
+    NEVER
 }
 
-// Passes the nodes that climb and are late no sooner than `soonest`. It stops at one that was not heard or has no timeout too, where its sum is below `soonest`.
-fn pass(nodes: &NodeWords, count: usize, place: usize, last: u64, soonest: u64) -> Passed
+// The sum, at most NEVER.
+fn sum(a: u64, b: u64) -> u64
+    ensures { λ r. ⌜ r ≡ sumOf a b ⌝ }
+{
+    if NEVER - a < b {
+        return NEVER;
+    }
+    a + b
+}
+
+fn smaller(a: u64, b: u64) -> u64
+    ensures { λ r. ⌜ r ≡ min a b ⌝ }
+{
+    if b < a {
+        return b;
+    }
+    a
+}
+
+// Three before the moment at which a node would be late, and NEVER where it awaits nothing: two sums that stop at NEVER, and no test for a 0.
+fn three_before(timeout: u64, last_heard: u64) -> u64
+    ensures { λ r. ⌜ r ≡ threeBefore (watchedNode 0 timeout «last_heard») ⌝ }
+{
+    sum(one_less(timeout), one_less(last_heard))
+}
+
+// Where a walk ended, and of the nodes before that place: the last one's number, all times one over the other, and the soonest of what is three before
+// their moments.
+struct Climbed {
+    place: usize,
+    last: u64,
+    times: u64,
+    soonest: u64,
+}
+
+// Walks nodes from a place on, where `last` is the number before them, as long as their numbers climb and none is the one sought. What is asked of their
+// times is asked of all together, behind the walk: it has no other test, and is as fast whatever the times are.
+fn climb(nodes: &NodeWords, count: usize, place: usize, last: u64, sought: u64) -> Climbed
     requires { ⌜ count ≤ 32 ⌝ }
-    ensures { λ r. ⌜ (place ≤ r .place)
-        × (climbedOf last soonest (drop place (take count (nodesOf (now (nodes .entry))))) ≡ climbedOf (r .last) soonest (drop (r .place) (take count (nodesOf (now (nodes .entry)))))) ⌝ }
+    ensures { λ r. ⌜ r ≡ climbOf sought (climbed place last 0 never) (drop place (take count (nodesOf (now (nodes .entry))))) ⌝ }
 {
     let mut above = last;
+    let mut times: u64 = 0;
+    let mut soonest = NEVER;
     let mut i = place;
     'walk: while i < count {
         let at = 3 * i;
         let number = nodes[at];
+        if number <= above {
+            break 'walk;
+        }
+        if number == sought {
+            break 'walk;
+        }
         let timeout = nodes[at + 1];
         let last_heard = nodes[at + 2];
-        if !climbs(above, number, timeout, last_heard) {
-            break 'walk;
-        }
-        if last_heard + timeout + 1 < soonest {
-            break 'walk;
-        }
+        times = times | timeout | last_heard;
+        soonest = smaller(soonest, three_before(timeout, last_heard));
         above = number;
         i += 1;
     }
-    Passed {
+    Climbed {
         place: i,
         last: above,
+        times,
+        soonest,
     }
 }
 
@@ -161,27 +207,14 @@ fn climb_from(nodes: &NodeWords, count: usize, place: usize, last: u64, before: 
     requires { ⌜ count ≤ 32 ⌝ }
     ensures { λ r. ⌜ r ≡ climbedOf last before (drop place (take count (nodesOf (now (nodes .entry))))) ⌝ }
 {
-    let mut above = last;
-    let mut soonest = before;
-    let mut i = place;
-    while i < count {
-        let passed = pass(nodes, count, i, above, soonest);
-        let here = passed.place;
-        if count <= here {
-            return Tried::Formed(soonest);
-        }
-        let at = 3 * here;
-        let number = nodes[at];
-        let timeout = nodes[at + 1];
-        let last_heard = nodes[at + 2];
-        if !climbs(passed.last, number, timeout, last_heard) {
-            return Tried::Unformed;
-        }
-        soonest = sooner(soonest, timeout, last_heard);
-        above = number;
-        i = here + 1;
+    let climbed = climb(nodes, count, place, last, 0);
+    if climbed.place < count {
+        return Tried::Unformed;
     }
-    Tried::Formed(soonest)
+    if !in_time(climbed.times) {
+        return Tried::Unformed;
+    }
+    Tried::Formed(smaller(before, sum(climbed.soonest, 3)))
 }
 
 // Whether all nodes from a place on, which climb, have a node's number: from the last one back to one of at most 240, since those before it are below it.
@@ -203,21 +236,6 @@ fn have_numbers(nodes: &NodeWords, count: usize, place: usize, last: u64) -> boo
     true
 }
 
-// The nodes from a place on, where `last` is the number before them and `before` the soonest moment: ascending, and each within its limits.
-fn formed_from(nodes: &NodeWords, count: usize, place: usize, last: u64, before: u64) -> Tried
-    requires { ⌜ count ≤ 32 ⌝ }
-    ensures { λ r. ⌜ r ≡ triedOf last before (drop place (take count (nodesOf (now (nodes .entry))))) ⌝ }
-{
-    let climbed = climb_from(nodes, count, place, last, before);
-    let Tried::Formed(soonest) = climbed else {
-        return Tried::Unformed;
-    };
-    if !have_numbers(nodes, count, place, last) {
-        return Tried::Unformed;
-    }
-    Tried::Formed(soonest)
-}
-
 // Whether the first nodes are few enough, ascending, and each within its limits; and their soonest moment.
 pub fn try_nodes(nodes: &NodeWords, count: usize) -> Tried
     ensures { λ r. ⌜ r ≡ nodesTried (watchedOf (nodesOf (now (nodes .entry))) count) ⌝ }
@@ -225,7 +243,14 @@ pub fn try_nodes(nodes: &NodeWords, count: usize) -> Tried
     if 32 < count {
         return Tried::Unformed;
     }
-    formed_from(nodes, count, 0, 0, NEVER)
+    let climbed = climb_from(nodes, count, 0, 0, NEVER);
+    let Tried::Formed(soonest) = climbed else {
+        return Tried::Unformed;
+    };
+    if !have_numbers(nodes, count, 0, 0) {
+        return Tried::Unformed;
+    }
+    Tried::Formed(soonest)
 }
 
 pub fn well_formed(nodes: &NodeWords, count: usize) -> bool
@@ -243,7 +268,32 @@ pub enum Found {
     Formed(usize, u64),
 }
 
-// Up to the node that is sought here, behind it by formed_from.
+// The nodes from a place on, the first of which is heard at a time: whether they climb, and the soonest moment then.
+fn hear_first(
+    nodes: &NodeWords,
+    count: usize,
+    place: usize,
+    last: u64,
+    before: u64,
+    time: u64,
+) -> Tried
+    requires { ⌜ (count ≤ 32) × (time ≤ 4611686018427387903) ⌝ }
+    ensures { λ r. ⌜ r ≡ heardClimbed last before time (drop place (take count (nodesOf (now (nodes .entry))))) ⌝ }
+{
+    if count <= place {
+        return Tried::Formed(before);
+    }
+    let at = 3 * place;
+    let number = nodes[at];
+    let timeout = nodes[at + 1];
+    if !climbs(last, number, timeout, nodes[at + 2]) {
+        return Tried::Unformed;
+    }
+    let soonest = sooner(before, timeout, time);
+    climb_from(nodes, count, place + 1, number, soonest)
+}
+
+// Up to the node that is sought in one walk, behind it in another.
 pub fn find(nodes: &NodeWords, count: usize, node: u64, time: u64) -> Found
     requires { ⌜ time ≤ 4611686018427387903 ⌝ }
     ensures { λ r. ⌜ r ≡ foundOf node time (watchedOf (nodesOf (now (nodes .entry))) count) ⌝ }
@@ -251,30 +301,19 @@ pub fn find(nodes: &NodeWords, count: usize, node: u64, time: u64) -> Found
     if 32 < count {
         return Found::Unformed;
     }
-    let mut last: u64 = 0;
-    let mut soonest = NEVER;
-    let mut i: usize = 0;
-    while i < count {
-        let at = 3 * i;
-        let number = nodes[at];
-        let timeout = nodes[at + 1];
-        let last_heard = nodes[at + 2];
-        if !follows(last, number, timeout, last_heard) {
-            return Found::Unformed;
-        }
-        let unheard = sooner(soonest, timeout, last_heard);
-        if number == node {
-            let rest = formed_from(nodes, count, i + 1, number, sooner(soonest, timeout, time));
-            let Tried::Formed(all) = rest else {
-                return Found::Unformed;
-            };
-            return Found::Formed(i, all);
-        }
-        soonest = unheard;
-        last = number;
-        i += 1;
+    let front = climb(nodes, count, 0, 0, node);
+    if !in_time(front.times) {
+        return Found::Unformed;
     }
-    Found::Formed(count, soonest)
+    let place = front.place;
+    let heard = hear_first(nodes, count, place, front.last, sum(front.soonest, 3), time);
+    let Tried::Formed(soonest) = heard else {
+        return Found::Unformed;
+    };
+    if !have_numbers(nodes, count, 0, 0) {
+        return Found::Unformed;
+    }
+    Found::Formed(place, soonest)
 }
 
 // The sooner of the soonest moment so far and that of a node which was heard, not after now, and is not late; 0 where it does not rest so.
