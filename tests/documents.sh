@@ -1,6 +1,6 @@
 #!/bin/sh
-# What the prover does not look at: no public function asks anything of its caller but three of `heartbeats`, two of `watched` and one of `tick`, which are
-# public for crates of ours alone (docs/DECISIONS.md, 43, 59 and 85); each says what it ensures, in libraries and programs alike; and what documents and comments refer to is there (tests/references.py).
+# What the prover does not look at: no public function asks anything of its caller but two of `heartbeats` and one of `tick`, which are
+# public for crates of ours alone (docs/DECISIONS.md, 43 and 59); each says what it ensures, in libraries and programs alike; and what documents and comments refer to is there (tests/references.py).
 set -eu
 cd "$(dirname "$0")/.."
 failed=0
@@ -13,7 +13,7 @@ public=$(find crates -path '*/src/*' -name '*.rt' | sort | xargs awk '
     open && /^ *ensures/ { tells = "tells " }
     open && (/^ *\{/ || (asks tells == "" && /\{ *\}?$/)) { print asks tells name; open = 0 }')
 
-asking=$(echo "$public" | grep '^asks ' | grep -v -e ' crates/heartbeats/src/heartbeats\.rt: pub fn \(look_all\|beat_all\)(' -e ' crates/watched/src/nodes\.rt: pub fn \(sooner\|find\)(' -e ' crates/tick/src/deadline\.rt: pub fn by_deadline(' || true)
+asking=$(echo "$public" | grep '^asks ' | grep -v -e ' crates/heartbeats/src/heartbeats\.rt: pub fn \(look_all\|beat_all\)(' -e ' crates/tick/src/deadline\.rt: pub fn by_deadline(' || true)
 if [ -n "$asking" ]; then
     echo "public functions with a requires:"
     echo "$asking" | sed 's/^asks \(tells \)\?//'
@@ -30,6 +30,6 @@ fi
 python3 tests/references.py || failed=1
 
 if [ "$failed" -eq 0 ]; then
-    echo "ok: each of $(echo "$public" | wc -l) public functions has an ensures, and none but two of heartbeats, two of watched and one of tick has a requires"
+    echo "ok: each of $(echo "$public" | wc -l) public functions has an ensures, and none but two of heartbeats and one of tick has a requires"
 fi
 exit "$failed"

@@ -10,7 +10,7 @@ use native.Mathlib.Numerals.{add-one}
 use lib.Dec.{eqb, leb, ltb}
 use lib.ListN.{length, getD, set, take, drop, length-set, take-append-drop}
 use lib.Seq.{getD-take, length-take-le}
-use borrow.Author.Tests.{ltb-true, leb-true, le-leb, eqb-true, eqb-false, lt-ltb, le-ltb, eq-eqb, ne-eqb}
+use borrow.Author.Tests.{ltb-true, leb-true, eqb-true, eqb-false, lt-ltb, le-ltb, eq-eqb, ne-eqb}
 use Rattle.types.specs.Pick.{pick, both, either}
 use Rattle.types.specs.Types.{node}
 use Rattle.types.specs.declared.frame.error.types.DllError.the-variants.{HeartbeatTimeout}
@@ -20,7 +20,7 @@ use Rattle.counters.specs.Counters.{effect, handled}
 use Rattle.counters.specs.declared.counters.HandledError.{HandledError}
 use Rattle.head.specs.Head.{Head, with-errors}
 use Rattle.watched.specs.declared.nodes.WatchedNode.{WatchedNode}
-use Rattle.watched.specs.Watched.{latest, inTime, allOf, fits, wellFormed, noNode, heardNow, watchedNode, watchedOf, Run, watching, wellLent, changing}
+use Rattle.watched.specs.Watched.{inTime, allOf, fits, wellFormed, noNode, heardNow, watchedNode, watchedOf, Run, watching, changing}
 use Rattle.node.specs.Tick.{isLate, looked, lateOnes, acts, signalled, timeoutOf, beat, beatAll}
 use Rattle.node.specs.Refines.{plain, Becomes}
 use Rattle.watched.proofs.Lists.{watched-take, each-ahead, each-turn, from-here, at-end, whole}
@@ -33,8 +33,8 @@ use Rattle.node.specs.declared.calls.ErrorTaken.{ErrorTaken}
 use Rattle.node.proofs.Refining.{effect-written}
 use Rattle.node.proofs.Moments.{now-fits}
 use Rattle.types.proofs.Tests.{both-first, both-second}
-use Rattle.watched.proofs.Limits.{all-at, node-fits}
-use Rattle.watched.proofs.Watching.{places, few, node-at, times-fit, rests-heard, heard-written}
+use Rattle.watched.proofs.Limits.{all-at}
+use Rattle.watched.proofs.Watching.{places, few, node-at, rests-heard, heard-written}
 use Rattle.heartbeats.specs.declared.dealt.Dealt.{Dealt}
 use Rattle.heartbeats.specs.PartWords.{signalWords, lookedTime, lookWords, lookedWords, finishedWords, endsBy, beatWords, beatAllWords}
 use Rattle.heartbeats.specs.PartsIn.{Turns, dealtOf, FinishesIn, TicksIn}
@@ -111,10 +111,6 @@ module _ (t : ℕ) (ns₀ ns : List ℕ) (k i : ℕ) (formed : wellFormed (watch
   module _ (x : ℕ) (e : x ≡ lookedTime t (getD ns (3 * i + 1) 0) (getD ns (3 * i + 2) 0)) where
     is-looked : seen x ≡ looked t (nodeAt ns₀ i)
     is-looked = ap seen e ∙ looked-by t (nodeAt ns i) ∙ ap (looked t) as-it-was
-
-    pub look-fits : t ≤ latest → (getD ns (3 * i + 1) 0 ≤ latest) × (x ≤ latest)
-    look-fits h =
-        times-fit (seen x) (ap fits is-looked ∙ looked-fits t (nodeAt ns₀ i) (le-leb t latest h) (node-fits ns₀ k below formed i inside))
 
     pub look-sooner :
         (y s : ℕ) → y ≡ soonest s (map (looked t) (drop i (take k (nodesOf ns₀)))) → (z : ℕ) → z ≡ soonerBy s (seen x) →

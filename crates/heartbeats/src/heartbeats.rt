@@ -56,7 +56,7 @@ pub fn looked(timeout: u64, last_heard: u64, time: u64) -> u64
 
 // All nodes, and the soonest moment at which one would be late then.
 pub fn look_all(nodes: &mut NodeWords, count: usize, time: u64) -> u64
-    requires { ⌜ (time ≤ 4611686018427387903) × (wellFormed (watchedOf (nodesOf (now nodes)) count) ≡ true) ⌝ }
+    requires { ⌜ wellFormed (watchedOf (nodesOf (now nodes)) count) ≡ true ⌝ }
     ensures { λ r. ⌜ (now (nodes .exit) ≡ lookedWords time count (now (nodes .entry)))
         × (nodesOf (now (nodes .exit)) ≡ lookedFirst time count (nodesOf (now (nodes .entry))))
         × (r ≡ soonest never (map (looked time) (watchedOf (nodesOf (now (nodes .entry))) count))) ⌝ }

@@ -1,6 +1,6 @@
 -- What a walk over the places of a run has seen, of all of them, over plain variables: numbers 3, 6 and 7, the earliest moment, and the places as a walk sets them.
 -- Assumes nothing.
-use Prim.Native.Nat.{ℕ, zero, suc, _+_, _-_, _≤_, _<_, min}
+use Prim.Native.Nat.{ℕ, zero, suc, _+_, _-_, _≤_, _<_}
 use mathlib.Core.Path.{_≡_, refl, sym, ap, ap₂, _∙_}
 use mathlib.Core.Bool.{Bool, true, false, true≢false}
 use mathlib.Core.List.{List, [], _∷_, map}
@@ -13,13 +13,12 @@ use Rattle.types.specs.Pick.{pick, both, either}
 use Rattle.counters.specs.declared.counters.ThresholdCounter.{ThresholdCounter}
 use Rattle.watched.specs.declared.nodes.WatchedNode.{WatchedNode}
 use Rattle.entries.proofs.Rings.{listed-long}
-use Rattle.watched.specs.Watched.{latest, allOf, ascending, fits, wellFormed, noNode, watchedNode, heardNow, isWatched, heardAt, watchedOf, run, wellLent, first}
+use Rattle.watched.specs.Watched.{allOf, ascending, fits, wellFormed, noNode, heardNow, isWatched, heardAt, watchedOf, run, wellLent, first}
 use Rattle.node.specs.Steps.{earliest}
 use Rattle.node.specs.InPlace.{momentOf}
 use Rattle.node.proofs.Moments.{moment-of}
 use Rattle.watched.specs.Nodes.{notBefore, rising, never, soonest}
 use Rattle.watched.proofs.Lists.{rising-all, watched-take, few}
-use Rattle.watched.proofs.Watching.{times-fit}
 use Rattle.lentlaws.specs.Fold.{folded}
 use Rattle.lentlaws.specs.Scan.{scanned}
 use Rattle.lent.specs.declared.run.Findings.{Findings}
@@ -27,7 +26,7 @@ use Rattle.lent.specs.declared.run.Surveyed.{Surveyed}
 use Rattle.lent.specs.declared.run.Settling.{Settling}
 use Rattle.lent.specs.declared.run.Setting.{Setting}
 use Rattle.lent.specs.declared.run.Setting.the-variants.{Nothing, Heard}
-use Rattle.lent.specs.Runs.{upTo33, inReach, foundBy, foundAll, surveyedBy, surveyed, soughtFrom, asked, passes, settled, settlingOf, setNext, settledAll}
+use Rattle.lent.specs.Runs.{upTo33, foundBy, foundAll, surveyedBy, surveyed, soughtFrom, asked, passes, settled, settlingOf, setNext, settledAll}
 
 both-true : (b : Bool) → both b true ≡ b
 both-true true = refl
@@ -105,22 +104,10 @@ unfolding folded
 after-all s [] = sym (both-true (s .after))
 after-all s (w ∷ ws) = after-all (foundBy s w) ws ∙ both-again (s .after) (notBefore (s .time) w) (allOf (notBefore (s .time)) ws)
 
-soonest-all : (s : Findings) (ws : List WatchedNode) → foundAll s ws .soonest ≡ soonest (s .soonest) (map (λ w. inReach (settled (s .setting) w)) ws)
+soonest-all : (s : Findings) (ws : List WatchedNode) → foundAll s ws .soonest ≡ soonest (s .soonest) (map (settled (s .setting)) ws)
 unfolding folded
 soonest-all s [] = refl
 soonest-all s (w ∷ ws) = soonest-all (foundBy s w) ws
-
-reach-one : (w : WatchedNode) → fits w ≡ true → inReach w ≡ w
-reach-one w f =
-    let t = times-fit w f in
-    let a : min (w .timeout) latest ≡ w .timeout = omega (arith, t .0) in
-    let b : min (w .«last_heard») latest ≡ w .«last_heard» = omega (arith, t .1) in
-    λ i. watchedNode (w .node) (a i) (b i)
-
-reach-all : (y : Setting) (ws : List WatchedNode) → allOf fits (map (settled y) ws) ≡ true → map (λ w. inReach (settled y w)) ws ≡ map (settled y) ws
-reach-all y [] f = refl
-reach-all y (w ∷ ws) f =
-    ap₂ (λ (v : WatchedNode) (l : List WatchedNode). v ∷ l) (reach-one (settled y w) (both-fst (fits (settled y w)) _ f)) (reach-all y ws (both-snd (fits (settled y w)) _ f))
 
 -- from what was seen to what the run is
 module _ (k n t : ℕ) (y : Setting) (c : ThresholdCounter) (vs : List WatchedNode) (s : Surveyed) (e : s ≡ surveyed (asked k n t y c) vs) where
@@ -191,8 +178,7 @@ module _ (k n t : ℕ) (y : Setting) (c : ThresholdCounter) (vs : List WatchedNo
         (l : List WatchedNode) → map (settled y) (watchedOf vs k) ≡ l → allOf fits l ≡ true → momentOf (s .found .soonest) ≡ earliest l
     seen-moment l g f =
         ap (λ (f : Findings). momentOf (f .soonest)) seen-found
-        ∙ ap momentOf (soonest-all sought (watchedOf vs k)
-        ∙ ap (soonest never) (reach-all y (watchedOf vs k) (ap (allOf fits) g ∙ f) ∙ g))
+        ∙ ap momentOf (soonest-all sought (watchedOf vs k) ∙ ap (soonest never) g)
         ∙ moment-of l f
 
 -- the places as a walk sets them: the first so many

@@ -1,6 +1,6 @@
 -- A walk over the places of a run: what it has found out after each, and what a walk sets.
 -- Assumes nothing.
-use Prim.Native.Nat.{ℕ, _+_, _-_, min}
+use Prim.Native.Nat.{ℕ, _+_, _-_}
 use mathlib.Core.Bool.{Bool, true, false}
 use mathlib.Core.List.{List}
 use lib.Dec.{eqb, ltb}
@@ -11,7 +11,7 @@ use Rattle.counters.specs.declared.counters.ThresholdCounter.{ThresholdCounter}
 use Rattle.head.specs.Places as at
 use Rattle.head.specs.Words.{nmtOf, counterAt}
 use Rattle.watched.specs.declared.nodes.WatchedNode.{WatchedNode}
-use Rattle.watched.specs.Watched.{latest, fits, heardNow, watchedNode}
+use Rattle.watched.specs.Watched.{fits, heardNow}
 use Rattle.watched.specs.Nodes.{notBefore, never, soonerBy}
 use Rattle.node.specs.Tick.{checksHeartbeats, isLate, looked}
 use Rattle.lentlaws.specs.Fold.{folded}
@@ -47,10 +47,6 @@ settled Unheard w = heardNow 0 w
 settled (Heard n t) w = pick (eqb (w .node) n) (heardNow t w) w
 settled (Looked t) w = looked t w
 
--- a time that no call takes is read as the latest one, so that no sum is too large
-abbrev pub inReach : WatchedNode → WatchedNode
-inReach w = watchedNode (w .node) (min (w .timeout) latest) (min (w .«last_heard») latest)
-
 abbrev pub foundBy : Findings → WatchedNode → Findings
 foundBy s w =
     record {
@@ -61,7 +57,7 @@ foundBy s w =
       watched = either (s .watched) (eqb (w .node) (s .node));
       after = both (s .after) (notBefore (s .time) w);
       beats = beatenBy (s .time) (s .beats) w;
-      soonest = soonerBy (s .soonest) (inReach (settled (s .setting) w));
+      soonest = soonerBy (s .soonest) (settled (s .setting) w);
     }
 
 abbrev pub foundAll : Findings → List WatchedNode → Findings

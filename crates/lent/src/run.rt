@@ -5,7 +5,7 @@ ghost use Rattle.types.specs.Pick.{pick, both, either};
 ghost use Rattle.watched.specs.Watched.{fits};
 ghost use Rattle.watched.specs.Nodes.{notBefore, soonerBy};
 ghost use Rattle.lentlaws.specs.Scan.{scanned};
-ghost use Rattle.lent.specs.Runs.{asked, forStart, forHeard, forTick, passes, upTo33, triedBy, beatenBy, inReach, foundBy, surveyedBy, surveyed, settled, setNext, settledAll};
+ghost use Rattle.lent.specs.Runs.{asked, forStart, forHeard, forTick, passes, upTo33, triedBy, beatenBy, foundBy, surveyedBy, surveyed, settled, setNext, settledAll};
 use counters::counters::CounterKind;
 use counters::counters::ThresholdCounter;
 use head::parts::counter_of;
@@ -13,7 +13,6 @@ use head::parts::state_at;
 use head::state::Head;
 use heartbeats::heartbeats::is_late;
 use heartbeats::heartbeats::looked;
-use node::heard::within;
 use tick::tick::checks_heartbeats;
 use watched::nodes::NEVER;
 use watched::nodes::WatchedNode;
@@ -256,12 +255,12 @@ pub fn set(setting: Setting, mut w: WatchedNode) -> WatchedNode
     }
 }
 
-// The soonest moment with one more node, as it will be set. A time that no call takes is read as the latest one: number 3 or 5 declines it.
+// The soonest moment with one more node, as it will be set.
 fn soonest_with(soonest: u64, setting: Setting, w: WatchedNode) -> u64
-    ensures { λ r. ⌜ r ≡ soonerBy soonest (inReach (settled setting w)) ⌝ }
+    ensures { λ r. ⌜ r ≡ soonerBy soonest (settled setting w) ⌝ }
 {
     let after = set(setting, w);
-    sooner(soonest, within(after.timeout), within(after.last_heard))
+    sooner(soonest, after.timeout, after.last_heard)
 }
 
 // One node.

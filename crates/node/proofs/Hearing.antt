@@ -1,11 +1,11 @@
 -- Heard: on a run in whatever form, over plain variables; then in words, by the law of a time written.
 -- Assumes nothing.
-use Prim.Native.Nat.{ℕ, _≤_, _<_, _+_, _*_, min}
+use Prim.Native.Nat.{ℕ, _≤_, _<_, _+_, _*_}
 use mathlib.Core.Path.{_≡_, refl, sym, ap, subst, _∙_}
 use mathlib.Core.Bool.{Bool, true, false}
 use native.Mathlib.Omega.{arith}
 use lib.Dec.{ltb}
-use borrow.Author.Tests.{ltb-true, ltb-false, leb-true}
+use borrow.Author.Tests.{ltb-true, ltb-false}
 use Rattle.types.specs.Pick.{pick}
 use Rattle.types.specs.Refusals.{refusalNumber}
 use mathlib.Core.List.{List}
@@ -17,7 +17,7 @@ use Rattle.head.specs.Written.{earliestWritten}
 use Rattle.watched.specs.declared.nodes.WatchedNode.{WatchedNode}
 use Rattle.node.specs.declared.calls.CallAnswer.{CallAnswer}
 use Rattle.node.specs.declared.calls.CallAnswer.the-variants as answer
-use Rattle.watched.specs.Watched.{latest, inTime, wellFormed, noNode, isWatched, heardAt, placeOf, watchedOf, Run, run, watching, wellLent, changing}
+use Rattle.watched.specs.Watched.{inTime, wellFormed, noNode, isWatched, heardAt, placeOf, watchedOf, Run, run, watching, wellLent, changing}
 use Rattle.node.specs.Plain.{Plain, heard}
 use Rattle.node.specs.Steps.{declines, leaves, earliest}
 use Rattle.node.specs.Run.{step}
@@ -107,18 +107,16 @@ module _ (ws ns : List ℕ) (k n t : ℕ) where
 
     pub there :
         r ≡ answer.Taken → length ws ≡ 60 → length ns ≡ 96 → (ns′ : List ℕ) → ns′ ≡ set ns (3 * p + 2) t →
-        (s : ℕ) → s ≡ soonest never (heardAt n (min t latest) vs) → (m : Deadline) → m ≡ momentOf s →
+        (s : ℕ) → s ≡ soonest never (heardAt n t vs) → (m : Deadline) → m ≡ momentOf s →
         (ws′ : List ℕ) → ws′ ≡ earliestWritten ws m → Left answer.Taken ws′ ns′
     there g long places-long ns′ s u v m y ws′ o =
         let c = inside g in
         let i : inTime t ≡ true = taken-passed ws lentRun n t true w lent among (sym g ∙ x) .1 in
-        let b : t ≤ latest = leb-true t latest i in
-        let same : min t latest ≡ t = omega (arith, b) in
         let stored = ap nodesOf s ∙ heard-written ns places-long p (omega (arith, c, below)) t ∙ heard-stored (nodesOf ns) k (places ns) below n t p e noNode c in
         let left : watchedOf (nodesOf ns′) k ≡ heardAt n t vs =
         ap (λ (l : List WatchedNode). watchedOf l k) stored ∙ heard-nodes (nodesOf ns) k (places ns) below n t in
         let moment : m ≡ earliest (watchedOf (nodesOf ns′) k) =
-        y ∙ ap momentOf (v ∙ ap (λ (t : ℕ). soonest never (heardAt n t vs)) same)
+        y ∙ ap momentOf v
         ∙ moment-of (heardAt n t vs) (heard-fits n t vs i (all-fit vs a)) ∙ ap earliest (sym left) in
         record {
           on =

@@ -1,8 +1,7 @@
 // Heard: the last-heard time of one watched node, and the earliest moment at which one would be late.
 ghost use mathlib.Core.Path.{_≡_};
-ghost use Prim.Native.Nat.{_+_, _*_, _<_, min};
+ghost use Prim.Native.Nat.{_+_, _*_, _<_};
 ghost use lib.ListN.{set};
-ghost use Rattle.watched.specs.Watched.{latest};
 ghost use Rattle.node.specs.InPlace.{momentOf};
 ghost use Rattle.node.specs.Heard.{heardAnswer, Heard};
 use crate::calls::CallAnswer;
@@ -16,7 +15,6 @@ use watched::nodes::NEVER;
 use watched::nodes::NodeWords;
 use watched::nodes::all_places;
 use watched::nodes::find;
-use watched::time::LATEST_TIME;
 use watched::time::in_time;
 
 // The moment that a walk found.
@@ -27,16 +25,6 @@ pub fn moment(soonest: u64) -> Deadline
         return Deadline::Nothing;
     }
     Deadline::At(soonest)
-}
-
-// A time, or the latest that a call takes.
-pub fn within(time: u64) -> u64
-    ensures { λ r. ⌜ r ≡ min time latest ⌝ }
-{
-    if time <= LATEST_TIME {
-        return time;
-    }
-    LATEST_TIME
 }
 
 // The time of the node at a place is set.
@@ -75,7 +63,7 @@ pub fn heard(
 {
     whole(head);
     all_places(nodes);
-    let found = find(nodes, count, node as u64, within(time));
+    let found = find(nodes, count, node as u64, time);
     let Found::Formed(place, soonest) = found else {
         return try_heard(false, time, false);
     };

@@ -11,7 +11,7 @@ use lib.Dec.{eqb, leb, ltb}
 use lib.ListN.{getD, take, drop}
 use borrow.Author.Tests.{le-leb, lt-leb, leb-true, leb-false, lt-ltb, ltb-true, eq-eqb, ne-eqb, eqb-true, eqb-false}
 use Rattle.types.specs.Pick.{pick, both}
-use Rattle.types.proofs.Tests.{both-first, both-second}
+use Rattle.types.proofs.Tests.{both-first}
 use Rattle.watched.specs.declared.nodes.WatchedNode.{WatchedNode}
 use Rattle.watched.specs.declared.nodes.Climbed.{Climbed}
 use Rattle.watched.specs.declared.nodes.Tried.{Tried}
@@ -85,40 +85,48 @@ over-in-time c w =
     ∙ ap (λ (b : Bool). both b (inTime (w .«last_heard»))) (in-time-both (c .times) (w .timeout))
     ∙ assoc (inTime (c .times)) (inTime (w .timeout)) (inTime (w .«last_heard»))
 
--- three before the soonest moment with one more node, whose times are within their limits
-module _ (s a : ℕ) (w : WatchedNode) (h : s ≤ never) where
-  abbrev before : ℕ
-  before = min s (sumOf a 3)
+-- three before the soonest moment with one more node: what stops at `never` is no moment
+stopped : (s x : ℕ) → s ≤ never → min s x ≡ min s (min never x)
+stopped s x h = omega (arith, h)
 
+module _ (s : ℕ) (w : WatchedNode) (h : s ≤ never) where
   abbrev less : ℕ → Bool → ℕ
   less x b = pick b never (x - 1)
 
-  awaits : (x y : ℕ) → 0 < x → 0 < y → x ≤ latest → y ≤ latest → sumOf (x - 1) (y - 1) + 3 ≡ y + x + 1
-  awaits x y p q i j = omega (arith, p, q, i, j)
+  awaits : (x y : ℕ) → 0 < x → 0 < y → sumOf (sumOf (x - 1) (y - 1)) 3 ≡ min never (y + x + 1)
+  awaits x y p q = omega (arith, p, q)
 
-  joined : (x late : ℕ) → x + 3 ≡ late → min before late ≡ min s (sumOf (min a x) 3)
-  joined x late e = omega (arith, e)
-
-  over-soonest : timed w ≡ true → soonerBy before w ≡ min s (sumOf (min a (threeBefore w)) 3)
-  over-soonest f = by (eqb (w .timeout) 0) refl (eqb (w .«last_heard») 0) refl
+  pub sooner-by : soonerBy s w ≡ min s (sumOf (threeBefore w) 3)
+  sooner-by = by (eqb (w .timeout) 0) refl (eqb (w .«last_heard») 0) refl
     where
-      by : (x : Bool) → eqb (w .timeout) 0 ≡ x → (y : Bool) → eqb (w .«last_heard») 0 ≡ y → soonerBy before w ≡ min s (sumOf (min a (threeBefore w)) 3)
+      by : (x : Bool) → eqb (w .timeout) 0 ≡ x → (y : Bool) → eqb (w .«last_heard») 0 ≡ y → soonerBy s w ≡ min s (sumOf (threeBefore w) 3)
       by true e y g =
           let o : oneLess (w .timeout) ≡ never = ap (less (w .timeout)) e in
-          let i : before ≡ soonerBy before w = sooner-idle before w (eqb-true (w .timeout) 0 e) in
+          let i : s ≡ soonerBy s w = sooner-idle s w (eqb-true (w .timeout) 0 e) in
           omega (arith, h, o, i)
       by false e true g =
           let o : oneLess (w .«last_heard») ≡ never = ap (less (w .«last_heard»)) g in
-          let i : before ≡ soonerBy before w = sooner-unheard before w (eqb-false (w .timeout) 0 e) (eqb-true (w .«last_heard») 0 g) in
+          let i : s ≡ soonerBy s w = sooner-unheard s w (eqb-false (w .timeout) 0 e) (eqb-true (w .«last_heard») 0 g) in
           omega (arith, h, o, i)
       by false e false g =
           let t = eqb-false (w .timeout) 0 e in
           let l = eqb-false (w .«last_heard») 0 g in
-          let late : threeBefore w + 3 ≡ w .«last_heard» + w .timeout + 1 =
-          ap₂ (λ (x y : ℕ). sumOf x y + 3) (ap (less (w .timeout)) e) (ap (less (w .«last_heard»)) g)
-          ∙ awaits (w .timeout) (w .«last_heard») (omega (arith, t)) (omega (arith, l))
-          (leb-true (w .timeout) latest (both-first (inTime (w .timeout)) _ f)) (leb-true (w .«last_heard») latest (both-second (inTime (w .timeout)) _ f)) in
-          both-up before w t l ∙ joined (threeBefore w) (w .«last_heard» + w .timeout + 1) late
+          let late : sumOf (threeBefore w) 3 ≡ min never (w .«last_heard» + w .timeout + 1) =
+          ap₂ (λ (x y : ℕ). sumOf (sumOf x y) 3) (ap (less (w .timeout)) e) (ap (less (w .«last_heard»)) g)
+          ∙ awaits (w .timeout) (w .«last_heard») (omega (arith, t)) (omega (arith, l)) in
+          both-up s w t l ∙ stopped s (w .«last_heard» + w .timeout + 1) h ∙ ap (min s) (sym late)
+
+joined : (a x : ℕ) → min (sumOf a 3) (sumOf x 3) ≡ sumOf (min a x) 3
+joined a x = omega arith
+
+regrouped : (s a b : ℕ) → min (min s a) b ≡ min s (min a b)
+regrouped s a b = omega arith
+
+over-soonest : (s a : ℕ) (w : WatchedNode) → s ≤ never → soonerBy (min s (sumOf a 3)) w ≡ min s (sumOf (min a (threeBefore w)) 3)
+over-soonest s a w h =
+    sooner-by (min s (sumOf a 3)) w (omega (arith, h))
+    ∙ regrouped s (sumOf a 3) (sumOf (threeBefore w) 3)
+    ∙ ap (min s) (joined a (threeBefore w))
 
 -- the nodes that the walk leaves
 abbrev restOf : ℕ → Climbed → List WatchedNode → List WatchedNode
@@ -158,15 +166,6 @@ module _ (m : ℕ) where
       ∙ ap (λ (b : Bool). both b (climbing (w .node) ws)) (sym (over-in-time c w))
       ∙ walk-climbing (over c w) ws)
 
-  -- what was within its limit before the walk
-  walk-in-time : (c : Climbed) (ws : List WatchedNode) → inTime (climbOf m c ws .times) ≡ true → inTime (c .times) ≡ true
-  walk-in-time c [] = λ h. h
-  walk-in-time c (w ∷ ws) =
-      turn (λ r q. inTime (r .times) ≡ true → inTime (c .times) ≡ true) c w ws
-      (λ _ h. h)
-      (λ _ _ h. h)
-      (λ _ _ h. both-first (inTime (c .times)) (timed w) (sym (over-in-time c w) ∙ walk-in-time (over c w) ws h))
-
   -- the place of the node sought
   walk-place : (c : Climbed) (ws : List WatchedNode) → c .place + placeOf m ws ≡ climbOf m c ws .place + placeOf m (restOf m c ws)
   walk-place c [] = refl
@@ -199,18 +198,17 @@ module _ (m : ℕ) where
       (s : ℕ) (h : s ≤ never)
       (f : List WatchedNode → List WatchedNode) (kept : (w : WatchedNode) (ws : List WatchedNode) → (w .node ≡ m → ⊥) → f (w ∷ ws) ≡ w ∷ f ws) where
     walk-soonest :
-        (c : Climbed) (ws : List WatchedNode) → inTime (climbOf m c ws .times) ≡ true →
+        (c : Climbed) (ws : List WatchedNode) →
         soonest (min s (sumOf (c .soonest) 3)) (f ws) ≡ soonest (min s (sumOf (climbOf m c ws .soonest) 3)) (f (restOf m c ws))
-    walk-soonest c [] = λ i. refl
+    walk-soonest c [] = refl
     walk-soonest c (w ∷ ws) =
-        turn (λ r q. inTime (r .times) ≡ true → soonest (min s (sumOf (c .soonest) 3)) (f (w ∷ ws)) ≡ soonest (min s (sumOf (r .soonest) 3)) (f q)) c w ws
+        turn (λ r q. soonest (min s (sumOf (c .soonest) 3)) (f (w ∷ ws)) ≡ soonest (min s (sumOf (r .soonest) 3)) (f q)) c w ws
+        (λ _. refl)
         (λ _ _. refl)
-        (λ _ _ _. refl)
-        (λ _ apart i.
-        let t : timed w ≡ true = both-second (inTime (c .times)) (timed w) (sym (over-in-time c w) ∙ walk-in-time (over c w) ws i) in
+        (λ _ apart.
         ap (soonest (min s (sumOf (c .soonest) 3))) (kept w ws apart)
-        ∙ ap (λ (x : ℕ). soonest x (f ws)) (over-soonest s (c .soonest) w h t)
-        ∙ walk-soonest (over c w) ws i)
+        ∙ ap (λ (x : ℕ). soonest x (f ws)) (over-soonest s (c .soonest) w h)
+        ∙ walk-soonest (over c w) ws)
 
   -- what the walk leaves, by its place
   drop-next : (l : List WatchedNode) (i : ℕ) (w : WatchedNode) (ws : List WatchedNode) → w ∷ ws ≡ drop i l → ws ≡ drop (i + 1) l
@@ -271,29 +269,29 @@ module _ (ns : List ℕ) (k : ℕ) (below : k ≤ 32) (m p n : ℕ) (r : Climbed
       walk-place m c₀ ahead ∙ ap₂ (λ (r : Climbed) (q : List WatchedNode). r .place + placeOf m q) (sym e) rest in
       omega (arith, i, left-by h .0)
 
-  module _ (s : ℕ) (h : s ≤ never) (i : inTime (r .times) ≡ true) where
+  module _ (s : ℕ) (h : s ≤ never) where
     soonest-by :
         (f : List WatchedNode → List WatchedNode) → ((w : WatchedNode) (ws : List WatchedNode) → (w .node ≡ m → ⊥) → f (w ∷ ws) ≡ w ∷ f ws) →
         soonest s (f ahead) ≡ soonest (min s (sumOf (r .soonest) 3)) (f behind)
     soonest-by f kept =
         let none : s ≡ min s (sumOf never 3) = omega (arith, h) in
         ap (λ (x : ℕ). soonest x (f ahead)) none
-        ∙ walk-soonest m s h f kept c₀ ahead (ap (λ (r : Climbed). inTime (r .times)) (sym e) ∙ i)
+        ∙ walk-soonest m s h f kept c₀ ahead
         ∙ ap₂ (λ (r : Climbed) (q : List WatchedNode). soonest (min s (sumOf (r .soonest) 3)) (f q)) (sym e) rest
 
     -- all were walked
-    pub climbed-all : k ≤ r .place → (x : ℕ) → x ≡ min s (sumOf (r .soonest) 3) → tried.Formed x ≡ climbedOf n s ahead
-    climbed-all end x g =
+    pub climbed-all : inTime (r .times) ≡ true → k ≤ r .place → (x : ℕ) → x ≡ min s (sumOf (r .soonest) 3) → tried.Formed x ≡ climbedOf n s ahead
+    climbed-all i end x g =
         let z : behind ≡ [] = at-end (nodesOf ns) k (places ns) below (r .place) end in
         let b : climbing n ahead ≡ true = climbs-all i (ap (climbing (r .last)) z) in
         let y : soonest s ahead ≡ x = soonest-by (λ l. l) (λ w ws _. refl) ∙ ap (soonest (min s (sumOf (r .soonest) 3))) z ∙ sym g in
         sym (ap₂ (λ (b : Bool) (x : ℕ). pick b (tried.Formed x) tried.Unformed) b y)
 
   pub heard-by-walk :
-      inTime (r .times) ≡ true → climbing (r .last) behind ≡ true → (t x : ℕ) → x ≡ soonest (sumOf (r .soonest) 3) (firstHeard t behind) → soonest never (heardAt m t ahead) ≡ x
-  heard-by-walk i h t x g =
+      climbing (r .last) behind ≡ true → (t x : ℕ) → x ≡ soonest (sumOf (r .soonest) 3) (firstHeard t behind) → soonest never (heardAt m t ahead) ≡ x
+  heard-by-walk h t x g =
       let y : min never (sumOf (r .soonest) 3) ≡ sumOf (r .soonest) 3 = omega arith in
-      soonest-by never (omega arith) i (heardAt m t) (λ w ws apart. ap (λ (b : Bool). pick b (heardNow t w ∷ ws) (w ∷ heardAt m t ws)) (ne-eqb (w .node) m apart))
+      soonest-by never (omega arith) (heardAt m t) (λ w ws apart. ap (λ (b : Bool). pick b (heardNow t w ∷ ws) (w ∷ heardAt m t ws)) (ne-eqb (w .node) m apart))
       ∙ ap₂ soonest y (left-by h .1 t)
       ∙ sym g
 
@@ -380,5 +378,5 @@ module _ (ns : List ℕ) (k : ℕ) (below : k ≤ 32) (m t : ℕ) (r : Climbed) 
           let p : placeOf m all ≡ r .place = omega (arith, sought-at ns k below m 0 0 r e (formed .0)) in
           find-formed ns k m t (formed-begins ns k below ∙ is-rising 0 all seek-climbs n) (r .place) x (ap (placeOf m) w ∙ p)
           (ap (λ (l : List WatchedNode). soonest never (heardAt m t l)) w
-          ∙ heard-by-walk ns k below m 0 0 r e i (formed .0) t x
+          ∙ heard-by-walk ns k below m 0 0 r e (formed .0) t x
           (formed .1 ∙ ap (λ (s : ℕ). soonest s (firstHeard t (left ns k below (r .place)))) g))

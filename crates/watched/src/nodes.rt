@@ -99,24 +99,6 @@ fn all_heard_by(before: bool, timeout: u64, last_heard: u64, time: u64) -> bool
 // No moment: the walks carry the earliest one as a number.
 pub const NEVER: u64 = 18446744073709551615;
 
-// The sooner of the soonest moment so far and the one at which a node would be late.
-pub fn sooner(soonest: u64, timeout: u64, last_heard: u64) -> u64
-    requires { ⌜ (timeout ≤ 4611686018427387903) × («last_heard» ≤ 4611686018427387903) ⌝ }
-    ensures { λ r. ⌜ r ≡ soonerBy soonest (watchedNode 0 timeout «last_heard») ⌝ }
-{
-    if timeout == 0 {
-        return soonest;
-    }
-    if last_heard == 0 {
-        return soonest;
-    }
-    let late = last_heard + timeout + 1;
-    if late < soonest {
-        return late;
-    }
-    soonest
-}
-
 // Whether nodes are well formed, and the soonest moment at which one would be late.
 pub enum Tried {
     Unformed,
@@ -157,6 +139,13 @@ fn three_before(timeout: u64, last_heard: u64) -> u64
     ensures { λ r. ⌜ r ≡ threeBefore (watchedNode 0 timeout «last_heard») ⌝ }
 {
     sum(one_less(timeout), one_less(last_heard))
+}
+
+// The sooner of the soonest moment so far and the one at which a node would be late.
+pub fn sooner(soonest: u64, timeout: u64, last_heard: u64) -> u64
+    ensures { λ r. ⌜ r ≡ soonerBy soonest (watchedNode 0 timeout «last_heard») ⌝ }
+{
+    smaller(soonest, sum(three_before(timeout, last_heard), 3))
 }
 
 // Where a walk ended, and of the nodes before that place: the last one's number, all times one over the other, and the soonest of what is three before
@@ -277,7 +266,7 @@ fn hear_first(
     before: u64,
     time: u64,
 ) -> Tried
-    requires { ⌜ (count ≤ 32) × (time ≤ 4611686018427387903) ⌝ }
+    requires { ⌜ count ≤ 32 ⌝ }
     ensures { λ r. ⌜ r ≡ heardClimbed last before time (drop place (take count (nodesOf (now (nodes .entry))))) ⌝ }
 {
     if count <= place {
@@ -295,7 +284,6 @@ fn hear_first(
 
 // Up to the node that is sought in one walk, behind it in another.
 pub fn find(nodes: &NodeWords, count: usize, node: u64, time: u64) -> Found
-    requires { ⌜ time ≤ 4611686018427387903 ⌝ }
     ensures { λ r. ⌜ r ≡ foundOf node time (watchedOf (nodesOf (now (nodes .entry))) count) ⌝ }
 {
     if 32 < count {

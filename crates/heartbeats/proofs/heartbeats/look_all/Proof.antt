@@ -5,16 +5,15 @@ use native.Mathlib.Omega.{arith}
 use borrow.Author.Needs.{needs}
 use Prim.Native.Nat.{ℕ, _-_, _≤_}
 use mathlib.Core.Path.{_≡_, refl, ap, _∙_}
-use mathlib.Core.Bool.{true}
 use mathlib.Core.List.{map}
 use lib.ListN.{length, take, drop}
-use Rattle.watched.specs.Watched.{wellFormed, watchedOf}
+use Rattle.watched.specs.Watched.{watchedOf}
 use Rattle.watched.specs.Nodes.{nodesOf, never, soonest}
 use Rattle.watched.proofs.Watching.{few}
 use Rattle.node.specs.Tick.{looked}
 use Rattle.heartbeats.specs.Parts.{lookedFirst}
 use Rattle.heartbeats.specs.PartWords.{lookedWords}
-use Rattle.heartbeats.proofs.Beatings.{looks-begin, look-words, look-nodes, look-long, look-fits, look-sooner, sooner-begins, sooner-ends}
+use Rattle.heartbeats.proofs.Beatings.{looks-begin, look-words, look-nodes, look-long, look-sooner, sooner-begins, sooner-ends}
 use Rattle.heartbeats.proofs.heartbeats.look_all.Statement.{statement}
 use Rattle.heartbeats.proofs.heartbeats.look_all.Tie as tie
 
@@ -43,9 +42,9 @@ look-all-spec =
       looks-begin (a .time) (now (a .nodes)),
       refl,
       omega arith,
-      few (now (a .nodes)) (a .count) (s .pre .1),
+      few (now (a .nodes)) (a .count) (s .pre),
       c .all-places .ensures,
-      sooner-begins (a .time) (now (a .nodes)) (a .count) (s .pre .1),
+      sooner-begins (a .time) (now (a .nodes)) (a .count) (s .pre),
     ))
     (λ c. omega arith)
     (λ c. omega arith)
@@ -58,12 +57,7 @@ look-all-spec =
     (λ c. omega arith)
     (λ c. omega arith)
     (λ c. omega arith)
-    (λ c κs.
-    let t = c .before .before .before in
-    let l = t .before .loop in
-    let s = t .before .before .before .before in
-    let a = s .args in
-    look-fits (a .time) (now (a .nodes)) (l .nodes) (a .count) (l .i) (s .pre .1) (t .loop-test .taken) (l .inv .1) (c .looked .result) (c .looked .ensures) (s .pre .0))
+    (λ c κs. search needs)
     (λ c. omega arith)
     (λ c. omega arith)
     (λ c.
@@ -77,7 +71,7 @@ look-all-spec =
       omega arith,
       l .inv .3,
       look-long (a .time) (now (a .nodes)) (l .nodes) (l .i) (omega arith) (l .inv .4) (o .looked .result) (o .looked .ensures),
-      look-sooner (a .time) (now (a .nodes)) (l .nodes) (a .count) (l .i) (s .pre .1) (t .loop-test .taken) (l .inv .1) (o .looked .result) (o .looked .ensures)
+      look-sooner (a .time) (now (a .nodes)) (l .nodes) (a .count) (l .i) (s .pre) (t .loop-test .taken) (l .inv .1) (o .looked .result) (o .looked .ensures)
           _ (l .soonest) (l .inv .5) (c .sooner .result) (c .sooner .ensures),
     ))
     (λ c.
@@ -88,5 +82,5 @@ look-all-spec =
     let e : l .i ≡ a .count = omega arith in (
       l .inv .0 ∙ ap (λ (k : ℕ). lookedWords (a .time) k (now (a .nodes))) e,
       l .inv .1 ∙ ap (λ (k : ℕ). lookedFirst (a .time) k (nodesOf (now (a .nodes)))) e,
-      sooner-ends (a .time) (now (a .nodes)) (a .count) (s .pre .1) (l .i) _ (l .soonest) (l .inv .5) (c .loop-test .left),
+      sooner-ends (a .time) (now (a .nodes)) (a .count) (s .pre) (l .i) _ (l .soonest) (l .inv .5) (c .loop-test .left),
     )))

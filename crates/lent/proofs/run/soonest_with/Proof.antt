@@ -1,4 +1,4 @@
--- `lent::run::soonest_with` meets its contract: the node as it is set, within reach.
+-- `lent::run::soonest_with` meets its contract: the node as it is set.
 -- Assumes nothing.
 use borrow.Author.Needs.{needs}
 use Rattle.lent.proofs.run.soonest_with.Statement.{statement}
@@ -10,6 +10,4 @@ soonest-with-spec =
     (tie.spec
     (λ c κs. search needs)
     (λ c κs. search needs)
-    (λ c κs. search needs)
-    (λ c κs. search needs)
-    (λ c. rw (c .sooner .ensures, c .before .before .within .ensures, c .before .within2 .ensures, c .before .before .before .set .ensures)))
+    (λ c. rw (c .sooner .ensures, c .before .set .ensures)))

@@ -1,12 +1,9 @@
 -- `node::heard::heard` meets its contract: its tests, then one store, and the earliest moment.
 -- Assumes nothing.
-use Prim.Native.Nat.{ℕ}
-use mathlib.Core.Path.{refl, ap, _∙_}
+use mathlib.Core.Path.{refl}
 use native.Mathlib.Omega.{arith}
 use denote.Ref.{now}
 use borrow.Author.Needs.{needs}
-use Rattle.watched.specs.Watched.{heardAt, watchedOf}
-use Rattle.watched.specs.Nodes.{never, nodesOf, soonest}
 use Rattle.watched.proofs.Watching.{found-unformed, found-formed, few}
 use Rattle.node.proofs.Hearing.{unformed, inside, declined, there}
 use Rattle.node.proofs.heard.heard.Statement.{statement}
@@ -19,17 +16,15 @@ heard-spec =
     (λ c κs. search needs)
     (λ c κs. search needs)
     (λ c κs. search needs)
-    (λ c κs. search needs)
     (λ c. search needs)
     (λ c. search needs)
     (λ c κs. search needs)
     (λ c.
     let o = c .before in
     let s = o .before .before in
-    let i = s .before in
-    let a = i .before .before .before .before .before .before .args in
+    let a = s .before .before .before .before .before .before .args in
     unformed (now (a .head)) (now (a .nodes)) (a .count) (a .node) (a .time)
-    (found-unformed (now (a .nodes)) (a .count) (a .node) (i .within .result) (s .find .result) (s .find .ensures) (o .enum-told .given .1)) (c .try-heard .result) (c .try-heard .ensures))
+    (found-unformed (now (a .nodes)) (a .count) (a .node) (a .time) (s .find .result) (s .find .ensures) (o .enum-told .given .1)) (c .try-heard .result) (c .try-heard .ensures))
     (λ c κs. search needs)
     (λ c. search needs)
     (λ c κs.
@@ -37,9 +32,8 @@ heard-spec =
     let y = m .before .before in
     let f = y .before .before in
     let s = f .before .before in
-    let i = s .before in
-    let a = i .before .before .before .before .before .before .args in
-    let x = found-formed (now (a .nodes)) (a .count) (a .node) (i .within .result) (s .find .result) (s .find .ensures) _ _ (f .found .given .1) in
+    let a = s .before .before .before .before .before .before .args in
+    let x = found-formed (now (a .nodes)) (a .count) (a .node) (a .time) (s .find .result) (s .find .ensures) _ _ (f .found .given .1) in
     omega (arith, few (now (a .nodes)) (a .count) (x .0), inside (now (a .head)) (now (a .nodes)) (a .count) (a .node) (a .time) (x .0) _ (x .1) _ refl (y .try-heard2 .result) (y .try-heard2 .ensures) (m .enum-told2 .given .1)))
     (λ c κs. search needs)
     (λ c κs. search needs)
@@ -50,13 +44,12 @@ heard-spec =
     let y = m .before .before in
     let f = y .before .before in
     let s = f .before .before in
-    let i = s .before in
-    let l = i .before .before in
+    let l = s .before .before in
     let h = l .before .before in
     let a = h .before .before .args in
-    let x = found-formed (now (a .nodes)) (a .count) (a .node) (i .within .result) (s .find .result) (s .find .ensures) _ _ (f .found .given .1) in
+    let x = found-formed (now (a .nodes)) (a .count) (a .node) (a .time) (s .find .result) (s .find .ensures) _ _ (f .found .given .1) in
     there (now (a .head)) (now (a .nodes)) (a .count) (a .node) (a .time) (x .0) _ (x .1) _ refl (y .try-heard2 .result) (y .try-heard2 .ensures) (m .enum-told2 .given .1) (h .whole .ensures) (l .all-places .ensures) _ (w .set-heard .ensures) _
-    (x .2 ∙ ap (λ (t : ℕ). soonest never (heardAt (a .node) t (watchedOf (nodesOf (now (a .nodes))) (a .count)))) (i .within .ensures))
+    (x .2)
     (o .moment .result) (o .moment .ensures) _ (c .set-earliest .ensures))
     (λ c. search needs)
     (λ c.
@@ -64,7 +57,6 @@ heard-spec =
     let y = q .before .before in
     let f = y .before .before in
     let s = f .before .before in
-    let i = s .before in
-    let a = i .before .before .before .before .before .before .args in
-    let x = found-formed (now (a .nodes)) (a .count) (a .node) (i .within .result) (s .find .result) (s .find .ensures) _ _ (f .found .given .1) in
+    let a = s .before .before .before .before .before .before .args in
+    let x = found-formed (now (a .nodes)) (a .count) (a .node) (a .time) (s .find .result) (s .find .ensures) _ _ (f .found .given .1) in
     declined (now (a .head)) (now (a .nodes)) (a .count) (a .node) (a .time) (x .0) _ (x .1) _ refl (y .try-heard2 .result) (y .try-heard2 .ensures) _ (q .answer .given .1)))

@@ -31,11 +31,7 @@ tick-roused-spec =
     let i = j .before in
     let s = i .before in
     (leb-true (s .args .time) 4611686018427387903 (sym (i .in-time .ensures) ∙ not-false (i .in-time .result) (j .if1 .left)), s .pre .0, s .pre .1))
-    (λ c κs.
-    let j = c .before .before .before .before .before .before .before in
-    let i = j .before in
-    let s = i .before in
-    (leb-true (s .args .time) 4611686018427387903 (sym (i .in-time .ensures) ∙ not-false (i .in-time .result) (j .if1 .left)), s .pre .0))
+    (λ c κs. c .before .before .before .before .before .before .before .before .before .pre .0)
     (λ c κs. search needs)
     (λ c κs. search needs)
     (λ c κs. search needs)

@@ -26,7 +26,7 @@ find-spec =
     seek-late (now (a .nodes)) (a .count) (b .if1 .left) (a .node) (a .time) (w .climb .result) (w .climb .ensures)
     (sym (i .in-time .ensures) ∙ not-true (i .in-time .result) (c .if2 .taken)))
     (λ c κs. search needs)
-    (λ c κs. (c .before .before .before .before .if1 .left, c .before .before .before .before .before .pre))
+    (λ c κs. c .before .before .before .before .if1 .left)
     (λ c. search needs)
     (λ c. search needs)
     (λ c.

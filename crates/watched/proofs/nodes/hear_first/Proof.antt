@@ -3,9 +3,7 @@
 use mathlib.Core.Path.{_∙_}
 use denote.Ref.{now}
 use borrow.Author.Needs.{needs}
-use Rattle.watched.specs.Nodes.{nodeAt}
 use Rattle.watched.proofs.Lists.{not-true, not-false}
-use Rattle.watched.proofs.Climbing.{climbs-timed}
 use Rattle.watched.proofs.Walk.{first-none, first-stops, first-next}
 use Rattle.watched.proofs.nodes.hear_first.Statement.{statement}
 use Rattle.watched.proofs.nodes.hear_first.Tie as tie
@@ -17,7 +15,7 @@ hear-first-spec =
     (λ c.
     let s = c .before in
     let a = s .args in
-    first-none (now (a .nodes)) (a .count) (s .pre .0) (a .place) (a .last) (a .«before») (a .time) (c .if1 .taken))
+    first-none (now (a .nodes)) (a .count) (s .pre) (a .place) (a .last) (a .«before») (a .time) (c .if1 .taken))
     (λ c. search needs)
     (λ c. search needs)
     (λ c. search needs)
@@ -33,13 +31,9 @@ hear-first-spec =
     let e = f .before .before .before .before in
     let s = e .before in
     let a = s .args in
-    first-stops (now (a .nodes)) (a .count) (s .pre .0) (a .place) (a .last) (a .«before») (a .time) (e .if1 .left)
+    first-stops (now (a .nodes)) (a .count) (s .pre) (a .place) (a .last) (a .«before») (a .time) (e .if1 .left)
     (f .climbs .result) (f .climbs .ensures) (not-true (f .climbs .result) (c .if2 .taken)))
-    (λ c κs.
-    let f = c .before in
-    let s = f .before .before .before .before .before in
-    let a = s .args in
-    (climbs-timed (a .last) (nodeAt (now (a .nodes)) (a .place)) (f .climbs .result) (f .climbs .ensures) (not-false (f .climbs .result) (c .if2 .left)) .0, s .pre .1))
+    (λ c κs. search needs)
     (λ c. search needs)
     (λ c κs. search needs)
     (λ c.
@@ -50,5 +44,5 @@ hear-first-spec =
     let s = e .before in
     let a = s .args in
     c .climb-from .ensures
-    ∙ first-next (now (a .nodes)) (a .count) (s .pre .0) (a .place) (a .last) (a .«before») (a .time) (e .if1 .left)
+    ∙ first-next (now (a .nodes)) (a .count) (s .pre) (a .place) (a .last) (a .«before») (a .time) (e .if1 .left)
     (f .climbs .result) (f .climbs .ensures) (not-false (f .climbs .result) (g .if2 .left)) (n .sooner .result) (n .sooner .ensures)))
