@@ -20,7 +20,7 @@ use Rattle.watched.specs.Nodes.{nodeAt, nodesOf, notBefore, rising, clim
 use Rattle.watched.proofs.Lists.{at-end}
 use Rattle.watched.proofs.Watching.{places, node-at, turn as turn-at}
 
-both-false : (b : Bool) → both b false ≡ false
+pub both-false : (b : Bool) → both b false ≡ false
 both-false true = refl
 both-false false = refl
 
@@ -28,7 +28,7 @@ both-true : (b : Bool) → both b true ≡ b
 both-true true = refl
 both-true false = refl
 
-both-assoc : (a b c : Bool) → both a (both b c) ≡ both (both a b) c
+pub both-assoc : (a b c : Bool) → both a (both b c) ≡ both (both a b) c
 both-assoc true b c = refl
 both-assoc false b c = refl
 

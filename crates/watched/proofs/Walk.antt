@@ -21,7 +21,7 @@ use Rattle.watched.specs.Watched.{latest, inTime, allOf, timed, heardNow
 use Rattle.watched.specs.Nodes.{nodeAt, nodesOf, climbing, numbered, never, soonerBy, soonest, foundOf}
 use Rattle.watched.specs.Climb.{oneLess, sumOf, threeBefore, climbed, over, climbOf, climbedOf, firstHeard, heardClimbed}
 use Rattle.watched.proofs.Lists.{at-end, whole}
-use Rattle.watched.proofs.Climbing.{climb-head, not-climbing, not-numbered, is-rising}
+use Rattle.watched.proofs.Climbing.{both-false, both-assoc, climb-head, not-climbing, not-numbered, is-rising}
 use Rattle.watched.proofs.Watching.{places, turn as turn-at, sooner-idle, sooner-unheard, both-up, tried-unformed, tried-formed, formed-begins, find-unformed, find-formed}
 
 -- the walk in words: what is left gives what the whole gives
@@ -74,16 +74,12 @@ in-time-both a b = by (leb a latest) refl (leb b latest) refl
     by true e false f = let l : b ≤ bitOr b a = or-least b a in lt-leb (bitOr a b) latest (omega (arith, l, or-comm a b, leb-false b latest f))
     by false e y f = let l : a ≤ bitOr a b = or-least a b in lt-leb (bitOr a b) latest (omega (arith, l, leb-false a latest e))
 
-assoc : (a b c : Bool) → both (both a b) c ≡ both a (both b c)
-assoc true b c = refl
-assoc false b c = refl
-
 -- with one more node
 over-in-time : (c : Climbed) (w : WatchedNode) → inTime (over c w .times) ≡ both (inTime (c .times)) (timed w)
 over-in-time c w =
     in-time-both (bitOr (c .times) (w .timeout)) (w .«last_heard»)
     ∙ ap (λ (b : Bool). both b (inTime (w .«last_heard»))) (in-time-both (c .times) (w .timeout))
-    ∙ assoc (inTime (c .times)) (inTime (w .timeout)) (inTime (w .«last_heard»))
+    ∙ sym (both-assoc (inTime (c .times)) (inTime (w .timeout)) (inTime (w .«last_heard»)))
 
 -- three before the soonest moment with one more node: what stops at `never` is no moment
 stopped : (s x : ℕ) → s ≤ never → min s x ≡ min s (min never x)
@@ -162,7 +158,7 @@ module _ (m : ℕ) where
       (λ _ _. refl)
       (λ up _.
       ap (λ (b : Bool). both (inTime (c .times)) (both (both b (timed w)) (climbing (w .node) ws))) (lt-ltb (c .last) (w .node) up)
-      ∙ sym (assoc (inTime (c .times)) (timed w) (climbing (w .node) ws))
+      ∙ both-assoc (inTime (c .times)) (timed w) (climbing (w .node) ws)
       ∙ ap (λ (b : Bool). both b (climbing (w .node) ws)) (sym (over-in-time c w))
       ∙ walk-climbing (over c w) ws)
 
@@ -225,10 +221,6 @@ module _ (m : ℕ) where
       (λ _ _ e. e)
       (λ _ _ e. walk-rest l (over c w) ws (drop-next l (c .place) w ws e))
 
-both-none : (b : Bool) → both b false ≡ false
-both-none true = refl
-both-none false = refl
-
 -- the walk from the place p on, where n is the number before it
 module _ (ns : List ℕ) (k : ℕ) (below : k ≤ 32) (m p n : ℕ) (r : Climbed) (e : r ≡ climbOf m (climbed p n 0 never) (left ns k below p)) where
   abbrev c₀ : Climbed
@@ -252,7 +244,7 @@ module _ (ns : List ℕ) (k : ℕ) (below : k ≤ 32) (m p n : ℕ) (r : Climbed
   climbs-late h = climbs-by ∙ ap (λ (b : Bool). both b (climbing (r .last) behind)) h
 
   pub climbs-none : climbing (r .last) behind ≡ false → climbing n ahead ≡ false
-  climbs-none h = climbs-by ∙ ap (both (inTime (r .times))) h ∙ both-none (inTime (r .times))
+  climbs-none h = climbs-by ∙ ap (both (inTime (r .times))) h ∙ both-false (inTime (r .times))
 
   pub climbs-all : inTime (r .times) ≡ true → climbing (r .last) behind ≡ true → climbing n ahead ≡ true
   climbs-all i h = climbs-by ∙ ap₂ both i h
