@@ -1,59 +1,17 @@
-// The desk's buffer: its line, the calls on it, and what is printed of them.
+// The desk's buffer: the calls on it, and what is printed of them.
 ghost use Prim.Native.Nat.{_≤_};
 ghost use lib.ListN.{length};
-use crate::load::EntryBuffer;
-use crate::load::read_bytes;
 use crate::print::Buffer;
 use crate::print::say;
 use crate::print::say_bytes;
 use crate::print::say_form;
 use answers::Numbers;
 use patterns::Given;
-use session::NO_LINE;
+use script::EntryBuffer;
 use session::least;
 
 // As many bytes as a desk's buffer may have.
 pub type Desk = [u8; 100];
-
-// Reads the bytes that stand from a place to the line's end, at most 100 of them; how many they are becomes the first number. No bytes
-// are `-`.
-pub(crate) fn read_desk(line: &[u8], at: usize, given: &mut Given, bytes: &mut EntryBuffer) -> u8 {
-    if line.len() <= at {
-        return NO_LINE;
-    }
-    let count = (line.len() - at) / 2;
-    given[0] = count as u64;
-    if count == 0 {
-        if line[at] != b'-' {
-            return NO_LINE;
-        }
-        return b'D';
-    }
-    if at + 2 * count != line.len() {
-        return NO_LINE;
-    }
-    if 100 < count {
-        return NO_LINE;
-    }
-    if !read_bytes(line, at, count, bytes, 0) {
-        return NO_LINE;
-    }
-    b'D'
-}
-
-// Reads the 20 bytes of an entry.
-pub(crate) fn read_entry(line: &[u8], at: usize, bytes: &mut EntryBuffer) -> u8 {
-    if line.len() < at {
-        return NO_LINE;
-    }
-    if line.len() - at != 40 {
-        return NO_LINE;
-    }
-    if !read_bytes(line, at, 20, bytes, 0) {
-        return NO_LINE;
-    }
-    b'r'
-}
 
 // The desk's buffer has the bytes that were read; how many they are.
 pub(crate) fn lay(desk: &mut Desk, bytes: &EntryBuffer, given: Given) -> usize {

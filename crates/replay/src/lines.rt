@@ -2,9 +2,7 @@
 use crate::print::Buffer;
 use crate::print::flush;
 use libc::STDIN_FILENO;
-
-// The longest line; the longest call, a load of everything, has 12,420 characters.
-pub type LineBuffer = [u8; 16384];
+use script::LineBuffer;
 
 // What was read last.
 pub type Part = [u8; 65536];

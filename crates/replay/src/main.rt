@@ -1,11 +1,9 @@
 // Drives a head by a call script from standard input and prints what each call answers (docs/CALLS.md).
 mod desk;
 mod lines;
-mod load;
 mod play;
 mod print;
 mod said;
-mod script;
 mod show;
 
 use lines::Gathered;
