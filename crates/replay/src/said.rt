@@ -13,7 +13,7 @@ use watched::nodes::NodeWords;
 
 // Prints the form that a key has in the table, by the numbers of an answer in their order; the last row is that of every other key. An
 // NMT event that is a reset enters states; of another one the errors are printed.
-pub(crate) fn say_as(out: &mut Buffer, key: u8, answer: &Numbers) {
+fn say_as(out: &mut Buffer, key: u8, answer: &Numbers) {
     say_by(
         out,
         b"!(refused #)\n;\
@@ -27,7 +27,6 @@ pub(crate) fn say_as(out: &mut Buffer, key: u8, answer: &Numbers) {
         q----(taken #)\n;\
         g----(taken [lost-][kept-][open-])\n;\
         m----(taken [#][~#])\n;\
-        ?(unreadable #)\n;\
         *(taken)\n",
         key,
         answer,
@@ -47,6 +46,11 @@ pub(crate) fn say_bitmap(out: &mut Buffer, nodes: &NodeWords, count: usize) {
             return say_form(out, b"(refused #)\n", &[refusal.number() as u64]);
         }
     }
+}
+
+// The line at a place that can't be read or played.
+pub(crate) fn say_unreadable(out: &mut Buffer, place: u64) {
+    say_form(out, b"(unreadable #)\n", &[place])
 }
 
 // Prints the answer of a line by its key.

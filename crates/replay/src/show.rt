@@ -1,6 +1,5 @@
 // The forms of a head and of the lent run.
 ghost use Prim.Native.Nat.{_≤_};
-use crate::desk::Desk;
 use crate::desk::show_desk;
 use crate::print::Buffer;
 use crate::print::say;
@@ -9,6 +8,7 @@ use crate::said::say_found;
 use head::parts::history_of;
 use head::parts::queue_of;
 use head::state::Head;
+use played::Desk;
 use session::Rest;
 use session::Session;
 use session::end_of;
