@@ -6,7 +6,7 @@ mod print;
 mod said;
 mod show;
 
-use lines::Gathered;
+use script::lines::Gathered;
 use session::Session;
 
 // Owns all memory: the head's, that of the watched nodes, the desk's, and the buffers of the script and of what is printed. The script's last

@@ -7,6 +7,7 @@ ghost use lib.ListN.{length, take};
 ghost use Rattle.script.specs.Script.{says, keyBy, tableSays, deskSays, entrySays, lineSays, textSays};
 
 mod digits;
+pub mod lines;
 mod load;
 
 use bytes::scan::find;
