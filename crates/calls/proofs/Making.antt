@@ -32,7 +32,8 @@ use Rattle.node.specs.Refines.{plain, Refines, left, historyUpdate}
 use Rattle.node.specs.InPlace.{said}
 use Rattle.start.specs.Started.{StartedIn}
 use Rattle.answers.specs.Numbers.{numbersOf}
-use Rattle.calls.specs.Values.{at, byteOf, wordOf, kept, dictionaryOf, thresholdsOf, updatesOf}
+use Rattle.patterns.specs.Patterns.{kept}
+use Rattle.calls.specs.Values.{at, byteOf, wordOf, dictionaryOf, thresholdsOf, updatesOf}
 use Rattle.calls.specs.Calls.{headCall, loadCall, changeCall, Makes, Starts, stateNumbers, commandNumbers, kindNumbers, readingNumbers, writeNumbers}
 
 module _ {ws q m ns ws′ q′ m′ : List ℕ} {c : Call} {l : Run} where

@@ -26,7 +26,8 @@ use Rattle.node.specs.Refines.{plain, historyUpdate}
 use Rattle.node.specs.InPlace.{said}
 use Rattle.start.specs.Started.{StartedIn}
 use Rattle.answers.specs.Numbers.{numbersOf}
-use Rattle.calls.specs.Values.{at, byteOf, wordOf, kept, dictionaryOf, thresholdsOf, updatesOf}
+use Rattle.patterns.specs.Patterns.{kept}
+use Rattle.calls.specs.Values.{at, byteOf, wordOf, dictionaryOf, thresholdsOf, updatesOf}
 
 -- the calls on the head alone, by their keys: n, d, e, c, w, g, m, and a for any other
 unfoldable pub headCall : ℕ → List ℕ → Call

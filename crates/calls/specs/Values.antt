@@ -22,6 +22,7 @@ use Rattle.node.specs.declared.load.ObjectUpdate.{ObjectUpdate}
 use Rattle.node.specs.declared.load.ObjectUpdate.the-variants as object
 use Rattle.node.specs.declared.load.DictionaryUpdate.{DictionaryUpdate}
 use Rattle.answers.specs.Numbers.{nothing}
+use Rattle.patterns.specs.Patterns.{kept}
 
 -- the number at a place of a line
 abbrev pub at : List ℕ → ℕ → ℕ
@@ -69,10 +70,6 @@ namedThresholds ns =
 -- left out all together they are 15 each
 abbrev pub thresholdsOf : Bool → List ℕ → Thresholds
 thresholdsOf named ns = pick named (namedThresholds ns) (sameForAll 15)
-
--- what stands for a value that a load does not name
-abbrev pub kept : ℕ
-kept = 8589934592
 
 abbrev pub byteUpdate : ℕ → ByteUpdate
 byteUpdate n = pick (eqb n kept) byte.Keep (byte.Set (byteOf n))

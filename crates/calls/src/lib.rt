@@ -27,6 +27,7 @@ use entries::desk::write_at;
 use head::state::Head;
 use node::calls::CallAnswer;
 use patterns::Given;
+use patterns::KEPT;
 use tick::tick::TickAnswer;
 use types::frame::error::kinds::DllErrorKind;
 use types::frame::error::kinds::DllErrorKindRead;
@@ -43,9 +44,6 @@ use values::thresholds;
 use values::updates;
 use values::word;
 use watched::nodes::NodeWords;
-
-// In place of a value that a load does not name, and of the number of bytes where it names no history.
-pub const KEPT: u64 = 8589934592;
 
 // A start, which may name thresholds.
 pub fn start(

@@ -3,7 +3,6 @@ ghost use mathlib.Core.Path.{_≡_};
 ghost use Prim.Native.Nat.{_≤_};
 ghost use Rattle.calls.specs.Values.{at, byteOf, halfOf, wordOf, objectOf, dictionaryOf, namedThresholds, thresholdsOf, byteUpdate, counterUpdate, objectUpdate, updatesOf, entryOf};
 ghost use Rattle.entries.specs.Entry.{modeOf};
-use crate::KEPT;
 use answers::NOTHING;
 use counters::counters::Thresholds;
 use entries::status_response::EntryType;
@@ -16,6 +15,7 @@ use node::load::CounterUpdate;
 use node::load::DictionaryUpdate;
 use node::load::ObjectUpdate;
 use patterns::Given;
+use patterns::KEPT;
 use types::common::NetTime;
 
 pub(crate) fn number(given: Given, place: usize) -> u64

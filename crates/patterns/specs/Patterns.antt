@@ -23,6 +23,10 @@ number n end = record { n = n; end = end }
 abbrev pub unreadable : ℕ
 unreadable = 18446744073709551615
 
+-- in place of a value that a load does not name
+abbrev pub kept : ℕ
+kept = 8589934592
+
 -- 16 or 10
 abbrev pub radix : ℕ → ℕ
 radix base = pick (eqb base 16) 16 10

@@ -12,6 +12,9 @@ pub type Given = [u64; 18];
 
 pub const UNREADABLE: usize = usize::MAX;
 
+// In place of a value that a load does not name, and of the number of bytes where it names no history.
+pub const KEPT: u64 = 8589934592;
+
 // A number and the place behind its digits.
 struct Number {
     n: u64,

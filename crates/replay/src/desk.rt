@@ -1,78 +1,13 @@
-// The desk's buffer: its line, the calls on it, and what is printed of them.
+// What is printed of the desk's buffer and of an entry.
 ghost use Prim.Native.Nat.{_≤_};
 ghost use lib.ListN.{length};
-use crate::load::EntryBuffer;
-use crate::load::read_bytes;
 use crate::print::Buffer;
 use crate::print::say;
 use crate::print::say_bytes;
 use crate::print::say_form;
-use answers::Numbers;
-use patterns::Given;
-use session::NO_LINE;
+use played::Desk;
+use script::EntryBuffer;
 use session::least;
-
-// As many bytes as a desk's buffer may have.
-pub type Desk = [u8; 100];
-
-// Reads the bytes that stand from a place to the line's end, at most 100 of them; how many they are becomes the first number. No bytes
-// are `-`.
-pub(crate) fn read_desk(line: &[u8], at: usize, given: &mut Given, bytes: &mut EntryBuffer) -> u8 {
-    if line.len() <= at {
-        return NO_LINE;
-    }
-    let count = (line.len() - at) / 2;
-    given[0] = count as u64;
-    if count == 0 {
-        if line[at] != b'-' {
-            return NO_LINE;
-        }
-        return b'D';
-    }
-    if at + 2 * count != line.len() {
-        return NO_LINE;
-    }
-    if 100 < count {
-        return NO_LINE;
-    }
-    if !read_bytes(line, at, count, bytes, 0) {
-        return NO_LINE;
-    }
-    b'D'
-}
-
-// Reads the 20 bytes of an entry.
-pub(crate) fn read_entry(line: &[u8], at: usize, bytes: &mut EntryBuffer) -> u8 {
-    if line.len() < at {
-        return NO_LINE;
-    }
-    if line.len() - at != 40 {
-        return NO_LINE;
-    }
-    if !read_bytes(line, at, 20, bytes, 0) {
-        return NO_LINE;
-    }
-    b'r'
-}
-
-// The desk's buffer has the bytes that were read; how many they are.
-pub(crate) fn lay(desk: &mut Desk, bytes: &EntryBuffer, given: Given) -> usize {
-    for i in 0..100usize {
-        desk[i] = bytes[i];
-    }
-    least(given[0] as usize, 100)
-}
-
-// Writes an entry into the first bytes of a run.
-fn write(run: &mut [u8], count: usize, given: Given, answer: &mut Numbers)
-    requires { ⌜ count ≤ length (now run) ⌝ }
-{
-    calls::entry_write(&mut run[0..count], given, answer)
-}
-
-pub(crate) fn entry_write(desk: &mut Desk, count: usize, given: Given, answer: &mut Numbers) {
-    write(desk, least(count, 100), given, answer)
-}
 
 // The entry in the bytes that were read.
 pub(crate) fn entry_read(out: &mut Buffer, bytes: &EntryBuffer) {

@@ -1,53 +1,11 @@
-// The lines of the script. It arrives in parts that end anywhere, so a line is gathered in a buffer.
+// The lines of the script, gathered part by part.
 use crate::print::Buffer;
 use crate::print::flush;
 use libc::STDIN_FILENO;
-
-// The longest line; the longest call, a load of everything, has 12,420 characters.
-pub type LineBuffer = [u8; 16384];
-
-// What was read last.
-pub type Part = [u8; 65536];
-
-// A line that has been gathered, and where the script goes on.
-pub struct Gathered {
-    // A number above the line buffer's length says that the line has more than the buffer.
-    pub length: usize,
-    // Whether a newline ended it.
-    pub whole: bool,
-    // The place behind it in the part, and how many characters the part has.
-    pub at: usize,
-    pub count: usize,
-}
-
-// Adds a character to a line of some length; the new length.
-fn keep(text: &mut LineBuffer, length: usize, byte: u8) -> usize {
-    if length < 16384 {
-        text[length] = byte;
-        return length + 1;
-    }
-    16385
-}
-
-// Adds to a line what stands in the part from the place of the last one up to the next newline.
-fn gather(part: &Part, last: Gathered, text: &mut LineBuffer, length: usize) -> Gathered {
-    let mut line = last;
-    line.length = length;
-    line.whole = false;
-    for at in last.at..last.count {
-        if 65536 <= at {
-            return line;
-        }
-        let byte = part[at];
-        line.at = at + 1;
-        if byte == b'\n' {
-            line.whole = true;
-            return line;
-        }
-        line.length = keep(text, line.length, byte);
-    }
-    line
-}
+use script::LineBuffer;
+use script::lines::Gathered;
+use script::lines::Part;
+use script::lines::gather;
 
 // Reads the next part, after what has been printed is written; how many characters came, 0 at the end of the script.
 fn next_part(part: &mut Part, out: &mut Buffer) -> usize {

@@ -1,14 +1,12 @@
 // Drives a head by a call script from standard input and prints what each call answers (docs/CALLS.md).
 mod desk;
 mod lines;
-mod load;
 mod play;
 mod print;
 mod said;
-mod script;
 mod show;
 
-use lines::Gathered;
+use script::lines::Gathered;
 use session::Session;
 
 // Owns all memory: the head's, that of the watched nodes, the desk's, and the buffers of the script and of what is printed. The script's last

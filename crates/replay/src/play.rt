@@ -2,63 +2,23 @@
 // run, the desk's buffer, the numbers of an answer.
 //
 // The check of a function costs by its statements, and most by what it lends.
-use crate::desk::Desk;
 use crate::desk::entry_read;
-use crate::desk::entry_write;
-use crate::desk::lay;
-use crate::load::EntryBuffer;
 use crate::print::Buffer;
 use crate::said::hand_out;
 use crate::said::say_answer;
-use crate::said::say_as;
 use crate::said::say_bitmap;
+use crate::said::say_unreadable;
 use crate::show::show;
 use answers::Numbers;
 use head::state::Head;
 use patterns::Given;
+use played::Desk;
+use script::EntryBuffer;
 use session::Rest;
 use session::Session;
 use session::arrange;
 use session::lent;
 use watched::nodes::NodeWords;
-
-// A node is added, or removed; how many are watched then.
-fn change(
-    head: &mut Head,
-    nodes: &mut NodeWords,
-    session: Session,
-    key: u8,
-    given: Given,
-    answer: &mut Numbers,
-) -> usize {
-    let mut count = lent(session);
-    calls::change(head, nodes, &mut count, key == b'j', given, answer);
-    if answer[0] == 0 {
-        return count;
-    }
-    session.number
-}
-
-// Makes the call of a line on a head with its memory, `queue` and `history`, and with the first `count` nodes; or the reading of a number.
-fn make(
-    key: u8,
-    given: Given,
-    bytes: &EntryBuffer,
-    head: &mut Head,
-    queue: &mut [u8; 640],
-    history: &mut [u8; 5080],
-    nodes: &mut NodeWords,
-    count: usize,
-    answer: &mut Numbers,
-) {
-    match key {
-        b'h' => calls::heard(head, nodes, count, given, answer),
-        b't' => calls::tick(head, queue, history, nodes, count, given[0], answer),
-        b'l' => calls::load(head, history, given, bytes, answer),
-        b's' | b'q' | b'k' => calls::reading(key, given[0], answer),
-        _ => calls::on_head(key, given, head, answer),
-    }
-}
 
 // The line at a place of the script; `queue` and `history` are the head's memory.
 pub(crate) fn play(
@@ -79,8 +39,7 @@ pub(crate) fn play(
     match key {
         b' ' => return session,
         b'?' => {
-            answer[0] = place;
-            say_as(out, key, answer);
+            say_unreadable(out, place);
             return session;
         }
         b'U' | b'W' | b'L' => return arrange(session, key, given, nodes, rest),
@@ -89,12 +48,7 @@ pub(crate) fn play(
             return session;
         }
         b'D' => {
-            session.desk = lay(desk, bytes, given);
-            return session;
-        }
-        b'i' => {
-            entry_write(desk, session.desk, given, answer);
-            say_answer(out, key, answer);
+            session.desk = played::lay(desk, bytes, given);
             return session;
         }
         b'r' => {
@@ -109,20 +63,9 @@ pub(crate) fn play(
             say_bitmap(out, nodes, lent(session));
             return session;
         }
-        b'j' | b'x' => {
-            let number = change(head, nodes, session, key, given, answer);
-            session.number = number;
-            say_answer(out, key, answer);
-            return session;
-        }
-        b'S' | b'T' => {
-            calls::start(head, nodes, lent(session), key == b'T', given, answer);
-            say_answer(out, key, answer);
-            session.started = session.started | (answer[0] == 0);
-            return session;
-        }
         _ => {
-            make(
+            let next = played::play(
+                session,
                 key,
                 given,
                 bytes,
@@ -130,11 +73,11 @@ pub(crate) fn play(
                 queue,
                 history,
                 nodes,
-                lent(session),
+                desk,
                 answer,
             );
             say_answer(out, key, answer);
-            return session;
+            return next;
         }
     }
 }

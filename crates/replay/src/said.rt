@@ -6,14 +6,12 @@ use crate::print::say_by;
 use crate::print::say_entry;
 use crate::print::say_form;
 use answers::Numbers;
-use bitmap::BitmapAnswer;
-use entries::status_response::FoundEntry;
 use head::state::Head;
 use watched::nodes::NodeWords;
 
 // Prints the form that a key has in the table, by the numbers of an answer in their order; the last row is that of every other key. An
 // NMT event that is a reset enters states; of another one the errors are printed.
-pub(crate) fn say_as(out: &mut Buffer, key: u8, answer: &Numbers) {
+fn say_as(out: &mut Buffer, key: u8, answer: &Numbers) {
     say_by(
         out,
         b"!(refused #)\n;\
@@ -27,7 +25,6 @@ pub(crate) fn say_as(out: &mut Buffer, key: u8, answer: &Numbers) {
         q----(taken #)\n;\
         g----(taken [lost-][kept-][open-])\n;\
         m----(taken [#][~#])\n;\
-        ?(unreadable #)\n;\
         *(taken)\n",
         key,
         answer,
@@ -37,16 +34,18 @@ pub(crate) fn say_as(out: &mut Buffer, key: u8, answer: &Numbers) {
 // The watched nodes as bits, and how many these say.
 pub(crate) fn say_bitmap(out: &mut Buffer, nodes: &NodeWords, count: usize) {
     let mut bytes = [0u8; 32];
-    match bitmap::bitmap(nodes, count, &mut bytes) {
-        BitmapAnswer::Taken(number) => {
-            say_form(out, b"(taken (nodes #)", &[number as u64]);
-            say_bits(out, &bytes);
-            return say(out, b")\n");
-        }
-        BitmapAnswer::Refused(refusal) => {
-            return say_form(out, b"(refused #)\n", &[refusal.number() as u64]);
-        }
+    let said = shown::bits(nodes, count, &mut bytes);
+    if said[0] != 0 {
+        return say_form(out, b"(refused #)\n", &said);
     }
+    say_form(out, b"(taken (nodes -#)", &said);
+    say_bits(out, &bytes);
+    say(out, b")\n")
+}
+
+// The line at a place that can't be read or played.
+pub(crate) fn say_unreadable(out: &mut Buffer, place: u64) {
+    say_form(out, b"(unreadable #)\n", &[place])
 }
 
 // Prints the answer of a line by its key.
@@ -55,16 +54,6 @@ pub(crate) fn say_answer(out: &mut Buffer, key: u8, answer: &Numbers) {
         return say_as(out, b'!', answer);
     }
     say_as(out, key, answer)
-}
-
-// Whether there is an entry, which is printed behind a space.
-pub(crate) fn say_found(out: &mut Buffer, found: FoundEntry) -> bool {
-    let mut bytes = [0u8; 20];
-    if answers::found(found, &mut bytes) {
-        say_entry(out, &bytes);
-        return true;
-    }
-    false
 }
 
 // An entry leaves the queue, and is printed.

@@ -1,14 +1,12 @@
 // The forms of a head and of the lent run.
 ghost use Prim.Native.Nat.{_≤_};
-use crate::desk::Desk;
 use crate::desk::show_desk;
 use crate::print::Buffer;
 use crate::print::say;
+use crate::print::say_entry;
 use crate::print::say_form;
-use crate::said::say_found;
-use head::parts::history_of;
-use head::parts::queue_of;
 use head::state::Head;
+use played::Desk;
 use session::Rest;
 use session::Session;
 use session::end_of;
@@ -39,22 +37,24 @@ fn show_parts(out: &mut Buffer, head: &Head) {
 
 // The entries that wait, oldest first: at most 32.
 fn show_queue(out: &mut Buffer, head: &Head, memory: &[u8; 640]) {
-    let queue = queue_of(head);
+    let mut bytes = [0u8; 20];
     'waiting: for i in 0..32usize {
-        if !say_found(out, queue.get(memory, i)) {
+        if !shown::waiting_at(head, memory, i, &mut bytes) {
             break 'waiting;
         }
+        say_entry(out, &bytes);
     }
     say(out, b")\n(history")
 }
 
 // The history's entries, newest first: at most 254.
 fn show_history(out: &mut Buffer, head: &Head, memory: &[u8; 5080]) {
-    let history = history_of(head);
+    let mut bytes = [0u8; 20];
     'past: for i in 0..254usize {
-        if !say_found(out, history.get(memory, i)) {
+        if !shown::past_at(head, memory, i, &mut bytes) {
             break 'past;
         }
+        say_entry(out, &bytes);
     }
     say(out, b")\n(watched")
 }

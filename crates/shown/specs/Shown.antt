@@ -82,3 +82,8 @@ entryShown e =
 abbrev pub replyShown : Reply ErrorEntry → List ℕ
 replyShown (Reply.turnedAway n) = replicate 8 0
 replyShown (Reply.gives e) = entryShown e
+
+-- of the watched nodes as bits: the number that turned them away, or 0, and the number of nodes
+abbrev pub bitsShown : Reply ℕ → List ℕ
+bitsShown (Reply.turnedAway n) = n ∷ 0 ∷ []
+bitsShown (Reply.gives n) = 0 ∷ n ∷ []

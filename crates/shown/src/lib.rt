@@ -1,18 +1,27 @@
 // The numbers that a head shows, in the order of their lines, and those of an entry. specs/Shown.antt says which.
 ghost use mathlib.Core.Path.{_≡_};
-ghost use Rattle.head.specs.Words.{one, headOf};
+ghost use Rattle.head.specs.Words.{one, queueOf, historyOf, headOf};
 ghost use Rattle.entries.specs.Desk.{readReply};
-ghost use Rattle.shown.specs.Shown.{deadlineNumber, objectNumber, machinesShown, countersShown, socShown, dictionaryShown, partsShown, crossingsShown, thresholdsShown, entryShown, replyShown};
+ghost use Rattle.entries.specs.Ring.{nth};
+ghost use Rattle.entries.specs.Queue.{waiting};
+ghost use Rattle.entries.specs.History.{history};
+ghost use Rattle.watched.specs.Watched.{watchedOf};
+ghost use Rattle.watched.specs.Nodes.{nodesOf};
+ghost use Rattle.bitmap.specs.Bitmap.{bitmapReply, bytesAfter};
+ghost use Rattle.answers.specs.Numbers.{isFound, bytesOf};
+ghost use Rattle.shown.specs.Shown.{deadlineNumber, objectNumber, machinesShown, countersShown, socShown, dictionaryShown, partsShown, crossingsShown, thresholdsShown, entryShown, replyShown, bitsShown};
 
 pub mod marks;
 
 use answers::NOTHING;
+use bitmap::BitmapAnswer;
 use entries::desk::ErrorEntryRead;
 use entries::desk::read_at;
 use entries::status_response::ErrorEntry;
 use head::parts::dll_of;
 use head::parts::earliest_of;
 use head::parts::errors_of;
+use head::parts::history_of;
 use head::parts::nmt_of;
 use head::parts::od_of;
 use head::parts::queue_of;
@@ -20,6 +29,7 @@ use head::parts::soc_of;
 use head::state::Deadline;
 use head::state::Head;
 use head::state::ObjectValue;
+use watched::nodes::NodeWords;
 
 fn one(x: bool) -> u64
     ensures { λ r. ⌜ r ≡ one x ⌝ }
@@ -231,5 +241,31 @@ pub fn entry(bytes: &[u8]) -> [u64; 8]
     match read_at(bytes, 0) {
         ErrorEntryRead::Taken(entry) => return entry_numbers(entry),
         ErrorEntryRead::Refused(_) => return [0; 8],
+    }
+}
+
+// Whether an entry waits at a place, the oldest at 0; its bytes.
+pub fn waiting_at(head: &Head, queue: &[u8; 640], place: usize, bytes: &mut [u8; 20]) -> bool
+    ensures { λ r. ⌜ (one r ≡ isFound (nth (waiting (now (queue .entry)) (queueOf (now (head .entry)))) place)) × (now (bytes .exit) ≡ bytesOf (nth (waiting (now (queue .entry)) (queueOf (now (head .entry)))) place)) ⌝ }
+{
+    let ring = queue_of(head);
+    answers::found(ring.get(queue, place), bytes)
+}
+
+// Whether the history has an entry at a place, the newest at 0; its bytes.
+pub fn past_at(head: &Head, past: &[u8; 5080], place: usize, bytes: &mut [u8; 20]) -> bool
+    ensures { λ r. ⌜ (one r ≡ isFound (nth (history (now (past .entry)) (historyOf (now (head .entry)))) place)) × (now (bytes .exit) ≡ bytesOf (nth (history (now (past .entry)) (historyOf (now (head .entry)))) place)) ⌝ }
+{
+    let ring = history_of(head);
+    answers::found(ring.get(past, place), bytes)
+}
+
+// The watched nodes as bits: the number of the refusal, or 0, and how many nodes the bits say.
+pub fn bits(nodes: &NodeWords, count: usize, bytes: &mut [u8; 32]) -> [u64; 2]
+    ensures { λ r. ⌜ (r ≡ bitsShown (bitmapReply (watchedOf (nodesOf (now (nodes .entry))) count))) × (now (bytes .exit) ≡ bytesAfter (watchedOf (nodesOf (now (nodes .entry))) count) (now (bytes .entry))) ⌝ }
+{
+    match bitmap::bitmap(nodes, count, bytes) {
+        BitmapAnswer::Taken(number) => return [0, number as u64],
+        BitmapAnswer::Refused(refusal) => return [refusal.number() as u64, 0],
     }
 }

@@ -6,10 +6,10 @@ use Rattle.replay.proofs.show.show_history.Statement.{statement}
 use Rattle.replay.proofs.show.show_history.Tie as tie
 
 abbrev Inv-past : tie.InvT-past
-Inv-past out₀ head memory history i₀ t6 out i = Unit
+Inv-past out₀ head memory bytes₀ i₀ t6 out bytes i = Unit
 
 abbrev μ-past : tie.MeasureT-past
-μ-past out₀ head memory history i₀ t6 out i = 254 - i
+μ-past out₀ head memory bytes₀ i₀ t6 out bytes i = 254 - i
 
 pub show-history-spec : {M : Type 1} → statement M
 show-history-spec =
@@ -17,7 +17,6 @@ show-history-spec =
     (tie.spec
     Inv-past
     μ-past
-    (λ c κs. search needs)
     (λ c. search needs)
     (λ c κs. search needs)
     (λ c κs. search needs)

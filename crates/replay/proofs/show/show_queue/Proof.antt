@@ -6,10 +6,10 @@ use Rattle.replay.proofs.show.show_queue.Statement.{statement}
 use Rattle.replay.proofs.show.show_queue.Tie as tie
 
 abbrev Inv-waiting : tie.InvT-waiting
-Inv-waiting out₀ head memory queue i₀ t6 out i = Unit
+Inv-waiting out₀ head memory bytes₀ i₀ t6 out bytes i = Unit
 
 abbrev μ-waiting : tie.MeasureT-waiting
-μ-waiting out₀ head memory queue i₀ t6 out i = 32 - i
+μ-waiting out₀ head memory bytes₀ i₀ t6 out bytes i = 32 - i
 
 pub show-queue-spec : {M : Type 1} → statement M
 show-queue-spec =
@@ -17,7 +17,6 @@ show-queue-spec =
     (tie.spec
     Inv-waiting
     μ-waiting
-    (λ c κs. search needs)
     (λ c. search needs)
     (λ c κs. search needs)
     (λ c κs. search needs)
