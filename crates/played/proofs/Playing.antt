@@ -3,7 +3,7 @@
 use Prim.Native.Nat.{ℕ, suc, _+_, _-_, _≤_, _<_, min}
 use mathlib.Core.Path.{_≡_, sym, ap, _∙_}
 use mathlib.Core.Bool.{Bool}
-use mathlib.Core.List.{List, [], _∷_, _++_}
+use mathlib.Core.List.{List, _++_}
 use native.Mathlib.Numerals.{add-one, unary-clauses}
 use native.Mathlib.Omega.{arith}
 use lib.ListN.{length, getD, set, take, drop}
@@ -17,7 +17,7 @@ use Rattle.session.specs.declared.Session.{Session}
 use Rattle.session.specs.Session.{lentNumber}
 use Rattle.calls.specs.Values.{at, byteOf, entryOf}
 use Rattle.calls.specs.Calls.{changeCall, Makes, Starts, writeNumbers}
-use Rattle.played.specs.Played.{startedBy, numberedBy, Changes, frontWritten, Plays, heard, tick, entrywrite}
+use Rattle.played.specs.Played.{numberedBy, Changes, frontWritten, Plays, heard, tick, entrywrite}
 
 module _ (d s run : List ℕ) (i : ℕ) (so-far : run ≡ take i s ++ drop i d) where
   pub copy-goes : i < length d → i < length s → set run i (getD s i 0) ≡ take (i + 1) s ++ drop (i + 1) d

@@ -9,26 +9,9 @@ use answers::Numbers;
 use head::state::Head;
 use watched::nodes::NodeWords;
 
-// Prints the form that a key has in the table, by the numbers of an answer in their order; the last row is that of every other key. An
-// NMT event that is a reset enters states; of another one the errors are printed.
+// Prints the form that a key has, by the numbers of an answer in their order.
 fn say_as(out: &mut Buffer, key: u8, answer: &Numbers) {
-    say_by(
-        out,
-        b"!(refused #)\n;\
-        c---(taken (cleared #))\n;\
-        n----(taken{ (errors}[ (entered[ %][ %][ %][ %][ %]) (restore[ (@ @)][ (@ @)][ (@ @)]][ (#[ %][ #])][ (#[ %][ #])]))\n;\
-        d---------------(taken (errors[ (#[ %][ #])][ (#[ %][ #])]))\n;\
-        t---------------(taken (logged[ (#[ %][ #])][ (#[ %][ #])]))\n;\
-        e--(taken (action #) (signal #)----------- (logged[ (#[ %][ #])][ (#[ %][ #])]))\n;\
-        s----(taken %)\n;\
-        k----(taken %)\n;\
-        q----(taken #)\n;\
-        g----(taken [lost-][kept-][open-])\n;\
-        m----(taken [#][~#])\n;\
-        *(taken)\n",
-        key,
-        answer,
-    )
+    say_by(out, &shown::forms::answers(), key, answer)
 }
 
 // The watched nodes as bits, and how many these say.

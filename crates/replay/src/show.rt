@@ -16,23 +16,7 @@ use watched::nodes::NodeWords;
 
 // The machines, the counters, the watch over the cycle, the dictionary and the capacity of the queue.
 fn show_parts(out: &mut Buffer, head: &Head) {
-    say_form(
-        out,
-        b"(nmt (state %) (enabled #) (ready #) (node #) (flags #) (timeout #))\n\
-        (dll #)\n\
-        (collision (level #) (cumulative #))\n\
-        (loss_of_soc (level #) (cumulative #))\n\
-        (loss_of_soa (level #) (cumulative #))\n\
-        (loss_of_preq (level #) (cumulative #))\n\
-        (soc_jitter (level #) (cumulative #))\n\
-        (crc_errors (level #) (cumulative #))\n\
-        (heartbeat_timeout (level #) (cumulative #))\n\
-        (loss_of_link #)\n\
-        (soc (last #) (check #) (deadline {none}[#]) (status_changed #))\n\
-        (dictionary (register #) (cycle {missing}[#]) (tolerance {missing}[#]) (c1 #) (c2 #) (c3 #) (c5 #))\n\
-        (queue (capacity #)",
-        &shown::parts(head),
-    )
+    say_form(out, &shown::forms::parts(), &shown::parts(head))
 }
 
 // The entries that wait, oldest first: at most 32.

@@ -1,7 +1,7 @@
 -- Each turn of the walks over a table, over digits and over entries, and each way in which a value is named.
 -- Assumes nothing.
 use Prim.Native.Nat.{ℕ, zero, suc, _+_, _-_, _*_, _≤_, _<_}
-use mathlib.Core.Path.{_≡_, refl, sym, ap, _∙_}
+use mathlib.Core.Path.{_≡_, refl, ap}
 use mathlib.Core.Bool.{Bool, true, false}
 use mathlib.Core.List.{List, [], _∷_}
 use native.Mathlib.Numerals.{add-one, unary-clauses}
@@ -12,7 +12,7 @@ use borrow.Author.Tests.{lt-ltb, le-ltb, eq-eqb, ne-eqb}
 use Rattle.bytes.specs.Bytes.{indexOf, slice}
 use Rattle.patterns.specs.Patterns.{digitOf, unreadable, kept, Matched, matched, matchAt}
 use Rattle.session.specs.Session.{noLine}
-use Rattle.script.specs.Script.{Says, says, keyBy, Got, got, bytesAt, entriesAt, value}
+use Rattle.script.specs.Script.{codes, says, keyBy, got, bytesAt, entriesAt, value, values}
 
 -- what is left of a table gives the same as the whole
 pub record Left (rows line g₀ g : List ℕ) (from : ℕ) : Type 0 where
@@ -113,6 +113,16 @@ module _ (row line : List ℕ) (place at : ℕ) (g : List ℕ) (end : ℕ) (g′
   unfolding value
   value-named h = rw (← reads, ne-eqb end unreadable h)
 
--- a value behind another
-pub next : (row line : List ℕ) (place : ℕ) {x m m′ : Matched} → x ≡ value row line place m → m ≡ m′ → x ≡ value row line place m′
-next row line place e f = e ∙ ap (value row line place) f
+-- the seven values, one behind another
+pub values-read :
+    (line : List ℕ) (m₀ m₁ m₂ m₃ m₄ m₅ m₆ m₇ : Matched) →
+    m₁ ≡ value (codes " register B") line 0 m₀ →
+    m₂ ≡ value (codes " cycle O") line 1 m₁ →
+    m₃ ≡ value (codes " tolerance O") line 2 m₂ →
+    m₄ ≡ value (codes " c1 W") line 3 m₃ →
+    m₅ ≡ value (codes " c2 W") line 4 m₄ →
+    m₆ ≡ value (codes " c3 W") line 5 m₅ →
+    m₇ ≡ value (codes " c5 W") line 6 m₆ →
+    m₇ ≡ values line m₀
+unfolding values
+values-read line m₀ m₁ m₂ m₃ m₄ m₅ m₆ m₇ e₁ e₂ e₃ e₄ e₅ e₆ e₇ = rw (e₇, e₆, e₅, e₄, e₃, e₂, e₁)

@@ -11,6 +11,7 @@ ghost use Rattle.bitmap.specs.Bitmap.{bitmapReply, bytesAfter};
 ghost use Rattle.answers.specs.Numbers.{isFound, bytesOf};
 ghost use Rattle.shown.specs.Shown.{deadlineNumber, objectNumber, machinesShown, countersShown, socShown, dictionaryShown, partsShown, crossingsShown, thresholdsShown, entryShown, replyShown, bitsShown};
 
+pub mod forms;
 pub mod marks;
 
 use answers::NOTHING;

@@ -1,7 +1,6 @@
 -- `played::numbered` meets its contract: by the test.
 -- Assumes nothing.
 use borrow.Author.Tests.{eq-eqb, ne-eqb}
-use borrow.Author.Needs.{needs}
 use Rattle.played.proofs.numbered.Statement.{statement}
 use Rattle.played.proofs.numbered.Tie as tie
 

@@ -1,7 +1,6 @@
 -- `played::started` meets its contract: by the test.
 -- Assumes nothing.
 use borrow.Author.Tests.{eq-eqb, ne-eqb}
-use borrow.Author.Needs.{needs}
 use Rattle.played.proofs.started.Statement.{statement}
 use Rattle.played.proofs.started.Tie as tie
 

@@ -2,7 +2,7 @@
 -- Assumes nothing.
 use Prim.Native.Nat.{ℕ}
 use mathlib.Core.Path.{sym, ap, _∙_}
-use mathlib.Core.List.{List, [], _∷_}
+use mathlib.Core.List.{[], _∷_}
 use Rattle.bitmap.specs.Bitmap.{bitmapSaid}
 use Rattle.shown.specs.Shown.{bitsShown}
 use borrow.Author.Needs.{needs}
