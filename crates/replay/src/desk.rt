@@ -1,11 +1,11 @@
 // What is printed of the desk's buffer and of an entry.
 ghost use Prim.Native.Nat.{_≤_};
 ghost use lib.ListN.{length};
-use crate::print::Buffer;
-use crate::print::say;
-use crate::print::say_bytes;
-use crate::print::say_form;
 use played::Desk;
+use printed::Buffer;
+use printed::say;
+use printed::say_bytes;
+use printed::say_form;
 use script::EntryBuffer;
 use session::least;
 

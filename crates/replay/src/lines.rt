@@ -1,7 +1,7 @@
 // The lines of the script, gathered part by part.
-use crate::print::Buffer;
-use crate::print::flush;
 use libc::STDIN_FILENO;
+use printed::Buffer;
+use printed::flush;
 use script::LineBuffer;
 use script::lines::Gathered;
 use script::lines::Part;

@@ -2,7 +2,6 @@
 mod desk;
 mod lines;
 mod play;
-mod print;
 mod said;
 mod show;
 
@@ -59,5 +58,5 @@ fn main() {
             break 'script;
         }
     }
-    print::flush(&mut out);
+    printed::flush(&mut out);
 }

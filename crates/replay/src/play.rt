@@ -3,7 +3,6 @@
 //
 // The check of a function costs by its statements, and most by what it lends.
 use crate::desk::entry_read;
-use crate::print::Buffer;
 use crate::said::hand_out;
 use crate::said::say_answer;
 use crate::said::say_bitmap;
@@ -13,6 +12,7 @@ use answers::Numbers;
 use head::state::Head;
 use patterns::Given;
 use played::Desk;
+use printed::Buffer;
 use script::EntryBuffer;
 use session::Rest;
 use session::Session;

@@ -1,12 +1,12 @@
 // What is printed of answers.
-use crate::print::Buffer;
-use crate::print::say;
-use crate::print::say_bits;
-use crate::print::say_by;
-use crate::print::say_entry;
-use crate::print::say_form;
 use answers::Numbers;
 use head::state::Head;
+use printed::Buffer;
+use printed::say;
+use printed::say_bits;
+use printed::say_by;
+use printed::say_entry;
+use printed::say_form;
 use watched::nodes::NodeWords;
 
 // Prints the form that a key has, by the numbers of an answer in their order.

@@ -1,12 +1,12 @@
 // The forms of a head and of the lent run.
 ghost use Prim.Native.Nat.{_≤_};
 use crate::desk::show_desk;
-use crate::print::Buffer;
-use crate::print::say;
-use crate::print::say_entry;
-use crate::print::say_form;
 use head::state::Head;
 use played::Desk;
+use printed::Buffer;
+use printed::say;
+use printed::say_entry;
+use printed::say_form;
 use session::Rest;
 use session::Session;
 use session::end_of;

@@ -1,4 +1,4 @@
-// The two long forms; `marks` says how their characters go with numbers.
+// The two long forms; `printed` says how their characters go with numbers.
 ghost use mathlib.Core.Path.{_≡_};
 ghost use Rattle.shown.specs.Forms.{answersForm, partsForm};
 

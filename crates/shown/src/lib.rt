@@ -12,7 +12,6 @@ ghost use Rattle.answers.specs.Numbers.{isFound, bytesOf};
 ghost use Rattle.shown.specs.Shown.{deadlineNumber, objectNumber, machinesShown, countersShown, socShown, dictionaryShown, partsShown, crossingsShown, thresholdsShown, entryShown, replyShown, bitsShown};
 
 pub mod forms;
-pub mod marks;
 
 use answers::NOTHING;
 use bitmap::BitmapAnswer;
