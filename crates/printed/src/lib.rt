@@ -1,7 +1,6 @@
 // What is printed gathers in a buffer, which is written when it is full and whenever the program flushes it. The contracts say the bytes that gather, and
 // where the next one goes. That the gathered bytes then reach standard output no contract can say: they are handed to `io::write_all`.
 ghost use mathlib.Core.Path.{_≡_};
-ghost use mathlib.Core.List.{[], _∷_};
 ghost use Rattle.forms.specs.Hex.{hexDigits};
 ghost use Rattle.printed.specs.Printed.{placeOf, placed, putIn, laid, decimal, isSilent, markText, shownText, formText, isRow, rowText, bytesText};
 

@@ -2,7 +2,6 @@
 -- Assumes nothing.
 use Prim.Native.Nat.{_-_}
 use mathlib.Core.Path.{_≡_, refl, _∙_}
-use native.Mathlib.Omega.{arith}
 use lib.ListN.{drop}
 use denote.Ref.{now}
 use borrow.Author.Needs.{needs}
