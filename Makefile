@@ -45,7 +45,7 @@ test:
 	@cmp docs/TRANSITIONS.md crates/chart/stdout
 	@echo "Checking the script that replay is run on."
 	@compare/joined.sh --check
-	@echo "Proving every crate, trying the must-fail edits, running the programs (40 minutes on two cores); behind it, silent where all is"
+	@echo "Proving every crate, trying the must-fail edits, running the programs (40 minutes or more on two cores); behind it, silent where all is"
 	@echo "as expected, the program of shift totals on stored and generated inputs, and the page on the watch beside what replay prints."
 	@rt ci
 	@tests/shiftreport.py >target/shift.log || { cat target/shift.log; exit 1; }
