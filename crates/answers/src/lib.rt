@@ -1,5 +1,7 @@
 // What a call answers, as numbers in memory that the caller lends: for a program that prints them, and for a caller that has
 // no enums. specs/Numbers.antt says what stands where.
+#![tactic(auto)]
+
 ghost use Rattle.std.specs.Prelude.{◌≡◌, ◌≤◌};
 ghost use Rattle.types.specs.Refusals.{refusal_number};
 ghost use Rattle.types.specs.States.{state_number};
@@ -41,7 +43,7 @@ const FIRST_ERROR: usize = 15;
 const SECOND_ERROR: usize = 18;
 
 // What an error carries beside its kind.
-#[derive(Drop)]
+#[derive(Clone, Copy)]
 pub struct Carried {
     // The state that an unexpected event met.
     pub state: u64,

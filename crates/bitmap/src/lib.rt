@@ -1,4 +1,6 @@
 // The watched nodes as 32 bytes (document 02, No. 1): node n is bit n mod 8 of byte n div 8, lowest bit first.
+#![tactic(auto)]
+
 ghost use Rattle.std.specs.Prelude.{◌≡◌, true, ◌≤◌, ◌%◌, ◌^◌, length};
 ghost use Rattle.std.specs.Int.Bits.{bit_or};
 ghost use Rattle.std.specs.Int.Count.{ones};
@@ -9,7 +11,7 @@ ghost use Rattle.bitmap.specs.Bitmap.{bytes_of, ones_of, bitmap_said, bitmap_rep
 use types::refusals::Refusal;
 use watched::nodes::{NodeWords, well_formed};
 
-#[derive(Drop)]
+#[derive(Clone, Copy)]
 pub enum BitmapAnswer {
     // How many nodes the bits say.
     Taken(u32),

@@ -32,7 +32,6 @@ use Rattle.node.specs.Refines.{plain, Refines, left, history_update}
 use Rattle.node.specs.InPlace.{said}
 use Rattle.start.specs.Started.{StartedIn}
 use Rattle.answers.specs.Numbers.{numbers_of}
-use Rattle.patterns.specs.Patterns.{kept}
 use Rattle.calls.specs.Values.{at, byte_of, word_of, dictionary_of, thresholds_of, updates_of}
 use Rattle.calls.specs.Calls.{head_call, load_call, change_call, Makes, Starts, state_numbers, command_numbers, kind_numbers, reading_numbers, write_numbers}
 

@@ -1,4 +1,6 @@
 // The calls of a script (docs/CALLS.md): each is made with the numbers of its line, and its answer is written as numbers.
+#![tactic(auto)]
+
 ghost use Rattle.std.specs.Prelude.{◌≡◌, Bool, List, ℕ, min, length};
 ghost use Rattle.types.specs.States.{read_state};
 ghost use Rattle.types.specs.Events.{read_command};

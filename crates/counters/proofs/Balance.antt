@@ -8,7 +8,7 @@ use mathlib.Core.List.{List, [], ◌∷◌, ◌++◌}
 use native.Mathlib.Nat.{mul-add}
 use native.Mathlib.Omega.{arith}
 use borrow.Author.Tests.{ltb-true, ltb-false, leb-true, leb-false, eq-eqb}
-use lib.Dec.{leb, ltb, lit<, lit≤}
+use lib.Dec.{leb, ltb}
 use Rattle.types.specs.Pick.{pick, both}
 use Rattle.types.specs.declared.frame.error.types.DllError.{DllError}
 use Rattle.counters.specs.Counters.{counter_kinds, place, same_kind, counter, replaced, top, new_counters, threshold_for, incremented, decremented, reaches, after_check, after_error, active, lowered, counted_error, link_lost, Effect, counts, loses_link, is_logged, nothing, effect, handled_as, handled, completed}

@@ -5,7 +5,7 @@ ghost use Rattle.counters.specs.Counters.{add_top, new_counter, incremented, dec
 use types::frame::error::types::{DllError, DllErrors, NmtAction};
 
 // A level that an error raises by 8 and an error-free cycle lowers by 1, and its threshold.
-#[derive(Drop)]
+#[derive(Clone, Copy)]
 pub struct ThresholdCounter {
     // How many errors there were.
     pub cumulative_cnt: u32,
@@ -16,7 +16,7 @@ pub struct ThresholdCounter {
 }
 
 // A counter after its check.
-#[derive(Drop)]
+#[derive(Clone, Copy)]
 pub struct ThresholdCheck {
     pub counter: ThresholdCounter,
     pub reached: bool,
@@ -102,7 +102,7 @@ impl ThresholdCounter {
 }
 
 // The kinds of error that have a threshold counter, in the order of the counters.
-#[derive(Drop)]
+#[derive(Clone, Copy)]
 pub enum CounterKind {
     Collision,
     LossOfSoc,
@@ -114,7 +114,7 @@ pub enum CounterKind {
 }
 
 // What an error does to the counters.
-#[derive(Drop)]
+#[derive(Clone, Copy)]
 pub enum ErrorEffect {
     Counts(CounterKind),
     LosesLink,
@@ -141,7 +141,7 @@ pub fn effect_of(error: DllError) -> ErrorEffect
 }
 
 // The thresholds of the seven counters, in their order. One of 0 is never reached.
-#[derive(Drop)]
+#[derive(Clone, Copy)]
 pub struct Thresholds {
     pub collision: u32,
     pub loss_of_soc: u32,
@@ -182,7 +182,7 @@ impl Thresholds {
 }
 
 // The DLL error counters of a controlled node.
-#[derive(Drop)]
+#[derive(Clone, Copy)]
 pub struct CnErrorCounters {
     pub collision: ThresholdCounter,
     pub loss_of_soc: ThresholdCounter,
@@ -196,7 +196,7 @@ pub struct CnErrorCounters {
 }
 
 // The answer to an error: what NMT is asked for, whether the error status changed, and what goes to the handler.
-#[derive(Drop)]
+#[derive(Clone, Copy)]
 pub struct HandledError {
     pub counters: CnErrorCounters,
     pub action: NmtAction,
@@ -205,7 +205,7 @@ pub struct HandledError {
 }
 
 // The answer to a completed cycle: whether it cleared the last level.
-#[derive(Drop)]
+#[derive(Clone, Copy)]
 pub struct CompletedCycle {
     pub counters: CnErrorCounters,
     pub cleared: bool,

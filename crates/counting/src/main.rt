@@ -1,74 +1,77 @@
 // The error counters at a sequence of errors and completed cycles: the answer to each call, with the levels, the counts of errors
 // and of crossings after it, one form a line. The stored output was printed by the Rust (compare/), so a run shows that both agree.
+#![tactic(auto)]
+
 ghost use Rattle.std.specs.Prelude.{◌≡◌, ◌+◌, ◌*◌, ◌%◌};
 ghost use Rattle.counting.specs.Shown.{levels_of, counts_of, crossings_of};
 
 use counters::counters::{CnErrorCounters, HandledError, Thresholds};
-use libc::STDOUT_FILENO;
+use forms::output::Output;
+use std::io;
 use types::frame::error::types::{DllError, DllErrorRead, DllErrors, NmtAction};
 use types::types::NodeId;
 
-fn say(text: &[u8]) {
-    io::write_all(STDOUT_FILENO, text);
+fn say(out: &mut Output, text: &[u8]) {
+    out.write(text);
 }
 
-fn say_number(n: u64) {
-    io::print_decimal(STDOUT_FILENO, n);
+fn say_number(out: &mut Output, n: u64) {
+    out.write_number(n);
 }
 
-fn say_flag(on: bool) {
+fn say_flag(out: &mut Output, on: bool) {
     if on {
-        say(b"1");
+        say(out, b"1");
     } else {
-        say(b"0");
+        say(out, b"0");
     }
 }
 
 // A number of a list, behind a space.
-fn say_item(n: u32) {
-    say(b" ");
-    say_number(n as u64);
+fn say_item(out: &mut Output, n: u32) {
+    say(out, b" ");
+    say_number(out, n as u64);
 }
 
-fn say_node(node: NodeId) {
-    say_item(node.0 as u32);
+fn say_node(out: &mut Output, node: NodeId) {
+    say_item(out, node.0 as u32);
 }
 
 // An error's kind, with the node that it carries. Of the kinds that carry something the counters log these three.
-fn say_error(error: DllError) {
-    say(b" (");
-    say_number(error.kind() as u64);
+fn say_error(out: &mut Output, error: DllError) {
+    say(out, b" (");
+    say_number(out, error.kind() as u64);
     match error {
-        DllError::PdoMapVersion { node_id } => say_node(node_id),
-        DllError::PdoPayloadShort { node_id } => say_node(node_id),
-        DllError::HeartbeatTimeout { node_id } => say_node(node_id),
+        DllError::PdoMapVersion { node_id } => say_node(out, node_id),
+        DllError::PdoPayloadShort { node_id } => say_node(out, node_id),
+        DllError::HeartbeatTimeout { node_id } => say_node(out, node_id),
         _ => {}
     }
-    say(b")");
+    say(out, b")");
 }
 
-fn say_logged(logged: DllErrors) {
+fn say_logged(out: &mut Output, logged: DllErrors) {
     match logged {
         DllErrors::None => {}
-        DllErrors::One(a) => say_error(a),
+        DllErrors::One(a) => say_error(out, a),
         DllErrors::Two(a, b) => {
-            say_error(a);
-            say_error(b);
+            say_error(out, a);
+            say_error(out, b);
         }
     }
 }
 
-fn say_action(action: NmtAction) {
+fn say_action(out: &mut Output, action: NmtAction) {
     match action {
-        NmtAction::None => say(b"0"),
-        NmtAction::ResetCommunication => say(b"1"),
-        NmtAction::ResetNode(_) => say(b"2"),
+        NmtAction::None => say(out, b"0"),
+        NmtAction::ResetCommunication => say(out, b"1"),
+        NmtAction::ResetNode(_) => say(out, b"2"),
     }
 }
 
-fn say_each(numbers: [u32; 7]) {
+fn say_each(out: &mut Output, numbers: [u32; 7]) {
     for i in 0..7usize {
-        say_item(numbers[i]);
+        say_item(out, numbers[i]);
     }
 }
 
@@ -114,58 +117,58 @@ fn crossings(c: CnErrorCounters) -> [u32; 7]
     ]
 }
 
-fn say_counters(counters: CnErrorCounters) {
-    say(b" (levels");
-    say_each(levels(counters));
-    say(b") (counts");
-    say_each(counts(counters));
-    say(b") (crossings");
-    say_each(crossings(counters));
-    say(b") (links ");
-    say_number(counters.loss_of_link_cumulative as u64);
-    say(b"))\n");
+fn say_counters(out: &mut Output, counters: CnErrorCounters) {
+    say(out, b" (levels");
+    say_each(out, levels(counters));
+    say(out, b") (counts");
+    say_each(out, counts(counters));
+    say(out, b") (crossings");
+    say_each(out, crossings(counters));
+    say(out, b") (links ");
+    say_number(out, counters.loss_of_link_cumulative as u64);
+    say(out, b"))\n");
 }
 
-fn say_answer(answer: HandledError) {
+fn say_answer(out: &mut Output, answer: HandledError) {
     let action = answer.action;
     let logged = answer.logged;
-    say(b" (action ");
-    say_action(action);
-    say(b") (signal ");
-    say_flag(answer.signal);
-    say(b") (logged");
-    say_logged(logged);
-    say(b")");
+    say(out, b" (action ");
+    say_action(out, action);
+    say(out, b") (signal ");
+    say_flag(out, answer.signal);
+    say(out, b") (logged");
+    say_logged(out, logged);
+    say(out, b")");
 }
 
-fn print_error(counters: CnErrorCounters, error: DllError) -> CnErrorCounters {
-    say(b"(error ");
-    say_number(error.kind() as u64);
+fn print_error(out: &mut Output, counters: CnErrorCounters, error: DllError) -> CnErrorCounters {
+    say(out, b"(error ");
+    say_number(out, error.kind() as u64);
     let answer = counters.handle_error(error);
-    say_answer(answer);
+    say_answer(out, answer);
     let after = answer.counters;
-    say_counters(after);
+    say_counters(out, after);
     after
 }
 
-fn print_cycle(counters: CnErrorCounters) -> CnErrorCounters {
+fn print_cycle(out: &mut Output, counters: CnErrorCounters) -> CnErrorCounters {
     let answer = counters.on_cycle_complete();
-    say(b"(cycle (cleared ");
-    say_flag(answer.cleared);
-    say(b")");
+    say(out, b"(cycle (cleared ");
+    say_flag(out, answer.cleared);
+    say(out, b")");
     let after = answer.counters;
-    say_counters(after);
+    say_counters(out, after);
     after
 }
 
 // A number below 22 is an error of that kind; a third of the calls complete a cycle, so that levels both cross the threshold and
 // come down to 0.
-fn print_call(counters: CnErrorCounters, number: u64) -> CnErrorCounters {
+fn print_call(out: &mut Output, counters: CnErrorCounters, number: u64) -> CnErrorCounters {
     // Kind 18, UnexpectedEventInState, carries a state and an event, others a node or nothing.
     let carried = if number == 18 { 0x6D } else { 17 };
     match DllError::try_from(number, carried, 2) {
-        DllErrorRead::Taken(error) => print_error(counters, error),
-        DllErrorRead::Refused(_) => print_cycle(counters),
+        DllErrorRead::Taken(error) => print_error(out, counters, error),
+        DllErrorRead::Refused(_) => print_cycle(out, counters),
     }
 }
 
@@ -176,11 +179,14 @@ fn next(x: u64) -> u64
     (x % 2147483648 * 1103515245 + 12345) % 2147483648
 }
 
-fn main() {
+fn main(rt: HostRuntime) -> io::Result<()> {
+    let mut output = Output::new(rt.stdout());
+    let out = &mut output;
     let mut counters = CnErrorCounters::new(Thresholds::same_for_all(15));
     let mut x = 1;
     for _ in 0..2000usize {
         x = next(x);
-        counters = print_call(counters, x / 65536 % 32);
+        counters = print_call(out, counters, x / 65536 % 32);
     }
+    output.end()
 }

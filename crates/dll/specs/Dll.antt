@@ -1,7 +1,7 @@
 -- What a DLL event does in each state of the cycle: 24 pairs, and the NMT states in which they hold. The transitions' names are DS 301's
 -- (Section 4.2.4.5).
 -- Assumes nothing.
-use Rattle.std.specs.Prelude.{ℕ, List, [], ◌∷◌, Bool, true, false}
+use Rattle.std.specs.Prelude.{ℕ, List, [], ◌∷◌, Bool}
 use Rattle.types.specs.Pick.{pick, either}
 use Rattle.types.specs.States.{same_state}
 use Rattle.types.specs.CsEvents.{cs_event_number}

@@ -6,7 +6,7 @@ use types::frame::cs_state_machine::DllCsEvent;
 use types::frame::error::types::{DllError, DllErrors};
 use types::nmt::states::NmtState;
 
-#[derive(Drop)]
+#[derive(Clone, Copy)]
 pub enum DllCsState {
     // The isochronous communication is not active.
     NonCyclic,
@@ -29,19 +29,19 @@ impl DllCsState {
     }
 }
 
-#[derive(Drop)]
+#[derive(Clone, Copy)]
 pub struct DllCsStateMachine {
     pub state: DllCsState,
 }
 
-#[derive(Drop)]
+#[derive(Clone, Copy)]
 pub struct DllAnswer {
     pub machine: DllCsStateMachine,
     pub errors: DllErrors,
 }
 
 // The next state, and the errors to report.
-#[derive(Drop)]
+#[derive(Clone, Copy)]
 struct Next(DllCsState, DllErrors);
 
 fn non_cyclic(event: DllCsEvent) -> Next

@@ -1,10 +1,9 @@
--- From what a call ensures, over the lists that it was lent, to the call as it was made. Where a list lies says nothing: any place serves.
+-- From what a call ensures, over the lists that it was lent, to the call as it was made.
 -- Assumes nothing.
 use Prim.Native.Nat.{ℕ}
 use mathlib.Core.Path.{◌≡◌}
 use mathlib.Core.Bool.{Bool}
-use mathlib.Core.List.{List, []}
-use denote.Ref.{Bor}
+use mathlib.Core.List.{List}
 use Rattle.types.specs.Events.{read_event}
 use Rattle.types.specs.CsEvents.{read_cs_event}
 use Rattle.types.specs.Errors.{read_error}
@@ -30,99 +29,89 @@ use Rattle.node.specs.Loaded.{LoadedIn}
 use Rattle.partners.specs.Partners.{Added, Removed}
 use Rattle.trace.specs.Driven.{Made, says, says_only}
 
--- a list, or a number, that is lent
-abbrev pub lying : {A : Type 0} → A → Bor A
-lying l = record { ref_ptr = (0, 0); now = l }
-
 module _ {ws ws' : List ℕ} (q m ns : List ℕ) (k : ℕ) where
   pub made_nmt :
       (n : ℕ) (r : NmtEventAnswer) →
       InPlace ws (Call.nmt_event n) (nmt_said r) ws' (nmt_words ws (read_event n)) →
       Made ws q m ns k (Call.nmt_event n) (says_only (nmt_said r)) ws' q m ns k
-  made_nmt n r e = Made.nmt_event ([], tt) (lying ws, (n, tt)) r (lying ws', (n, tt)) e
+  made_nmt n r e = Made.nmt_event n r e
 
   pub made_dll :
       (n : ℕ) (b : Bool) (r : DllEventAnswer) →
       InPlace ws (Call.dll_event n b) (dll_said r) ws' (dll_words ws b (read_cs_event n)) →
       Made ws q m ns k (Call.dll_event n b) (says_only (dll_said r)) ws' q m ns k
-  made_dll n b r e = Made.dll_event ([], tt) (lying ws, (n, (b, tt))) r (lying ws', (n, (b, tt))) e
+  made_dll n b r e = Made.dll_event n b r e
 
   pub made_error :
       (n a b : ℕ) (r : ErrorAnswer) →
       InPlace ws (Call.error n a b) (error_said r) ws' (error_words ws (read_error n a b)) →
       Made ws q m ns k (Call.error n a b) (says_only (error_said r)) ws' q m ns k
-  made_error n a b r e = Made.error ([], tt) (lying ws, (n, (a, (b, tt)))) r (lying ws', (n, (a, (b, tt)))) e
+  made_error n a b r e = Made.error n a b r e
 
   pub made_cycle :
       (r : Bool) →
       InPlace ws Call.cycle_complete (cycle_answer r) ws' (cycle_words ws) →
       Made ws q m ns k Call.cycle_complete (says_only (cycle_answer r)) ws' q m ns k
-  made_cycle r e = Made.cycle_complete ([], tt) (lying ws, tt) r (lying ws', tt) e
+  made_cycle r e = Made.cycle_complete r e
 
   pub made_withdraw :
       (r : CallAnswer) →
       InPlace ws Call.withdraw (said r) ws' (withdraw_words ws) →
       Made ws q m ns k Call.withdraw (says_only (said r)) ws' q m ns k
-  made_withdraw r e = Made.withdraw ([], tt) (lying ws, tt) r (lying ws', tt) e
+  made_withdraw r e = Made.withdraw r e
 
   pub made_arm :
       (t : ℕ) (r : CallAnswer) →
       InPlace ws (Call.arm t) (said r) ws' (arm_words ws t) →
       Made ws q m ns k (Call.arm t) (says_only (said r)) ws' q m ns k
-  made_arm t r e = Made.arm ([], tt) (lying ws, (t, tt)) r (lying ws', (t, tt)) e
+  made_arm t r e = Made.arm t r e
 
   pub made_hand_out :
       (r : FoundEntry) →
       ((h : List ℕ) → Refines (head_of ws) q h Call.hand_out (left (head_of ws') (hand_out_answer r)) q h no_run) × (ws' ≡ hand_out_words ws q) →
       Made ws q m ns k Call.hand_out (says_only (hand_out_answer r)) ws' q m ns k
-  made_hand_out r e = Made.hand_out ([], ([], tt)) (lying ws, (lying q, tt)) r (lying ws', (lying q, tt)) e
+  made_hand_out r e = Made.hand_out r e
 
   pub made_load :
       {m' : List ℕ} (u : DictionaryUpdate) (named : Bool) (s : List ℕ) →
       LoadedIn ws m u named s ws' m' →
       Made ws q m ns k (Call.load u (history_update named s)) (says_only taken) ws' q m' ns k
-  made_load {m'} u named s e =
-      Made.load ([], ([], ([], tt))) (lying ws, (lying m, (u, (named, (lying s, tt))))) tt (lying ws', (lying m', (u, (named, (lying s, tt))))) e
+  made_load u named s e = Made.load u named s e
 
   pub made_tick :
       {q' m' ns' : List ℕ} (t : ℕ) (r : TickAnswer) →
       TickedIn ws q m ns k t r ws' q' m' ns' →
       Made ws q m ns k (Call.tick t (run (nodes_of ns) k)) (says (tick_said r) (run (nodes_of ns') k)) ws' q' m' ns' k
-  made_tick {q'} {m'} {ns'} t r e =
-      Made.tick ([], ([], ([], ([], tt)))) (lying ws, (lying q, (lying m, (lying ns, (k, (t, tt)))))) r
-      (lying ws', (lying q', (lying m', (lying ns', (k, (t, tt)))))) e
+  made_tick t r e = Made.tick t r e
 
 module _ {ws ns ws' ns' : List ℕ} (q m : List ℕ) where
   pub made_heard :
       (k n t : ℕ) (r : CallAnswer) →
       Heard ws ns k n t r ws' ns' →
       Made ws q m ns k (Call.heard n t (run (nodes_of ns) k)) (says (said r) (run (nodes_of ns') k)) ws' q m ns' k
-  made_heard k n t r e =
-      Made.heard ([], ([], tt)) (lying ws, (lying ns, (k, (n, (t, tt))))) r (lying ws', (lying ns', (k, (n, (t, tt))))) e
+  made_heard k n t r e = Made.heard n t r e
 
   pub made_add :
       {k k' : ℕ} (n o : ℕ) (r : CallAnswer) →
       Added ws ns k n o r ws' ns' k' →
       Made ws q m ns k (Call.add n o (run (nodes_of ns) k)) (says (said r) (run (nodes_of ns') k')) ws' q m ns' k'
-  made_add {k} {k'} n o r e =
-      Made.add ([], ([], ([], tt))) (lying ws, (lying ns, (lying k, (n, (o, tt))))) r (lying ws', (lying ns', (lying k', (n, (o, tt))))) e
+  made_add n o r e = Made.add n o r e
 
   pub made_remove :
       {k k' : ℕ} (n : ℕ) (r : CallAnswer) →
       Removed ws ns k n r ws' ns' k' →
       Made ws q m ns k (Call.remove n (run (nodes_of ns) k)) (says (said r) (run (nodes_of ns') k')) ws' q m ns' k'
-  made_remove {k} {k'} n r e =
-      Made.remove ([], ([], ([], tt))) (lying ws, (lying ns, (lying k, (n, tt)))) r (lying ws', (lying ns', (lying k', (n, tt)))) e
+  made_remove n r e = Made.remove n r e
 
 module _ {ws : List ℕ} (q m ns : List ℕ) (k : ℕ) where
   pub made_range :
       (a b : ℕ) (r : RangeAnswer) →
       Reading ws (Call.range a b) (range_said r) →
       Made ws q m ns k (Call.range a b) (says_only (range_said r)) ws q m ns k
-  made_range a b r e = Made.range ([], tt) (lying ws, (a, (b, tt))) r (lying ws, (a, (b, tt))) e
+  made_range a b r e = Made.range a b r e
 
   pub made_margin :
       (t : ℕ) (r : MarginAnswer) →
       Reading ws (Call.margin t) (margin_said r) →
       Made ws q m ns k (Call.margin t) (says_only (margin_said r)) ws q m ns k
-  made_margin t r e = Made.margin ([], tt) (lying ws, (t, tt)) r (lying ws, (t, tt)) e
+  made_margin t r e = Made.margin t r e

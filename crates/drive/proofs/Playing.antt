@@ -76,7 +76,7 @@ module _ (script bytes : List ℕ) (k₀ : ℕ) (x : Lent) (n : ℕ) where
       }
 
   one_more_lem :
-      {ws ns q m out ws' q' m' ns' out' : List ℕ} {k made i : ℕ} {p : Counts} →
+      {ws ns q m out : List ℕ} {k made i : ℕ} {ws' q' m' ns' out' : List ℕ} {p : Counts} →
       Going script bytes k₀ x n ws ns q m out k made i →
       i < n →
       Plays (row_at script i) bytes ws q m ns k out made ws' q' m' ns' out' p →

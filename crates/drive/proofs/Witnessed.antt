@@ -2,7 +2,7 @@
 -- Assumes nothing.
 use Prim.Native.Nat.{ℕ}
 use mathlib.Core.Path.{◌≡◌, subst}
-use mathlib.Core.List.{List, []}
+use mathlib.Core.List.{List}
 use Rattle.types.specs.declared.refusals.Refusal.{Refusal}
 use Rattle.types.specs.declared.nmt.flags.FeatureFlags.{FeatureFlags}
 use Rattle.counters.specs.declared.counters.Thresholds.{Thresholds}
@@ -18,13 +18,12 @@ use Rattle.node.specs.declared.calls.CallAnswer.TheVariants as answer
 use Rattle.trace.specs.Claim.{Claim}
 use Rattle.trace.specs.Driven.{Began, Driven, stop}
 use Rattle.drive.specs.Script.{Played, Lent, lent, Ran, Replayed}
-use Rattle.drive.proofs.Making.{lying}
 use Rattle.trace.proofs.Driven.{and_then, demand_3}
 use Rattle.drive.proofs.drive.Reads as drive-reads
 
 -- rows that were played are a list of calls
 pub played_driven :
-    {script bytes ws₀ q₀ m₀ ns₀ ws q m ns : List ℕ} {k₀ i k : ℕ} {cs : List Call} {ss : List Said} →
+    {script bytes ws₀ q₀ m₀ ns₀ : List ℕ} {k₀ : ℕ} {ws q m ns : List ℕ} {i k : ℕ} {cs : List Call} {ss : List Said} →
     Played script bytes ws₀ q₀ m₀ ns₀ k₀ i cs ss ws q m ns k →
     Driven ws₀ q₀ m₀ cs ss ws q m
 played_driven Played.none = stop
@@ -37,8 +36,7 @@ pub ran_claims :
     Claim (start_of n f t c o ts (run (nodes_of x.nodes) k)) r.rows.calls r.rows.says (head_of x'.head) x'.queue x'.history
 ran_claims {k} {n} {t} {c} {f} {o} {ts} {x = x} r =
     demand_3
-    (Began.start ([], ([], tt)) (lying x.head, (lying x.nodes, (k, (n, (f, (t, (c, (o, (ts, tt))))))))) answer.Taken
-    (lying r.words, (lying r.nodes, (k, (n, (f, (t, (c, (o, (ts, tt))))))))) r.started)
+    (Began.start n f t c o ts answer.Taken r.started)
     (played_driven r.rows.played)
 
 -- κs: the lifetimes; a: the arguments; o: what is returned; x: what is lent, as it is left

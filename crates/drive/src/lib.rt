@@ -1,5 +1,7 @@
 // The witness of demand 3: `drive` plays any list of calls from a script of numbers, through the real functions, and the claim holds of the calls that it
 // made (proofs/Witnessed.antt).
+#![tactic(auto)]
+
 ghost use Rattle.std.specs.Prelude.{◌≡◌, List, ℕ, ◌+◌, ◌*◌, ◌<◌, ltb, length, set};
 ghost use Rattle.types.specs.Pick.{pick};
 ghost use Rattle.watched.specs.Watched.{run};
@@ -24,7 +26,7 @@ use types::nmt::flags::FeatureFlags;
 use watched::nodes::NodeWords;
 
 // A row of a script: which call, and its arguments; of tag 10, a watched node that is lent next.
-#[derive(Drop)]
+#[derive(Clone, Copy)]
 pub struct Row {
     pub tag: u64,
     pub a: u64,
@@ -40,7 +42,7 @@ pub struct Row {
 }
 
 // How many nodes are watched, and how many calls were made: so far go the numbers in `out`.
-#[derive(Drop)]
+#[derive(Clone, Copy)]
 pub struct Counts {
     pub watched: usize,
     pub made: usize,

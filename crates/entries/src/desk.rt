@@ -7,13 +7,13 @@ use crate::place;
 use crate::status_response::ErrorEntry;
 use types::refusals::Refusal;
 
-#[derive(Drop)]
+#[derive(Clone, Copy)]
 pub enum ErrorEntryWrite {
     Taken,
     Refused(Refusal),
 }
 
-#[derive(Drop)]
+#[derive(Clone, Copy)]
 pub enum ErrorEntryRead {
     Taken(ErrorEntry),
     Refused(Refusal),

@@ -8,20 +8,20 @@ use crate::status_response::{ErrorEntry, FoundEntry};
 
 // Where the entries stand: the place of the oldest, how many wait, and how many may. Every value is a queue: a place
 // is read modulo 32, and a number above 32 as 32.
-#[derive(Drop)]
+#[derive(Clone, Copy)]
 pub struct EmergencyQueue {
     pub oldest: u8,
     pub length: u8,
     pub capacity: u8,
 }
 
-#[derive(Drop)]
+#[derive(Clone, Copy)]
 pub struct Pushed {
     pub queue: EmergencyQueue,
     pub kept: bool,
 }
 
-#[derive(Drop)]
+#[derive(Clone, Copy)]
 pub struct HandedOut {
     pub queue: EmergencyQueue,
     pub entry: FoundEntry,

@@ -7,7 +7,7 @@ use types::common::NetTime;
 use types::frame::error::types::DllError;
 use types::refusals::Refusal;
 
-#[derive(Drop)]
+#[derive(Clone, Copy)]
 pub enum ErrorEntryMode {
     Terminator,
     ErrorActive,
@@ -15,7 +15,7 @@ pub enum ErrorEntryMode {
     EventOccurred,
 }
 
-#[derive(Drop)]
+#[derive(Clone, Copy)]
 pub enum ErrorEntryModeRead {
     Taken(ErrorEntryMode),
     Refused(Refusal),
@@ -56,7 +56,7 @@ impl ErrorEntryMode {
     }
 }
 
-#[derive(Drop)]
+#[derive(Clone, Copy)]
 pub struct EntryType {
     // A status entry, or one of the history.
     pub is_status_entry: bool,
@@ -98,7 +98,7 @@ impl EntryType {
     }
 }
 
-#[derive(Drop)]
+#[derive(Clone, Copy)]
 pub struct ErrorEntry {
     pub entry_type: EntryType,
     pub error_code: u16,
@@ -107,7 +107,7 @@ pub struct ErrorEntry {
 }
 
 // An entry, or none.
-#[derive(Drop)]
+#[derive(Clone, Copy)]
 pub enum FoundEntry {
     Entry(ErrorEntry),
     None,

@@ -15,7 +15,7 @@ use tick::tick::TickAnswer;
 use types::frame::error::types::{DllError, DllErrors, NmtAction};
 
 // The errors that an example states.
-#[derive(Drop)]
+#[derive(Clone, Copy)]
 pub enum Stated {
     Nothing,
     // In a state, at an event.

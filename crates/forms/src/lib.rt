@@ -1,6 +1,13 @@
-// Numbers as the programs print them. A program's output can't be in a contract; the bytes that it writes can.
+// Numbers as the programs print them, and where a program prints. A program's output can't be in a contract; the bytes that it writes can.
+#![tactic(auto)]
+
 ghost use Rattle.std.specs.Prelude.{◌≡◌, ◌%◌};
 ghost use Rattle.forms.specs.Hex.{glyph, hex_form};
+
+pub mod find;
+pub mod output;
+#[cfg(test)]
+mod tests;
 
 // The last hexadecimal digit of n, in capitals.
 fn digit(n: u64) -> u8

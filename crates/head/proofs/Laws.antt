@@ -26,7 +26,7 @@ use Rattle.head.specs.declared.state.Object.TheVariants.{CycleTime, Tolerance}
 use Rattle.head.specs.declared.state.Statistic.{Statistic}
 use Rattle.head.specs.declared.state.Statistic.TheVariants.{Counter1, Counter2, Counter3, Counter5}
 use Rattle.head.specs.declared.state.Deadline.TheVariants.{At, Nothing}
-use Rattle.head.specs.Head.{forgetting, Head, soc_watch, with_register, with_object, with_statistic, with_nmt_lem, with_dll_lem, with_errors_lem, with_soc_lem, with_values, with_od_lem, with_queue_lem, with_earliest_lem}
+use Rattle.head.specs.Head.{forgetting, Head, soc_watch, with_register, with_object, with_statistic, head_with_nmt, head_with_dll, head_with_errors, head_with_soc, head_with_values, head_with_od, head_with_queue, head_with_earliest}
 use Rattle.head.specs.Places as at
 use Rattle.head.specs.Words.{word, yes, one, time_of, state_of, nmt_of, dll_state, counter_at, errors_of, deadline_of, head_of}
 use Rattle.head.specs.Written.{forgotten_written, nmt_written, counter_written, levels_written, earliest_written, soc_written, queue_written, object_written, history_written}
@@ -58,62 +58,62 @@ time_back t = omega arith
 abbrev NmtRead : ℕ → ℕ → ℕ → List ℕ → Type 0
 NmtRead s e r ws =
     head_of (set (set (set ws at.state s) at.enabled e) at.ready r)
-    ≡ with_nmt_lem (head_of ws) (Nmt.with (nmt_of ws) (state_of s) (yes e) (yes r))
+    ≡ head_with_nmt (head_of ws) (Nmt.with (nmt_of ws) (state_of s) (yes e) (yes r))
 
 abbrev ReadyRead : ℕ → List ℕ → Type 0
 ReadyRead r ws =
-    head_of (set ws at.ready r) ≡ with_nmt_lem (head_of ws) (Nmt.with (nmt_of ws) (nmt_of ws).current_state (nmt_of ws).ready_to_operate_enabled (yes r))
+    head_of (set ws at.ready r) ≡ head_with_nmt (head_of ws) (Nmt.with (nmt_of ws) (nmt_of ws).current_state (nmt_of ws).ready_to_operate_enabled (yes r))
 
 abbrev DllRead : ℕ → List ℕ → Type 0
-DllRead n ws = head_of (set ws at.dll n) ≡ with_dll_lem (head_of ws) (record { state = dll_state n })
+DllRead n ws = head_of (set ws at.dll n) ≡ head_with_dll (head_of ws) (record { state = dll_state n })
 
 abbrev CounterRead : CounterKind → ℕ → ℕ → ℕ → List ℕ → Type 0
 CounterRead k n l x ws =
     head_of (set (set (set ws (at.counter k) n) (at.counter k + 1) l) (at.counter k + 3) x)
-    ≡ with_errors_lem (head_of ws) (replaced k (counter_of n l (counter_at ws (at.counter k)).threshold x) (errors_of ws))
+    ≡ head_with_errors (head_of ws) (replaced k (counter_of n l (counter_at ws (at.counter k)).threshold x) (errors_of ws))
 
 abbrev LinksRead : ℕ → List ℕ → Type 0
-LinksRead n ws = head_of (set ws at.links n) ≡ with_errors_lem (head_of ws) (by_kind (λ (k : CounterKind). counter k (errors_of ws)) n)
+LinksRead n ws = head_of (set ws at.links n) ≡ head_with_errors (head_of ws) (by_kind (λ (k : CounterKind). counter k (errors_of ws)) n)
 
 abbrev SocRead : ℕ → ℕ → ℕ → ℕ → ℕ → ℕ → ℕ → List ℕ → Type 0
 SocRead l h c g d a b ws =
     head_of (set (set (set (set (set (set (set ws at.last_soc l) (at.last_soc + 1) h) at.check c) at.changed g) at.due d) at.deadline a) (at.deadline + 1) b)
-    ≡ with_soc_lem (head_of ws) (soc_watch (time_of l h) (yes c) (deadline_of (yes d) (time_of a b)) (yes g))
+    ≡ head_with_soc (head_of ws) (soc_watch (time_of l h) (yes c) (deadline_of (yes d) (time_of a b)) (yes g))
 
 abbrev NoDeadlineRead : ℕ → ℕ → ℕ → ℕ → List ℕ → Type 0
 NoDeadlineRead l h c g ws =
     head_of (set (set (set (set (set ws at.last_soc l) (at.last_soc + 1) h) at.check c) at.changed g) at.due 0)
-    ≡ with_soc_lem (head_of ws) (soc_watch (time_of l h) (yes c) Nothing (yes g))
+    ≡ head_with_soc (head_of ws) (soc_watch (time_of l h) (yes c) Nothing (yes g))
 
 abbrev QueueRead : ℕ → ℕ → List ℕ → Type 0
 QueueRead o n ws =
-    head_of (set (set ws at.oldest o) at.queued n) ≡ with_queue_lem (head_of ws) (queue (o % 256) (n % 256) (word ws at.capacity % 256))
+    head_of (set (set ws at.oldest o) at.queued n) ≡ head_with_queue (head_of ws) (queue (o % 256) (n % 256) (word ws at.capacity % 256))
 
 abbrev RegisterRead : ℕ → List ℕ → Type 0
-RegisterRead n ws = head_of (set ws at.register n) ≡ with_od_lem (head_of ws) (with_register (n % 256) (head_of ws).od)
+RegisterRead n ws = head_of (set ws at.register n) ≡ head_with_od (head_of ws) (with_register (n % 256) (head_of ws).od)
 
 abbrev ObjectRead : Object → ObjectValue → List ℕ → Type 0
-ObjectRead o v ws = head_of (object_written ws (at.object o) v) ≡ with_od_lem (head_of ws) (with_object o v (head_of ws).od)
+ObjectRead o v ws = head_of (object_written ws (at.object o) v) ≡ head_with_od (head_of ws) (with_object o v (head_of ws).od)
 
 abbrev StatisticRead : Statistic → ℕ → List ℕ → Type 0
-StatisticRead s n ws = head_of (set ws (at.statistic s) n) ≡ with_od_lem (head_of ws) (with_statistic s n (head_of ws).od)
+StatisticRead s n ws = head_of (set ws (at.statistic s) n) ≡ head_with_od (head_of ws) (with_statistic s n (head_of ws).od)
 
 abbrev HistoryRead : ℕ → ℕ → List ℕ → Type 0
 HistoryRead a b ws =
-    head_of (set (set ws at.newest a) at.count b) ≡ with_values (head_of ws) (head_of ws).od (error_history (a % 256) (b % 256))
+    head_of (set (set ws at.newest a) at.count b) ≡ head_with_values (head_of ws) (head_of ws).od (error_history (a % 256) (b % 256))
 
 abbrev EarliestRead : ℕ → ℕ → ℕ → List ℕ → Type 0
 EarliestRead d a b ws =
-    head_of (set (set (set ws at.awaited d) at.earliest a) (at.earliest + 1) b) ≡ with_earliest_lem (head_of ws) (deadline_of (yes d) (time_of a b))
+    head_of (set (set (set ws at.awaited d) at.earliest a) (at.earliest + 1) b) ≡ head_with_earliest (head_of ws) (deadline_of (yes d) (time_of a b))
 
 abbrev NoEarliestRead : List ℕ → Type 0
-NoEarliestRead ws = head_of (set ws at.awaited 0) ≡ with_earliest_lem (head_of ws) Nothing
+NoEarliestRead ws = head_of (set ws at.awaited 0) ≡ head_with_earliest (head_of ws) Nothing
 
 -- the watch with its status changed, and the register and counter 5 replaced
 abbrev pub with_signal : Head → ℕ → ℕ → Head
 with_signal h r n =
-    with_values
-    (with_soc_lem h (soc_watch h.soc.last_soc_reception_time_us h.soc.soc_timeout_check_active h.soc.next_tick_us true))
+    head_with_values
+    (head_with_soc h (soc_watch h.soc.last_soc_reception_time_us h.soc.soc_timeout_check_active h.soc.next_tick_us true))
     (record {
       error_register = r;
       cycle_time = h.od.cycle_time;
@@ -140,11 +140,11 @@ module _ (ws : List ℕ) (long : length ws ≡ 60) where
   pub nmt_written_lem :
       (m : CnNmtStateMachine) →
       m ≡ Nmt.with (nmt_of ws) m.current_state m.ready_to_operate_enabled m.app_ready →
-      head_of (nmt_written ws m) ≡ with_nmt_lem (head_of ws) m
+      head_of (nmt_written ws m) ≡ head_with_nmt (head_of ws) m
   nmt_written_lem m kept =
       nmt_read _ _ _ ∙
-      (λ i. with_nmt_lem (head_of ws) (Nmt.with (nmt_of ws) (state_back m.current_state i) (yes_one m.ready_to_operate_enabled i) (yes_one m.app_ready i)))
-      ∙ ap (with_nmt_lem (head_of ws)) (sym kept)
+      (λ i. head_with_nmt (head_of ws) (Nmt.with (nmt_of ws) (state_back m.current_state i) (yes_one m.ready_to_operate_enabled i) (yes_one m.app_ready i)))
+      ∙ ap (head_with_nmt (head_of ws)) (sym kept)
 
   pub ready_written : (r : ℕ) → ReadyRead r ws
   unfolding head_of
@@ -154,8 +154,8 @@ module _ (ws : List ℕ) (long : length ws ≡ 60) where
   unfolding head_of
   dll_read n = whole (DllRead n) ws long refl
 
-  pub dll_written : (s : DllCsState) → head_of (set ws at.dll (cs_state_number s)) ≡ with_dll_lem (head_of ws) (record { state = s })
-  dll_written s = dll_read (cs_state_number s) ∙ (λ i. with_dll_lem (head_of ws) (record { state = dll_back s i }))
+  pub dll_written : (s : DllCsState) → head_of (set ws at.dll (cs_state_number s)) ≡ head_with_dll (head_of ws) (record { state = s })
+  dll_written s = dll_read (cs_state_number s) ∙ (λ i. head_with_dll (head_of ws) (record { state = dll_back s i }))
 
   counter_read : (k : CounterKind) (n l x : ℕ) → CounterRead k n l x ws
   unfolding head_of replaced
@@ -171,19 +171,19 @@ module _ (ws : List ℕ) (long : length ws ≡ 60) where
   pub counter_written_lem :
       (k : CounterKind) (c : ThresholdCounter) →
       c.threshold ≡ (counter_at ws (at.counter k)).threshold →
-      head_of (counter_written ws k c) ≡ with_errors_lem (head_of ws) (replaced k c (errors_of ws))
+      head_of (counter_written ws k c) ≡ head_with_errors (head_of ws) (replaced k c (errors_of ws))
   counter_written_lem k c kept =
       counter_read k c.cumulative_cnt c.threshold_cnt c.crossings_cnt
-      ∙ (λ i. with_errors_lem (head_of ws) (replaced k (counter_of c.cumulative_cnt c.threshold_cnt (sym kept i) c.crossings_cnt) (errors_of ws)))
+      ∙ (λ i. head_with_errors (head_of ws) (replaced k (counter_of c.cumulative_cnt c.threshold_cnt (sym kept i) c.crossings_cnt) (errors_of ws)))
 
   pub links_written : (n : ℕ) → LinksRead n ws
   unfolding head_of
   links_written n = whole (LinksRead n) ws long refl
 
-  pub levels_written_lem : head_of (levels_written ws (lowered (errors_of ws))) ≡ with_errors_lem (head_of ws) (lowered (errors_of ws))
+  pub levels_written_lem : head_of (levels_written ws (lowered (errors_of ws))) ≡ head_with_errors (head_of ws) (lowered (errors_of ws))
   unfolding head_of lowered
   levels_written_lem =
-      whole (λ (ws : List ℕ). head_of (levels_written ws (lowered (errors_of ws))) ≡ with_errors_lem (head_of ws) (lowered (errors_of ws))) ws long refl
+      whole (λ (ws : List ℕ). head_of (levels_written ws (lowered (errors_of ws))) ≡ head_with_errors (head_of ws) (lowered (errors_of ws))) ws long refl
 
   soc_read : (l h c g d a b : ℕ) → SocRead l h c g d a b ws
   unfolding head_of
@@ -194,12 +194,12 @@ module _ (ws : List ℕ) (long : length ws ≡ 60) where
   no_deadline_read l h c g = whole (NoDeadlineRead l h c g) ws long refl
 
   -- any watch
-  pub soc_written_lem : (l : ℕ) (on : Bool) (d : Deadline) (changed : Bool) → head_of (soc_written ws (soc_watch l on d changed)) ≡ with_soc_lem (head_of ws) (soc_watch l on d changed)
+  pub soc_written_lem : (l : ℕ) (on : Bool) (d : Deadline) (changed : Bool) → head_of (soc_written ws (soc_watch l on d changed)) ≡ head_with_soc (head_of ws) (soc_watch l on d changed)
   soc_written_lem l on (At t) changed =
       soc_read _ _ _ _ 1 _ _
-      ∙ (λ i. with_soc_lem (head_of ws) (soc_watch (time_back l i) (yes_one on i) (At (time_back t i)) (yes_one changed i)))
+      ∙ (λ i. head_with_soc (head_of ws) (soc_watch (time_back l i) (yes_one on i) (At (time_back t i)) (yes_one changed i)))
   soc_written_lem l on Nothing changed =
-      no_deadline_read _ _ _ _ ∙ (λ i. with_soc_lem (head_of ws) (soc_watch (time_back l i) (yes_one on i) Nothing (yes_one changed i)))
+      no_deadline_read _ _ _ _ ∙ (λ i. head_with_soc (head_of ws) (soc_watch (time_back l i) (yes_one on i) Nothing (yes_one changed i)))
 
   pub forgotten_written_lem : head_of (forgotten_written ws) ≡ forgetting (head_of ws)
   unfolding head_of
@@ -215,11 +215,11 @@ module _ (ws : List ℕ) (long : length ws ≡ 60) where
       q.oldest < 256 →
       q.length < 256 →
       q.capacity ≡ word ws at.capacity % 256 →
-      head_of (queue_written ws q) ≡ with_queue_lem (head_of ws) q
+      head_of (queue_written ws q) ≡ head_with_queue (head_of ws) q
   queue_written_lem q a b kept =
       let o : q.oldest % 256 ≡ q.oldest = omega arith in
       let n : q.length % 256 ≡ q.length = omega arith in
-      queue_read q.oldest q.length ∙ (λ i. with_queue_lem (head_of ws) (queue (o i) (n i) (sym kept i)))
+      queue_read q.oldest q.length ∙ (λ i. head_with_queue (head_of ws) (queue (o i) (n i) (sym kept i)))
 
   pub signal_written : (r n : ℕ) → SignalRead r n ws
   unfolding head_of
@@ -233,10 +233,10 @@ module _ (ws : List ℕ) (long : length ws ≡ 60) where
   unfolding head_of
   register_read n = whole (RegisterRead n) ws long refl
 
-  pub register_written : (n : ℕ) → n ≤ 255 → head_of (set ws at.register n) ≡ with_od_lem (head_of ws) (with_register n (head_of ws).od)
+  pub register_written : (n : ℕ) → n ≤ 255 → head_of (set ws at.register n) ≡ head_with_od (head_of ws) (with_register n (head_of ws).od)
   register_written n h =
       let e : n % 256 ≡ n = omega arith in
-      register_read n ∙ ap (λ (n : ℕ). with_od_lem (head_of ws) (with_register n (head_of ws).od)) e
+      register_read n ∙ ap (λ (n : ℕ). head_with_od (head_of ws) (with_register n (head_of ws).od)) e
 
   pub object_written_lem : (o : Object) (v : ObjectValue) → ObjectRead o v ws
   unfolding head_of
@@ -257,11 +257,11 @@ module _ (ws : List ℕ) (long : length ws ≡ 60) where
   history_read a b = whole (HistoryRead a b) ws long refl
 
   pub history_written_lem :
-      (h : ErrorHistory) → h.newest < 256 → h.count < 256 → head_of (history_written ws h) ≡ with_values (head_of ws) (head_of ws).od h
+      (h : ErrorHistory) → h.newest < 256 → h.count < 256 → head_of (history_written ws h) ≡ head_with_values (head_of ws) (head_of ws).od h
   history_written_lem h a b =
       let n : h.newest % 256 ≡ h.newest = omega arith in
       let c : h.count % 256 ≡ h.count = omega arith in
-      history_read h.newest h.count ∙ (λ i. with_values (head_of ws) (head_of ws).od (error_history (n i) (c i)))
+      history_read h.newest h.count ∙ (λ i. head_with_values (head_of ws) (head_of ws).od (error_history (n i) (c i)))
 
   earliest_read : (d a b : ℕ) → EarliestRead d a b ws
   unfolding head_of
@@ -271,6 +271,6 @@ module _ (ws : List ℕ) (long : length ws ≡ 60) where
   unfolding head_of
   no_earliest_read = whole NoEarliestRead ws long refl
 
-  pub earliest_written_lem : (d : Deadline) → head_of (earliest_written ws d) ≡ with_earliest_lem (head_of ws) d
-  earliest_written_lem (At t) = earliest_read 1 _ _ ∙ (λ i. with_earliest_lem (head_of ws) (At (time_back t i)))
+  pub earliest_written_lem : (d : Deadline) → head_of (earliest_written ws d) ≡ head_with_earliest (head_of ws) d
+  earliest_written_lem (At t) = earliest_read 1 _ _ ∙ (λ i. head_with_earliest (head_of ws) (At (time_back t i)))
   earliest_written_lem Nothing = no_earliest_read

@@ -90,30 +90,30 @@ forgotten s = soc_watch s.last_soc_reception_time_us false Nothing s.error_statu
 
 -- the head with one of its parts replaced
 module _ (h : Head) where
-  abbrev pub with_nmt_lem : CnNmtStateMachine → Head
-  with_nmt_lem n = of_parts n h.dll h.errors h.soc h.od h.queue h.history h.earliest
+  abbrev pub head_with_nmt : CnNmtStateMachine → Head
+  head_with_nmt n = of_parts n h.dll h.errors h.soc h.od h.queue h.history h.earliest
 
-  abbrev pub with_dll_lem : DllCsStateMachine → Head
-  with_dll_lem d = of_parts h.nmt d h.errors h.soc h.od h.queue h.history h.earliest
+  abbrev pub head_with_dll : DllCsStateMachine → Head
+  head_with_dll d = of_parts h.nmt d h.errors h.soc h.od h.queue h.history h.earliest
 
   -- what a reset forgets: the DLL state too
   abbrev pub forgetting : Head
   forgetting = of_parts h.nmt (record { state = NonCyclic }) h.errors (forgotten h.soc) h.od h.queue h.history h.earliest
 
-  abbrev pub with_errors_lem : CnErrorCounters → Head
-  with_errors_lem e = of_parts h.nmt h.dll e h.soc h.od h.queue h.history h.earliest
+  abbrev pub head_with_errors : CnErrorCounters → Head
+  head_with_errors e = of_parts h.nmt h.dll e h.soc h.od h.queue h.history h.earliest
 
-  abbrev pub with_soc_lem : SocWatch → Head
-  with_soc_lem s = of_parts h.nmt h.dll h.errors s h.od h.queue h.history h.earliest
+  abbrev pub head_with_soc : SocWatch → Head
+  head_with_soc s = of_parts h.nmt h.dll h.errors s h.od h.queue h.history h.earliest
 
-  abbrev pub with_values : Dictionary → ErrorHistory → Head
-  with_values o k = of_parts h.nmt h.dll h.errors h.soc o h.queue k h.earliest
+  abbrev pub head_with_values : Dictionary → ErrorHistory → Head
+  head_with_values o k = of_parts h.nmt h.dll h.errors h.soc o h.queue k h.earliest
 
-  abbrev pub with_od_lem : Dictionary → Head
-  with_od_lem o = with_values o h.history
+  abbrev pub head_with_od : Dictionary → Head
+  head_with_od o = head_with_values o h.history
 
-  abbrev pub with_queue_lem : EmergencyQueue → Head
-  with_queue_lem q = of_parts h.nmt h.dll h.errors h.soc h.od q h.history h.earliest
+  abbrev pub head_with_queue : EmergencyQueue → Head
+  head_with_queue q = of_parts h.nmt h.dll h.errors h.soc h.od q h.history h.earliest
 
-  abbrev pub with_earliest_lem : Deadline → Head
-  with_earliest_lem d = of_parts h.nmt h.dll h.errors h.soc h.od h.queue h.history d
+  abbrev pub head_with_earliest : Deadline → Head
+  head_with_earliest d = of_parts h.nmt h.dll h.errors h.soc h.od h.queue h.history d

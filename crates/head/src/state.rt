@@ -4,21 +4,21 @@
 pub type Head = [u32; 60];
 
 // A moment in microseconds, or nothing.
-#[derive(Drop)]
+#[derive(Clone, Copy)]
 pub enum Deadline {
     At(u64),
     Nothing,
 }
 
 // A 32-bit value of the dictionary, or that the object is missing.
-#[derive(Drop)]
+#[derive(Clone, Copy)]
 pub enum ObjectValue {
     Unsigned32(u32),
     Missing,
 }
 
 // The watch over the cycle.
-#[derive(Drop)]
+#[derive(Clone, Copy)]
 pub struct SocWatch {
     pub last_soc_reception_time_us: u64,
     pub soc_timeout_check_active: bool,
@@ -27,7 +27,7 @@ pub struct SocWatch {
 }
 
 // The dictionary values that a head keeps.
-#[derive(Drop)]
+#[derive(Clone, Copy)]
 pub struct Dictionary {
     // 0x1001
     pub error_register: u8,
@@ -43,14 +43,14 @@ pub struct Dictionary {
 }
 
 // The objects of the dictionary that may be missing.
-#[derive(Drop)]
+#[derive(Clone, Copy)]
 pub enum Object {
     CycleTime,
     Tolerance,
 }
 
 // The counters of 0x1102 that a head keeps.
-#[derive(Drop)]
+#[derive(Clone, Copy)]
 pub enum Statistic {
     Counter1,
     Counter2,

@@ -11,7 +11,7 @@ use Rattle.types.specs.declared.frame.error.types.DllErrors.{DllErrors}
 use Rattle.types.specs.declared.frame.error.types.DllErrors.TheVariants as errors
 use Rattle.counters.specs.Counters.{effect, handled}
 use Rattle.counters.specs.declared.counters.HandledError.{HandledError}
-use Rattle.head.specs.Head.{Head, with_errors_lem}
+use Rattle.head.specs.Head.{Head, head_with_errors}
 use Rattle.watched.specs.declared.nodes.WatchedNode.{WatchedNode}
 use Rattle.watched.specs.Watched.{in_time, all_of, fits, well_formed, no_node, heard_now, watched_node, watched_of, Run, watching, changing}
 use Rattle.node.specs.Tick.{is_late, looked, late_ones, acts, signalled, timeout_of, beat, beat_all}
@@ -233,7 +233,7 @@ module _ (ws : List ℕ) (long : length ws ≡ 60) (n : ℕ) (r : ErrorTaken) (e
     there : ws₁ ≡ E
     there = e₁ ∙ ap (λ (n : ℕ). effect_words ws (effect (HeartbeatTimeout (node n)))) (sym x)
 
-    counted : head_of ws₁ ≡ with_errors_lem (head_of ws) R.counters
+    counted : head_of ws₁ ≡ head_with_errors (head_of ws) R.counters
     unfolding handled
     counted = ap head_of there ∙ effect_written ws long (effect (timeout_of w)) (timeout_of w)
 

@@ -1,7 +1,7 @@
 -- The heartbeats of the tick, over plain variables: the look at the watched nodes, and the walk over the late ones.
 -- Assumes nothing.
-use Rattle.std.proofs.Common.{◌≡◌, ℕ, ◌+◌, ◌-◌, ◌<◌, ◌≤◌, Bool, true, false, ltb, leb, List, [], ◌∷◌, ◌++◌, length, get_or, take, drop, sym, refl, ap, ◌∙◌, ap₂, arith, le-ltb, lt-ltb}
-use Rattle.types.specs.Pick.{pick, both}
+use Rattle.std.proofs.Common.{◌≡◌, ℕ, ◌+◌, ◌-◌, ◌<◌, ◌≤◌, Bool, true, false, ltb, List, [], ◌∷◌, ◌++◌, length, get_or, take, drop, sym, refl, ap, ◌∙◌, ap₂, arith, le-ltb, lt-ltb}
+use Rattle.types.specs.Pick.{pick}
 use Rattle.types.specs.Errors.{reported}
 use Rattle.types.specs.declared.nmt.events.NmtEvent.TheVariants.{Error}
 use Rattle.types.specs.declared.frame.error.types.DllError.{DllError}
@@ -10,9 +10,9 @@ use Rattle.counters.specs.Counters.{handled}
 use Rattle.counters.specs.Marks.{error_marks}
 use Rattle.counters.specs.declared.counters.HandledError.{HandledError}
 use Rattle.entries.specs.declared.status_response.ErrorEntry.{ErrorEntry}
-use Rattle.head.specs.Head.{Head, with_errors_lem}
+use Rattle.head.specs.Head.{Head, head_with_errors}
 use Rattle.watched.specs.declared.nodes.WatchedNode.{WatchedNode}
-use Rattle.watched.specs.Watched.{all_of, watched_of}
+use Rattle.watched.specs.Watched.{watched_of}
 use Rattle.node.specs.Plain.{Plain}
 use Rattle.node.specs.Tick.{Ticked, goes_on, behind, is_late, late_ones, acts, signalled, event_in_tick, dealt, beat_by, timeout_of, beat, beat_all}
 use Rattle.node.specs.Refines.{plain, SamePlaces, Becomes, Rings, rings, joins_all}
@@ -38,7 +38,7 @@ module _ (t : ℕ) (w : WatchedNode) where
 -- the error of one late node, from what its parts left
 module _ (h : Head) (w : WatchedNode) (r : HandledError) (e : r ≡ handled h.errors (timeout_of w)) (a : Bool) (n : a ≡ acts r.action) (f : PartLeft) where
   abbrev counted : Head
-  counted = with_errors_lem h r.counters
+  counted = head_with_errors h r.counters
 
   abbrev after : Bool → List ℕ → List ℕ → Plain
   after b q m = pick b (signalled (plain counted q m)) (plain counted q m)

@@ -7,7 +7,7 @@ use Rattle.types.specs.declared.nmt.events.NmtEvent.TheVariants.{Error}
 use Rattle.types.specs.declared.frame.error.types.DllErrors.{DllErrors}
 use Rattle.nmt.specs.Nmt as Nmt
 use Rattle.nmt.specs.declared.cn_state_machine.NmtAnswer.{NmtAnswer}
-use Rattle.head.specs.Head.{Head, with_nmt_lem, with_soc_lem, with_values}
+use Rattle.head.specs.Head.{Head, head_with_nmt, head_with_soc, head_with_values}
 use Rattle.node.specs.Plain.{Plain}
 use Rattle.node.specs.Tick.{is_even, changed, registered, signalled, check_off, event_in_tick, one_more}
 use Rattle.node.specs.Refines.{Becomes}
@@ -24,7 +24,7 @@ use Rattle.heartbeats.specs.PartsIn.{Turns, FinishesIn}
 abbrev EventRead : ℕ → ℕ → ℕ → List ℕ → Type 0
 EventRead s e r ws =
     head_of (set (set (set (set ws at.state s) at.enabled e) at.ready r) at.check 0)
-    ≡ with_soc_lem (with_nmt_lem (head_of ws) (Nmt.with (nmt_of ws) (state_of s) (yes e) (yes r))) (check_off (soc_of ws))
+    ≡ head_with_soc (head_with_nmt (head_of ws) (Nmt.with (nmt_of ws) (state_of s) (yes e) (yes r))) (check_off (soc_of ws))
 
 -- words that stand for the head k
 pub turned :
@@ -54,8 +54,8 @@ module _ (ws : List ℕ) (long : length ws ≡ 60) where
       let n = a.machine in
       turned ws (λ p. event_in_tick p e) _ (set (nmt_written ws n) at.check 0) _ ws' (event_becomes (head_of ws) e a o)
       (event_read _ _ _
-      ∙ (λ i. with_soc_lem (with_nmt_lem (head_of ws) (Nmt.with (nmt_of ws) (state_back n.current_state i) (yes_one n.ready_to_operate_enabled i) (yes_one n.app_ready i))) (check_off (soc_of ws)))
-      ∙ ap (λ n. with_soc_lem (with_nmt_lem (head_of ws) n) (check_off (soc_of ws))) (sym kept))
+      ∙ (λ i. head_with_soc (head_with_nmt (head_of ws) (Nmt.with (nmt_of ws) (state_back n.current_state i) (yes_one n.ready_to_operate_enabled i) (yes_one n.app_ready i))) (check_off (soc_of ws)))
+      ∙ ap (λ n. head_with_soc (head_with_nmt (head_of ws) n) (check_off (soc_of ws))) (sym kept))
       (ap (λ n. set (nmt_written ws n) at.check 0) (sym m)) w
 
 -- an error's end
@@ -77,7 +77,7 @@ module _ (ws : List ℕ) (es : DllErrors) (ends : Bool) where
 
 -- a signal, by whether the register is even
 abbrev signalled_head : Head → Head
-signalled_head h = with_values (with_soc_lem h (changed h.soc)) (registered h.od) h.history
+signalled_head h = head_with_values (head_with_soc h (changed h.soc)) (registered h.od) h.history
 
 module _ (ws : List ℕ) (long : length ws ≡ 60) (ws' : List ℕ) where
   signals :

@@ -65,7 +65,7 @@ pub fn timeout_in_tick(head: &mut Head)
 }
 
 // What a part of the tick leaves beside the words: what was logged, and whether the tick has ended.
-#[derive(Drop)]
+#[derive(Clone, Copy)]
 pub struct Dealt {
     pub logged: DllErrors,
     pub ended: bool,

@@ -3,13 +3,12 @@
 use Prim.Native.Nat.{ℕ, zero, suc, ◌+◌, ◌-◌, ◌<◌, ◌≤◌}
 use mathlib.Core.Path.{◌≡◌, refl, sym, ap, ap₂, subst, ◌∙◌}
 use mathlib.Core.Bool.{Bool, true, false, false≢true}
-use mathlib.Core.List.{List, [], ◌∷◌, ◌++◌, map}
+use mathlib.Core.List.{List, [], ◌∷◌, ◌++◌}
 use native.Mathlib.Omega.{arith}
-use native.Mathlib.Numerals.{add-one}
 use lib.Dec.{eqb, leb, ltb}
 use lib.ListN.{length, get_or, take, drop}
 use lib.Seq.{length-take-le}
-use borrow.Author.Tests.{ltb-true, ltb-false, lt-ltb, le-ltb, eqb-true, eqb-false}
+use borrow.Author.Tests.{ltb-true, ltb-false, lt-ltb, le-ltb, eqb-true}
 use Rattle.types.specs.Pick.{pick, both}
 use Rattle.types.specs.Types.{is_node}
 use Rattle.types.proofs.Tests.{both_first, both_second}
@@ -17,12 +16,12 @@ use Rattle.types.specs.declared.refusals.Refusal.{Refusal}
 use Rattle.counters.specs.Counters.{new_counter}
 use Rattle.head.specs.Written.{earliest_written}
 use Rattle.watched.specs.declared.nodes.WatchedNode.{WatchedNode}
-use Rattle.watched.specs.Watched.{all_of, ascending, fits, well_formed, no_node, watched_node, is_watched, heard_at, place_of, watched_of, Run, run, watching, well_lent}
+use Rattle.watched.specs.Watched.{all_of, fits, well_formed, no_node, watched_node, is_watched, heard_at, place_of, watched_of, Run, run, watching, well_lent}
 use Rattle.watched.specs.Nodes.{rising, never, soonest}
-use Rattle.watched.proofs.Lists.{rising_all, watched_there, watched_nowhere}
+use Rattle.watched.proofs.Lists.{rising_all, watched_nowhere}
 use Rattle.node.specs.declared.calls.CallAnswer.{CallAnswer}
 use Rattle.node.specs.declared.calls.CallAnswer.TheVariants as answer
-use Rattle.node.specs.Steps.{earliest, added, removed}
+use Rattle.node.specs.Steps.{earliest, removed}
 use Rattle.node.specs.InPlace.{unless_refused, moment_of}
 use Rattle.node.proofs.Moments.{all_fit, heard_fits, moment_of_lem}
 use Rattle.partners.specs.Partners.{add_answer, remove_answer, AddedOn, RemovedOn}
@@ -32,7 +31,7 @@ use Rattle.partners.proofs.Left.{add_left, remove_left}
 use Rattle.partners.proofs.Adding as Adding
 use Rattle.partners.proofs.Removing as Removing
 use Rattle.lentlaws.specs.Scan.{scanned, carried_back, scanned_back}
-use Rattle.lentlaws.proofs.ScanLaws.{scanned_idle, scanned_back_idle}
+use Rattle.lentlaws.proofs.ScanLaws.{scanned_back_idle}
 use Rattle.lent.specs.declared.run.Surveyed.{Surveyed}
 use Rattle.lent.specs.declared.run.Setting.{Setting}
 use Rattle.lent.specs.declared.run.Setting.TheVariants.{Heard}
@@ -40,9 +39,7 @@ use Rattle.lent.specs.declared.arrivals.Carrying.{Carrying}
 use Rattle.lent.specs.declared.arrivals.Carried.{Carried}
 use Rattle.lent.specs.declared.arrivals.Closing.{Closing}
 use Rattle.lent.specs.declared.arrivals.Closed.{Closed}
-use Rattle.lent.specs.declared.arrivals.AddDone.{AddDone}
-use Rattle.lent.specs.declared.arrivals.RemoveDone.{RemoveDone}
-use Rattle.lent.specs.Runs.{passes, surveyed, settled}
+use Rattle.lent.specs.Runs.{passes, surveyed}
 use Rattle.lent.specs.Arrivals.{for_partner, carrying_of, carried_of, carry_next, carried_all, closing_of, moved_down, close_next, closed_all, Adds, Removes}
 use Rattle.lent.proofs.SeenLaws.{seen_lent, seen_formed, seen_places, seen_below, seen_first, seen_watched, seen_moment, settled_heard}
 

@@ -1,7 +1,7 @@
 -- The errors of the late nodes, over plain variables: what the walk carries of them is what the plain tick makes of them, and what stands in the words.
 -- Assumes nothing.
 use Prim.Native.Nat.{ℕ}
-use mathlib.Core.Path.{◌≡◌, refl, sym, ap, ap₂, ◌∙◌}
+use mathlib.Core.Path.{◌≡◌, refl, sym, ap, ◌∙◌}
 use mathlib.Core.Bool.{Bool, true, false}
 use mathlib.Core.List.{List, [], ◌∷◌}
 use lib.ListN.{length}
@@ -16,9 +16,8 @@ use Rattle.counters.specs.Marks.{Mark, error_marks}
 use Rattle.counters.specs.declared.counters.CounterKind.TheVariants as kind
 use Rattle.counters.specs.declared.counters.ThresholdCounter.{ThresholdCounter}
 use Rattle.counters.specs.declared.counters.HandledError.{HandledError}
-use Rattle.head.specs.Head.{Head, with_errors_lem}
-use Rattle.head.specs.Places as at
-use Rattle.head.specs.Words.{counter_at, errors_of, head_of}
+use Rattle.head.specs.Head.{Head, head_with_errors}
+use Rattle.head.specs.Words.{errors_of, head_of}
 use Rattle.head.specs.Written.{counter_written}
 use Rattle.head.proofs.Whole.{whole}
 use Rattle.head.proofs.Laws.{counter_written_lem}
@@ -223,7 +222,7 @@ module _ (ws : List ℕ) (long : length ws ≡ 60) (b : Beats) where
     carried : b ≡ folded (beaten_by t) (fresh_in ws 0) vs
     carried = e ∙ beats_carried _ vs
 
-    counts : head_of (counted_in ws b.counter) ≡ with_errors_lem (head_of ws) (replaced kind.HeartbeatTimeout b.counter (errors_of ws))
+    counts : head_of (counted_in ws b.counter) ≡ head_with_errors (head_of ws) (replaced kind.HeartbeatTimeout b.counter (errors_of ws))
     counts = counter_written_lem ws long kind.HeartbeatTimeout b.counter (ap (λ (b : Beats). b.counter.threshold) carried ∙ keeps_threshold t (fresh_in ws 0) vs)
 
     beats_come : (q m : List ℕ) → Alike (beat_all (plain (head_of ws) q m) (late_ones t vs)) (came (plain (head_of ws) q m) b)

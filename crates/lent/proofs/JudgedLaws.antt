@@ -35,7 +35,7 @@ use Rattle.start.specs.Started.{start_left, StartedOn, BeginsBy}
 use Rattle.heartbeats.specs.declared.dealt.Dealt.{Dealt}
 use Rattle.heartbeats.specs.PartsIn.{TicksIn}
 use Rattle.heartbeats.proofs.Beatings.{all_looked_fit}
-use Rattle.tick.specs.declared.tick.TickAnswer.TheVariants as tick_answer_lem
+use Rattle.tick.specs.declared.tick.TickAnswer.TheVariants as tick-answer
 use Rattle.tick.specs.TickWords.{tick_words}
 use Rattle.tick.specs.TickIn.{TickedOn}
 use Rattle.tick.proofs.Tickings.{run_unformed, run_late, run_before, run_accepted}
@@ -135,7 +135,7 @@ module _ (ws : List ℕ) (k n : ℕ) (f : FeatureFlags) (t c : ℕ) (o : Diction
 -- the tick: numbers 3, 5 and 6, and what is taken
 module _ (ws q m : List ℕ) (k t : ℕ) (s : Surveyed) (r : TickDone) where
   abbrev no_tick : Refusal → TickDone
-  no_tick x = record { answer = tick_answer_lem.Refused x; settling = settles_nothing }
+  no_tick x = record { answer = tick-answer.Refused x; settling = settles_nothing }
 
   abbrev Y : Setting
   Y = tick_sets ws t
@@ -144,9 +144,9 @@ module _ (ws q m : List ℕ) (k t : ℕ) (s : Surveyed) (r : TickDone) where
   C = checks_heartbeats (nmt_of ws).current_state
 
   tick_declined :
-      (x : Refusal) → r ≡ no_tick x → (vs : List WatchedNode) → TickedOn ws q m (run vs k) t (tick_answer_lem.Refused x) ws q m (run vs k) →
+      (x : Refusal) → r ≡ no_tick x → (vs : List WatchedNode) → TickedOn ws q m (run vs k) t (tick-answer.Refused x) ws q m (run vs k) →
       TickedOn ws q m (run vs k) t r.answer ws q m (run (settled_all r.settling vs) k)
-  tick_declined x d vs z = rw d (subst (λ (l : List WatchedNode). TickedOn ws q m (run vs k) t (tick_answer_lem.Refused x) ws q m (run l k)) (sym (set_none vs)) z)
+  tick_declined x d vs z = rw d (subst (λ (l : List WatchedNode). TickedOn ws q m (run vs k) t (tick-answer.Refused x) ws q m (run l k)) (sym (set_none vs)) z)
 
   lent_as : (b : Bool) → passes s ≡ b → (vs : List WatchedNode) → s ≡ surveyed (for_tick ws k t) vs → well_lent (run vs k) ≡ b
   lent_as b f vs e = sym (seen_lent k 0 t Y (beats_at ws) vs s e) ∙ f

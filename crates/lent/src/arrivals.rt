@@ -15,21 +15,21 @@ use partners::{is_known, try_add, try_remove};
 use watched::nodes::WatchedNode;
 
 // The record that takes the next place, where there is one: so many of the places ahead are watched.
-#[derive(Drop)]
+#[derive(Clone, Copy)]
 pub struct Carrying {
     pub on: bool,
     pub left: usize,
     pub node: WatchedNode,
 }
 
-#[derive(Drop)]
+#[derive(Clone, Copy)]
 pub struct Carried {
     pub node: WatchedNode,
     pub carrying: Carrying,
 }
 
 // A removal, where there is one: the places up to this one, the number watched before it, the node, and what stood behind this place.
-#[derive(Drop)]
+#[derive(Clone, Copy)]
 pub struct Closing {
     pub on: bool,
     pub left: usize,
@@ -38,20 +38,20 @@ pub struct Closing {
     pub next: WatchedNode,
 }
 
-#[derive(Drop)]
+#[derive(Clone, Copy)]
 pub struct Closed {
     pub node: WatchedNode,
     pub closing: Closing,
 }
 
 // What a call answers, and what it sets.
-#[derive(Drop)]
+#[derive(Clone, Copy)]
 pub struct AddDone {
     pub answer: CallAnswer,
     pub carrying: Carrying,
 }
 
-#[derive(Drop)]
+#[derive(Clone, Copy)]
 pub struct RemoveDone {
     pub answer: CallAnswer,
     pub closing: Closing,

@@ -18,7 +18,7 @@ use types::nmt::flags::FeatureFlags;
 use watched::nodes::WatchedNode;
 
 // What a call answers, and what it sets.
-#[derive(Drop)]
+#[derive(Clone, Copy)]
 pub struct Done {
     pub answer: CallAnswer,
     pub settling: Settling,

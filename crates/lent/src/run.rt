@@ -14,7 +14,7 @@ use tick::tick::checks_heartbeats;
 use watched::nodes::{NEVER, WatchedNode, follows, heard_by, sooner};
 
 // Number 3, node by node.
-#[derive(Drop)]
+#[derive(Clone, Copy)]
 pub struct Tried {
     // The number of the last one.
     pub last: u8,
@@ -23,7 +23,7 @@ pub struct Tried {
 }
 
 // The errors of the late nodes, ascending: the first that crosses ends them.
-#[derive(Drop)]
+#[derive(Clone, Copy)]
 pub struct Beats {
     pub counter: ThresholdCounter,
     pub crossed: bool,
@@ -32,7 +32,7 @@ pub struct Beats {
 }
 
 // What a call sets: nothing, all last-heard times to 0, that of one node, or those that a tick sets.
-#[derive(Drop)]
+#[derive(Clone, Copy)]
 pub enum Setting {
     Nothing,
     Unheard,
@@ -41,7 +41,7 @@ pub enum Setting {
 }
 
 // What a walk over the watched nodes finds out.
-#[derive(Drop)]
+#[derive(Clone, Copy)]
 pub struct Findings {
     // Asked for: a node, a time, and what is to be set.
     pub node: u8,
@@ -58,7 +58,7 @@ pub struct Findings {
 }
 
 // What a walk over the places of a run finds out.
-#[derive(Drop)]
+#[derive(Clone, Copy)]
 pub struct Surveyed {
     // So many of the places ahead are watched.
     pub left: usize,
@@ -68,14 +68,14 @@ pub struct Surveyed {
 }
 
 // What the walk back sets: so many places, and how.
-#[derive(Drop)]
+#[derive(Clone, Copy)]
 pub struct Settling {
     pub left: usize,
     pub setting: Setting,
 }
 
 // A place as it is set, and what is to be set behind it.
-#[derive(Drop)]
+#[derive(Clone, Copy)]
 pub struct Settled {
     pub node: WatchedNode,
     pub settling: Settling,

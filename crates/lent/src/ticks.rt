@@ -28,7 +28,7 @@ use watched::nodes::WatchedNode;
 use watched::time::in_time;
 
 // What a tick answers, and what it sets.
-#[derive(Drop)]
+#[derive(Clone, Copy)]
 pub struct TickDone {
     pub answer: TickAnswer,
     pub settling: Settling,

@@ -2,26 +2,29 @@
 --     pub fn f(p: &mut P, p': &mut Q, xs: &mut [E], a: A) -> X { let s = survey(xs, ask(p', a)); let d = judge(p, p', a, s); settle(xs, d.snd); d.fst }
 -- with the contracts  ask: r ≡ K ..,  survey: the run is unchanged and r ≡ L s xs,  judge: J ..,  settle: the run becomes O y xs,  f: R ..,  where J and the others give R.
 -- One walk, for all types of plain data, all K, L, J, O and R and all callees. Written by scripts/lent_laws.py. Assumes nothing.
+-- shares: a `&` to a Q is made with a token of its own lifetime alone, as to every type that holds no `&mut`.
 use mathlib.Core.Path.{◌≡◌, refl, sym, ◌∙◌, ap, subst}
 use Prim.Native.Nat.{ℕ}
 use mathlib.Core.List.{[], ◌∷◌, List}
 use lib.ListN.{length}
 use seplogic.Ra.Ura.{Ura}
-use seplogic.Ra.TreeShare.{full_share}
-use mir.Syntax.{Name, Ty, Fn, named, erased, mut, imm, ty_ref, ty_unit, local, value_local, seq, assign, call, return, place, deref, field, copy, rv_opd, addr_of, aggregate}
+use base.Fraction.{full_share}
+use mir.Syntax.{Callee, Ty, Fn, named, erased, mut, imm, ty_ref, ty_unit, local, value_local, seq, assign, call, return, place, deref, field, copy, rv_opd, addr_of, aggregate}
 use mir.Val.{Val, vptr}
 use base.Logic.{SProp, ent, emp, via, fst∗, id⊢}
-use base.Fml.{GName, Lft, Share, ftrue, fat, flft, fres}
+use base.Fml.{GName, Lft, Share, ftrue, fsep, fat, flft, fres, fbor}
 use prog.Wp.{Calls, Loops, WpFn, Tables}
 use types.Logic.{Logic}
 use contract.Monad.{fact}
 use types.Kit.{‵, raw, ◌⊛◌, ⋆, some, later, ◌$◌, ◌∵◌, !, qed, by, move, keep, drop, use1, split, join, pick, rewrite, fsplit, fjoin, suffices, frame, await, done}
 use types.Run.{look, init, forget, stop, hop, fld, from, load, addr, of_opd, and_then, no_more, assigns, land, returns, enter, alloc1, alloc0, params1, pass1, pass0, free1, free0}
 use types.Part.{agg, whole, sub, look_in}
+use types.SemTy.{Body as Borrowed}
 use sound.WpLaws.{FmC, fm_of, WpFn-mono}
 use denote.RattleType.{RattleType, owns}
 use denote.Laws.{Is, shows}
-use denote.Memory.{pointee}
+use denote.Memory.{mem, pointee}
+use denote.Shares.{Shares}
 use denote.Builtin.{SliceRefMutOf}
 use denote.Ref.{MutRef, mut_vals, mut_Tells}
 use denote.Slice.{slice_val, mut_slice_vals, MutSlice, Room, mut_slice_Tells}
@@ -43,12 +46,14 @@ module _ (E S Y X A : Lone) (D : Pair X Y) (P Q : RattleType) (τP τQ : Ty) whe
   abbrev pub lent : Ended
   lent = record { signature = record { lifetimes = 3; outlives = []; params = mut_ref_to (0 ∷ []) tt (plain (λ _. P)) ∷ mut_ref_to (1 ∷ []) tt (plain (λ _. Q)) ∷ SliceRefMutOf (2 ∷ []) tt (plain (λ κs. row_of E)) (λ κs. tt) ∷ plain (λ _. row_of A) ∷ []; result = plain (λ κs. row_of X) }; kept = (yes, (yes, (yes, (yes, tt)))) }
 
-  abbrev pub thin : Name → Name → Name → Name → Fn
+  abbrev pub thin : Callee → Callee → Callee → Callee → Fn
   thin ask survey judge settle = record {
     lifetimes = 3;
     outlives = [];
+    ty_params = [];
+    givens = 0;
     params = 4;
-    locals = local X.ty value_local ∷ local (ty_ref (named 0) mut (pointee P.written)) value_local ∷ local (ty_ref (named 1) mut (pointee Q.written)) value_local ∷ local (slice_at E (named 2)) value_local ∷ local A.ty value_local ∷ local S.ty value_local ∷ local (pair_ty D) value_local ∷ local (ty_ref erased mut (pointee (row_of E).written)) value_local ∷ local (slice_at E erased) value_local ∷ local S.ty value_local ∷ local (ty_ref erased imm (pointee Q.written)) value_local ∷ local (ty_ref erased mut (pointee P.written)) value_local ∷ local (ty_ref erased mut (pointee Q.written)) value_local ∷ local (ty_unit) value_local ∷ local (ty_ref erased mut (pointee (row_of E).written)) value_local ∷ local (slice_at E erased) value_local ∷ [];
+    locals = local X.ty value_local ∷ local (ty_ref (named 0) mut (pointee P.written)) value_local ∷ local (ty_ref (named 1) mut (pointee Q.written)) value_local ∷ local (slice_at E (named 2)) value_local ∷ local A.ty value_local ∷ local S.ty value_local ∷ local (pair_ty D) value_local ∷ local (ty_ref erased mut (pointee (row_of E).written)) value_local ∷ local (slice_at E erased) value_local ∷ local S.ty value_local ∷ local (ty_ref erased imm (pointee Q.written)) value_local ∷ local (ty_ref erased mut (pointee P.written)) value_local ∷ local (ty_ref erased mut (pointee Q.written)) value_local ∷ local ty_unit value_local ∷ local (ty_ref erased mut (pointee (row_of E).written)) value_local ∷ local (slice_at E erased) value_local ∷ local Y.ty value_local ∷ [];
     body = seq (assign (place 7 []) (addr_of (place 3 (field 0 ∷ deref E.ty ∷ []))))
         (seq (assign (place 8 []) (aggregate (copy (place 7 []) ∷ copy (place 3 (field 1 ∷ [])) ∷ [])))
         (seq (assign (place 10 []) (addr_of (place 2 (deref τQ ∷ []))))
@@ -59,9 +64,10 @@ module _ (E S Y X A : Lone) (D : Pair X Y) (P Q : RattleType) (τP τQ : Ty) whe
         (seq (call judge (copy (place 11 []) ∷ copy (place 12 []) ∷ copy (place 4 []) ∷ copy (place 5 []) ∷ []) (place 6 []))
         (seq (assign (place 14 []) (addr_of (place 3 (field 0 ∷ deref E.ty ∷ []))))
         (seq (assign (place 15 []) (aggregate (copy (place 14 []) ∷ copy (place 3 (field 1 ∷ [])) ∷ [])))
-        (seq (call settle (copy (place 15 []) ∷ copy (place 6 (field 1 ∷ [])) ∷ []) (place 13 []))
+        (seq (assign (place 16 []) (rv_opd (copy (place 6 (field 1 ∷ [])))))
+        (seq (call settle (copy (place 15 []) ∷ copy (place 16 []) ∷ []) (place 13 []))
         (seq (assign (place 0 []) (rv_opd (copy (place 6 (field 0 ∷ [])))))
-        return)))))))))));
+        return))))))))))));
   }
 
   abbrev stayed : Stays lent.signature.params lent.kept
@@ -84,7 +90,7 @@ module _ (E S Y X A : Lone) (D : Pair X Y) (P Q : RattleType) (τP τQ : Ty) whe
 
 module _ (E S Y X A : Lone) (D : Pair X Y) (P Q : RattleType) (τP τQ : Ty) (K : Q.Denot → Of A → Of S) (L : Of S → List (Of E) → Of S) (J : P.Denot → Q.Denot → Of A → Of S → D.D → P.Denot → Q.Denot → Type 0) (O : Of Y → List (Of E) → List (Of E)) (R : P.Denot → Q.Denot → List (Of E) → Of A → Of X → P.Denot → Q.Denot → List (Of E) → Type 0)
     (gives : (xs : List (Of E)) (p : P.Denot) (p' : Q.Denot) (a : Of A) (s : Of S) (r : D.D) (z : P.Denot) (z' : Q.Denot) → s ≡ L (K p' a) xs → J p p' a s r z z' → R p p' xs a (D.fst r) z z' (O (D.snd r) xs))
-    (ga gs gj gt : Name) {M : Type 1} {𝓤 : Ura M} (𝓛 : Logic 𝓤) where
+    (ga gs gj gt : Callee) {M : Type 1} {𝓤 : Ura M} (𝓛 : Logic 𝓤) (shares : Shares 𝓛 Q []) where
   open 𝓛 use {H}
 
   module _ (κ₀ κ₁ κ₂ : Lft) (q₀ q₁ q₂ : Share) (b o : ℕ) (γ : GName) (xs : List (Of E)) (bP oP : ℕ) (γP : GName) (bQ oQ : ℕ) (γQ : GName) (p : P.Denot) (p' : Q.Denot) (a : Of A) (is-A : Is (row_of A) a (vals A a)) (room : Room (row_of E) (length xs)) where
@@ -98,9 +104,9 @@ module _ (E S Y X A : Lone) (D : Pair X Y) (P Q : RattleType) (τP τQ : Ty) (K 
     Post = (walk_of 𝓛 (lent E S Y X A D P Q τP τQ) (stayed E S Y X A D P Q τP τQ) (says_lent E S Y X A D P Q τP τQ R 𝓤)).post bound
 
     exits : (r : D.D) → Is (row_of X) (D.fst r) (vals X (D.fst r)) → (zs : List (Of E)) (z : P.Denot) (z' : Q.Denot) → length zs ≡ length xs → R p p' xs a (D.fst r) z z' zs
-        → ent 𝓤 (⋆ 𝓛 (‵ (the_run E b o κ₂ γ (length xs) zs) ∷ ‵ (flft κ₂ q₂) ∷ (‵ (flft κ₀ q₀) ⊛ ‵ (flft κ₁ q₁) ⊛ ‵ ftrue) ∷ ‵ (fres γP (P.coded.code z)) ∷ ‵ (fres γQ (Q.coded.code z')) ∷ [])) (Post (val X (D.fst r)))
+        → ent 𝓤 (⋆ 𝓛 (‵ (the_run E b o κ₂ γ (length xs) zs) ∷ ‵ (flft κ₂ q₂) ∷ (‵ (flft κ₀ q₀) ⊛ ‵ (flft κ₁ q₁) ⊛ ‵ ftrue) ∷ ‵ (fsep (fres γP (P.coded.code z)) (fbor κ₀ (Borrowed (mem P) bP oP γP))) ∷ ‵ (fsep (fres γQ (Q.coded.code z')) (fbor κ₁ (Borrowed (mem Q) bQ oQ γQ))) ∷ [])) (Post (val X (D.fst r)))
     exits r isX zs z z' long e =
-        qed 𝓛 (‵ (the_run E b o κ₂ γ (length xs) zs) ∷ ‵ (flft κ₂ q₂) ∷ (‵ (flft κ₀ q₀) ⊛ ‵ (flft κ₁ q₁) ⊛ ‵ ftrue) ∷ ‵ (fres γP (P.coded.code z)) ∷ ‵ (fres γQ (Q.coded.code z')) ∷ []) ∵
+        qed 𝓛 (‵ (the_run E b o κ₂ γ (length xs) zs) ∷ ‵ (flft κ₂ q₂) ∷ (‵ (flft κ₀ q₀) ⊛ ‵ (flft κ₁ q₁) ⊛ ‵ ftrue) ∷ ‵ (fsep (fres γP (P.coded.code z)) (fbor κ₀ (Borrowed (mem P) bP oP γP))) ∷ ‵ (fsep (fres γQ (Q.coded.code z')) (fbor κ₁ (Borrowed (mem Q) bQ oQ γQ))) ∷ []) ∵
         suffices ! _ (ends_at 𝓛 (lent E S Y X A D P Q τP τQ) (stayed E S Y X A D P Q τP τQ) (says_lent E S Y X A D P Q τP τQ R 𝓤) bound (val X (D.fst r)) (D.fst r) (z, (z', (zs, (tt, tt)))) (tt, (tt, (long, (tt, tt))))) $ says ! e $
         move ! (2 ∷ []) $ split ! $ move ! (1 ∷ []) $ split ! $ move ! (1 ∷ []) $ move ! (4 ∷ 0 ∷ []) $ join ! $ move ! (1 ∷ 0 ∷ []) $ join ! $ move ! (1 ∷ 0 ∷ []) $ join ! $ frame ! $ nothing ! $ owned ! (row_of A) (Is (row_of A)) (makes A 𝓛) a (vals A a) is-A $ fjoin ! $ move ! (1 ∷ 0 ∷ []) $ fjoin ! $ move ! (2 ∷ 0 ∷ []) $ fjoin ! $ move ! (1 ∷ 0 ∷ []) $ fjoin ! $ frame ! $
         owned ! (row_of X) (Is (row_of X)) (makes X 𝓛) (D.fst r) (vals X (D.fst r)) isX $ done !
@@ -110,33 +116,34 @@ module _ (E S Y X A : Lone) (D : Pair X Y) (P Q : RattleType) (τP τQ : Ty) (K 
       walk : ent 𝓤 (on_entry 𝓛 (lent E S Y X A D P Q τP τQ).signature (κ₀, (κ₁, (κ₂, tt))) (q₀, (q₁, (q₂, tt))) (record { ref_ptr = (bP, oP); ghost_name = γP; now = p }, (record { ref_ptr = (bQ, oQ); ghost_name = γQ; now = p' }, (ref E b o γ xs, (a, tt)))) (vptr bP oP ∷ [], (vptr bQ oQ ∷ [], (s ∷ [], (vals A a, tt))))) (WpFn 𝓤 H C Λ (thin E S Y X A D P Q τP τQ ga gs gj gt) (vptr bP oP ∷ vptr bQ oQ ∷ s ∷ val A a ∷ []) Post)
       walk =
           qed 𝓛 ((‵ (flft κ₀ q₀) ⊛ ‵ (flft κ₁ q₁) ⊛ ‵ (flft κ₂ q₂) ⊛ ‵ ftrue) ∷ ‵ (owns (MutRef (named 0) κ₀ P ∷ MutRef (named 1) κ₁ Q ∷ MutSlice (named 2) κ₂ (row_of E) ∷ row_of A ∷ []) (record { ref_ptr = (bP, oP); ghost_name = γP; now = p }, (record { ref_ptr = (bQ, oQ); ghost_name = γQ; now = p' }, (ref E b o γ xs, (a, tt)))) (vptr bP oP ∷ [], (vptr bQ oQ ∷ [], (s ∷ [], (vals A a, tt))))) ∷ []) ∵ split ! $ move ! (1 ∷ []) $ split ! $ move ! (1 ∷ []) $ split ! $ move ! (4 ∷ []) $ fsplit ! $ move ! (1 ∷ []) $ fsplit ! $ move ! (1 ∷ []) $ fsplit ! $ move ! (1 ∷ []) $ fsplit ! $ move ! (1 ∷ []) $ keep ! (2 ∷ 5 ∷ 4 ∷ 8 ∷ 3 ∷ 7 ∷ []) $ enter ! C Λ (thin E S Y X A D P Q τP τQ ga gs gj gt) (vptr bP oP ∷ vptr bQ oQ ∷ s ∷ val A a ∷ []) _ $
-          alloc1 ! (λ l₀. alloc1 ! (λ l₁. alloc1 ! (λ l₂. alloc1 ! (λ l₃. alloc1 ! (λ l₄. alloc1 ! (λ l₅. alloc1 ! (λ l₆. alloc1 ! (λ l₇. alloc1 ! (λ l₈. alloc1 ! (λ l₉. alloc1 ! (λ l₁₀. alloc1 ! (λ l₁₁. alloc1 ! (λ l₁₂. alloc1 ! (λ l₁₃. alloc1 ! (λ l₁₄. alloc1 ! (λ l₁₅. alloc0 ! $ params1 ! $
-          pass1 ! (init ! 28 refl (tt, tt)) $ pass1 ! (init ! 26 refl (tt, tt)) $ pass1 ! (init ! 24 refl (tt, (tt, (record { fits = room.0 }, tt)))) $ pass1 ! (init ! 22 refl (typed A 𝓛 a (val A a) is-A)) $ pass0 ! $ move ! (32 ∷ 33 ∷ 34 ∷ 35 ∷ 36 ∷ 37 ∷ []) $
-          -- [the run; its token; each reference and its token; the locals, of which _i stands at 36 - 2 i]
-          assigns ! (addr ! (from ! (fld ! refl (hop ! (look_in ! 30 (sub ! 0 refl (whole !))) (stop !))))) (from ! (stop !)) (init ! 22 refl (tt, tt)) $
-          assigns ! (agg ! (and_then ! (load ! (from ! (stop !)) (look ! 22 refl)) (and_then ! (load ! (from ! (fld ! refl (stop !))) (look_in ! 30 (sub ! 1 refl (whole !)))) (no_more !)))) (from ! (stop !)) (init ! 20 refl (tt, (tt, (record { fits = room.0 }, tt)))) $
-          assigns ! (addr ! (from ! (hop ! (look ! 32 refl) (stop !)))) (from ! (stop !)) (init ! 16 refl (tt, tt)) $
-          move ! (4 ∷ 5 ∷ []) $ views ! fm Q (A ∷ []) S (λ p a r. r ≡ K p a.0) known-ask p' (a, tt) (is-A, tt) (λ i j. and_then ! (load ! (from ! (stop !)) (look ! 16 refl)) (and_then ! (load ! (from ! (stop !)) (look ! 28 refl)) (no_more !))) (λ i j. from ! (stop !)) 18 (λ i j. refl) (λ s₀ is₀ e₀. move ! (2 ∷ 3 ∷ 4 ∷ 5 ∷ []) $
-          walks ! fm E S S (λ s xs zs r. (zs ≡ xs) × (r ≡ L s xs)) known-survey xs s₀ room is₀ (λ i j. and_then ! (load ! (from ! (stop !)) (look ! 20 refl)) (and_then ! (load ! (from ! (stop !)) (look ! 18 refl)) (no_more !))) (λ i j. from ! (stop !)) 26 (λ i j. refl) (λ ws s₁ _ is₁ e₁.
+          alloc1 ! (λ l₀. alloc1 ! (λ l₁. alloc1 ! (λ l₂. alloc1 ! (λ l₃. alloc1 ! (λ l₄. alloc1 ! (λ l₅. alloc1 ! (λ l₆. alloc1 ! (λ l₇. alloc1 ! (λ l₈. alloc1 ! (λ l₉. alloc1 ! (λ l₁₀. alloc1 ! (λ l₁₁. alloc1 ! (λ l₁₂. alloc1 ! (λ l₁₃. alloc1 ! (λ l₁₄. alloc1 ! (λ l₁₅. alloc1 ! (λ l₁₆. alloc0 ! $ params1 ! $
+          pass1 ! (init ! 30 refl (tt, tt)) $ pass1 ! (init ! 28 refl (tt, tt)) $ pass1 ! (init ! 26 refl (tt, (tt, (record { fits = room.0 }, tt)))) $ pass1 ! (init ! 24 refl (typed A 𝓛 a (val A a) is-A)) $ pass0 ! $ move ! (34 ∷ 35 ∷ 36 ∷ 37 ∷ 38 ∷ 39 ∷ []) $
+          -- [the run; its token; each reference and its token; the locals, of which _i stands at 38 - 2 i]
+          assigns ! (addr ! (from ! (fld ! refl (hop ! (look_in ! 32 (sub ! 0 refl (whole !))) (stop !))))) (from ! (stop !)) (init ! 24 refl (tt, tt)) $
+          assigns ! (agg ! (and_then ! (load ! (from ! (stop !)) (look ! 24 refl)) (and_then ! (load ! (from ! (fld ! refl (stop !))) (look_in ! 32 (sub ! 1 refl (whole !)))) (no_more !)))) (from ! (stop !)) (init ! 22 refl (tt, (tt, (record { fits = room.0 }, tt)))) $
+          assigns ! (addr ! (from ! (hop ! (look ! 34 refl) (stop !)))) (from ! (stop !)) (init ! 18 refl (tt, tt)) $
+          move ! (4 ∷ 5 ∷ []) $ views ! fm Q shares (A ∷ []) S (λ p a r. r ≡ K p a.0) known-ask p' (a, tt) (is-A, tt) (λ i j. and_then ! (load ! (from ! (stop !)) (look ! 18 refl)) (and_then ! (load ! (from ! (stop !)) (look ! 30 refl)) (no_more !))) (λ i j. from ! (stop !)) 20 (λ i j. refl) (λ s₀ is₀ e₀. move ! (2 ∷ 3 ∷ 4 ∷ 5 ∷ []) $
+          walks ! fm E S S (λ s xs zs r. (zs ≡ xs) × (r ≡ L s xs)) known-survey xs s₀ room is₀ (λ i j. and_then ! (load ! (from ! (stop !)) (look ! 22 refl)) (and_then ! (load ! (from ! (stop !)) (look ! 20 refl)) (no_more !))) (λ i j. from ! (stop !)) 28 (λ i j. refl) (λ ws s₁ _ is₁ e₁.
           rewrite ! 0 (λ (l : List (Of E)). ‵ (the_run E b o κ₂ γ (length xs) l)) e₁.0 refl $
+          assigns ! (addr ! (from ! (hop ! (look ! 36 refl) (stop !)))) (from ! (stop !)) (init ! 16 refl (tt, tt)) $
           assigns ! (addr ! (from ! (hop ! (look ! 34 refl) (stop !)))) (from ! (stop !)) (init ! 14 refl (tt, tt)) $
-          assigns ! (addr ! (from ! (hop ! (look ! 32 refl) (stop !)))) (from ! (stop !)) (init ! 12 refl (tt, tt)) $
           move ! (3 ∷ 5 ∷ 2 ∷ 4 ∷ []) $ nothing ! $ owned ! (row_of S) (Is (row_of S)) (makes S 𝓛) s₁ (vals S s₁) is₁ $ fjoin ! $ owned ! (row_of A) (Is (row_of A)) (makes A 𝓛) a (vals A a) is-A $ fjoin ! $ move ! (4 ∷ 0 ∷ []) $ fjoin ! $ move ! (3 ∷ 0 ∷ []) $ fjoin ! $ nothing ! $ move ! (3 ∷ 0 ∷ []) $ join ! $ move ! (2 ∷ 0 ∷ []) $ join ! $ join ! $ nothing ! $ move ! (1 ∷ 0 ∷ []) $ join ! $ use1 𝓛 (raw ((Judge E S Y X A D P Q τP τQ J 𝓤 𝓛).pre (to_judge s₁))) (id⊢ 𝓤 _) $
-          calls_at ! fm (Judge E S Y X A D P Q τP τQ J 𝓤 𝓛) known-judge (to_judge s₁) (and_then ! (load ! (from ! (stop !)) (look ! 11 refl)) (and_then ! (load ! (from ! (stop !)) (look ! 9 refl)) (and_then ! (load ! (from ! (stop !)) (look ! 25 refl)) (and_then ! (load ! (from ! (stop !)) (look ! 23 refl)) (no_more !))))) (λ v.
+          calls_at ! fm (Judge E S Y X A D P Q τP τQ J 𝓤 𝓛) known-judge (to_judge s₁) (and_then ! (load ! (from ! (stop !)) (look ! 13 refl)) (and_then ! (load ! (from ! (stop !)) (look ! 11 refl)) (and_then ! (load ! (from ! (stop !)) (look ! 27 refl)) (and_then ! (load ! (from ! (stop !)) (look ! 25 refl)) (no_more !))))) (λ v.
           use1 𝓛 (later (some (λ (r : D.D). ((‵ (flft κ₀ q₀) ⊛ ‵ (flft κ₁ q₁) ⊛ ‵ ftrue) ⊛ ‵ ((pair_row D).own_val r (v ∷ []))) ⊛ raw (ensured 𝓛 (judged E S Y X A D P Q τP τQ) (says_judged E S Y X A D P Q τP τQ J 𝓤) (κ₀, (κ₁, tt)) (record { ref_ptr = (bP, oP); ghost_name = γP; now = p }, (record { ref_ptr = (bQ, oQ); ghost_name = γQ; now = p' }, (a, (s₁, tt)))) tt r)))) (id⊢ 𝓤 _) $ await ! tt $ pick ! (λ r.
           split ! $ move ! (1 ∷ []) $ use1 𝓛 (some (λ (zs : P.Denot × (Q.Denot × (Unit {0} × (Unit {0} × Unit {0})))). ‵ (lasts (judged E S Y X A D P Q τP τQ) (κ₀, (κ₁, tt)) (record { ref_ptr = (bP, oP); ghost_name = γP; now = p }, (record { ref_ptr = (bQ, oQ); ghost_name = γQ; now = p' }, (a, (s₁, tt)))) zs) ⊛ raw (fact 𝓤 (J p p' a s₁ r zs.0 zs.1.0)))) (id⊢ 𝓤 _) $ pick ! (λ zs.
           split ! $ move ! (1 ∷ []) $ heard ! (J p p' a s₁ r zs.0 zs.1.0) (λ e₂.
           fsplit ! $ move ! (1 ∷ []) $ fsplit ! $ move ! (1 ∷ []) $ fsplit ! $ drop ! $ fsplit ! $ drop ! $ drop ! $ move ! (2 ∷ []) $ split ! $ move ! (1 ∷ []) $ peeks ! (pair_row D) (Is (pair_row D)) (shows 𝓛 (pair_row D)) r (v ∷ []) (λ is. drop ! $
           move ! (3 ∷ 4 ∷ 0 ∷ 2 ∷ 1 ∷ []) $
-          -- [the run; its token; the other tokens; the last values; the locals, of which _i stands at 35 - 2 i]
-          land ! (from ! (stop !)) (init ! 23 refl ((parts D).fits 𝓛 r v is)) $ rewrite ! 23 (λ (u : Val). ‵ (fat full_share (pair_ty D) l₆ 0 u)) ((parts D).told r v is) refl $
-          assigns ! (addr ! (from ! (fld ! refl (hop ! (look_in ! 29 (sub ! 0 refl (whole !))) (stop !))))) (from ! (stop !)) (init ! 7 refl (tt, tt)) $
-          assigns ! (agg ! (and_then ! (load ! (from ! (stop !)) (look ! 7 refl)) (and_then ! (load ! (from ! (fld ! refl (stop !))) (look_in ! 29 (sub ! 1 refl (whole !)))) (no_more !)))) (from ! (stop !)) (init ! 5 refl (tt, (tt, (record { fits = room.0 }, tt)))) $
-          walks ! fm E Y nothing_at_all (λ y xs zs r. zs ≡ O y xs) known-settle xs (D.snd r) room (of_parts_lem D r (as_told (parts D) r v is)).1 (λ i j. and_then ! (load ! (from ! (stop !)) (look ! 5 refl)) (and_then ! (load ! (from ! (fld ! refl (stop !))) (look_in ! 23 (sub ! 1 refl (whole !)))) (no_more !))) (λ i j. from ! (stop !)) 9 (λ i j. refl) (λ us u long _ e₃.
-          assigns ! (of_opd ! (load ! (from ! (fld ! refl (stop !))) (look_in ! 23 (sub ! 0 refl (whole !))))) (from ! (stop !)) (init ! 35 refl (typed X 𝓛 (D.fst r) (val X (D.fst r)) (of_parts_lem D r (as_told (parts D) r v is)).0)) $
-          returns ! (look ! 35 refl) $ forget ! 5 refl $ forget ! 7 refl $ forget ! 9 refl $ forget ! 11 refl $ forget ! 13 refl $ forget ! 15 refl $ forget ! 17 refl $ forget ! 19 refl $ forget ! 21 refl $ forget ! 23 refl $ forget ! 25 refl $ forget ! 27 refl $ forget ! 29 refl $ forget ! 31 refl $ forget ! 33 refl $ forget ! 35 refl $
-          move ! (35 ∷ 36 ∷ []) $ free1 ! $ move ! (33 ∷ 34 ∷ []) $ free1 ! $ move ! (31 ∷ 32 ∷ []) $ free1 ! $ move ! (29 ∷ 30 ∷ []) $ free1 ! $ move ! (27 ∷ 28 ∷ []) $ free1 ! $ move ! (25 ∷ 26 ∷ []) $ free1 ! $ move ! (23 ∷ 24 ∷ []) $ free1 ! $ move ! (21 ∷ 22 ∷ []) $ free1 ! $ move ! (19 ∷ 20 ∷ []) $ free1 ! $ move ! (17 ∷ 18 ∷ []) $ free1 ! $ move ! (15 ∷ 16 ∷ []) $ free1 ! $ move ! (13 ∷ 14 ∷ []) $ free1 ! $ move ! (11 ∷ 12 ∷ []) $ free1 ! $ move ! (9 ∷ 10 ∷ []) $ free1 ! $ move ! (7 ∷ 8 ∷ []) $ free1 ! $ move ! (5 ∷ 6 ∷ []) $ free1 ! $ free0 ! $
-          by ! (exits r (of_parts_lem D r (as_told (parts D) r v is)).0 us zs.0 zs.1.0 long (subst (λ (l : List (Of E)). R p p' xs a (D.fst r) zs.0 zs.1.0 l) (sym e₃) (gives xs p p' a s₁ r zs.0 zs.1.0 (e₁.1 ∙ ap (λ (d : Of S). L d xs) e₀) e₂)))))))))))))))))))))))))))
+          -- [the run; its token; the other tokens; the last values; the locals, of which _i stands at 37 - 2 i]
+          land ! (from ! (stop !)) (init ! 25 refl ((parts D).fits 𝓛 r v is)) $ rewrite ! 25 (λ (u : Val). ‵ (fat full_share (pair_ty D) l₆ 0 u)) ((parts D).told r v is) refl $
+          assigns ! (addr ! (from ! (fld ! refl (hop ! (look_in ! 31 (sub ! 0 refl (whole !))) (stop !))))) (from ! (stop !)) (init ! 9 refl (tt, tt)) $
+          assigns ! (agg ! (and_then ! (load ! (from ! (stop !)) (look ! 9 refl)) (and_then ! (load ! (from ! (fld ! refl (stop !))) (look_in ! 31 (sub ! 1 refl (whole !)))) (no_more !)))) (from ! (stop !)) (init ! 7 refl (tt, (tt, (record { fits = room.0 }, tt)))) $
+          assigns ! (of_opd ! (load ! (from ! (fld ! refl (stop !))) (look_in ! 25 (sub ! 1 refl (whole !))))) (from ! (stop !)) (init ! 5 refl (typed Y 𝓛 (D.snd r) (val Y (D.snd r)) (of_parts_lem D r (as_told (parts D) r v is)).1)) $
+          walks ! fm E Y nothing_at_all (λ y xs zs r. zs ≡ O y xs) known-settle xs (D.snd r) room (of_parts_lem D r (as_told (parts D) r v is)).1 (λ i j. and_then ! (load ! (from ! (stop !)) (look ! 7 refl)) (and_then ! (load ! (from ! (stop !)) (look ! 5 refl)) (no_more !))) (λ i j. from ! (stop !)) 11 (λ i j. refl) (λ us u long _ e₃.
+          assigns ! (of_opd ! (load ! (from ! (fld ! refl (stop !))) (look_in ! 25 (sub ! 0 refl (whole !))))) (from ! (stop !)) (init ! 37 refl (typed X 𝓛 (D.fst r) (val X (D.fst r)) (of_parts_lem D r (as_told (parts D) r v is)).0)) $
+          returns ! (look ! 37 refl) $ forget ! 5 refl $ forget ! 7 refl $ forget ! 9 refl $ forget ! 11 refl $ forget ! 13 refl $ forget ! 15 refl $ forget ! 17 refl $ forget ! 19 refl $ forget ! 21 refl $ forget ! 23 refl $ forget ! 25 refl $ forget ! 27 refl $ forget ! 29 refl $ forget ! 31 refl $ forget ! 33 refl $ forget ! 35 refl $ forget ! 37 refl $
+          move ! (37 ∷ 38 ∷ []) $ free1 ! $ move ! (35 ∷ 36 ∷ []) $ free1 ! $ move ! (33 ∷ 34 ∷ []) $ free1 ! $ move ! (31 ∷ 32 ∷ []) $ free1 ! $ move ! (29 ∷ 30 ∷ []) $ free1 ! $ move ! (27 ∷ 28 ∷ []) $ free1 ! $ move ! (25 ∷ 26 ∷ []) $ free1 ! $ move ! (23 ∷ 24 ∷ []) $ free1 ! $ move ! (21 ∷ 22 ∷ []) $ free1 ! $ move ! (19 ∷ 20 ∷ []) $ free1 ! $ move ! (17 ∷ 18 ∷ []) $ free1 ! $ move ! (15 ∷ 16 ∷ []) $ free1 ! $ move ! (13 ∷ 14 ∷ []) $ free1 ! $ move ! (11 ∷ 12 ∷ []) $ free1 ! $ move ! (9 ∷ 10 ∷ []) $ free1 ! $ move ! (7 ∷ 8 ∷ []) $ free1 ! $ move ! (5 ∷ 6 ∷ []) $ free1 ! $ free0 ! $
+          by ! (exits r (of_parts_lem D r (as_told (parts D) r v is)).0 us zs.0 zs.1.0 long (subst (λ (l : List (Of E)). R p p' xs a (D.fst r) zs.0 zs.1.0 l) (sym e₃) (gives xs p p' a s₁ r zs.0 zs.1.0 (e₁.1 ∙ ap (λ (d : Of S). L d xs) e₀) e₂))))))))))))))))))))))))))))
         where
           to_judge : Of S → (Judge E S Y X A D P Q τP τQ J 𝓤 𝓛).Ghost
           to_judge s₁ = (((κ₀, (κ₁, tt)), (q₀, (q₁, tt)), tt, (record { ref_ptr = (bP, oP); ghost_name = γP; now = p }, (record { ref_ptr = (bQ, oQ); ghost_name = γQ; now = p' }, (a, (s₁, tt)))), (vptr bP oP ∷ [], (vptr bQ oQ ∷ [], (vals A a, (vals S s₁, tt))))), tt)

@@ -2,26 +2,29 @@
 --     pub fn f(p: &mut P, p': &mut Q, p'': &mut T, xs: &mut [E], a: A, a': B) -> X { let s = survey(xs, ask(p, a, a')); let d = judge(p, p', p'', a, a', s); settle(xs, d.snd); d.fst }
 -- with the contracts  ask: r ≡ K ..,  survey: the run is unchanged and r ≡ L s xs,  judge: J ..,  settle: the run becomes O y xs,  f: R ..,  where J and the others give R.
 -- One walk, for all types of plain data, all K, L, J, O and R and all callees. Written by scripts/lent_laws.py. Assumes nothing.
+-- shares: a `&` to a P is made with a token of its own lifetime alone, as to every type that holds no `&mut`.
 use mathlib.Core.Path.{◌≡◌, refl, sym, ◌∙◌, ap, subst}
 use Prim.Native.Nat.{ℕ}
 use mathlib.Core.List.{[], ◌∷◌, List}
 use lib.ListN.{length}
 use seplogic.Ra.Ura.{Ura}
-use seplogic.Ra.TreeShare.{full_share}
-use mir.Syntax.{Name, Ty, Fn, named, erased, mut, imm, ty_ref, ty_unit, local, value_local, seq, assign, call, return, place, deref, field, copy, rv_opd, addr_of, aggregate}
+use base.Fraction.{full_share}
+use mir.Syntax.{Callee, Ty, Fn, named, erased, mut, imm, ty_ref, ty_unit, local, value_local, seq, assign, call, return, place, deref, field, copy, rv_opd, addr_of, aggregate}
 use mir.Val.{Val, vptr}
 use base.Logic.{SProp, ent, emp, via, fst∗, id⊢}
-use base.Fml.{GName, Lft, Share, ftrue, fat, flft, fres}
+use base.Fml.{GName, Lft, Share, ftrue, fsep, fat, flft, fres, fbor}
 use prog.Wp.{Calls, Loops, WpFn, Tables}
 use types.Logic.{Logic}
 use contract.Monad.{fact}
 use types.Kit.{‵, raw, ◌⊛◌, ⋆, some, later, ◌$◌, ◌∵◌, !, qed, by, move, keep, drop, use1, split, join, pick, rewrite, fsplit, fjoin, suffices, frame, await, done}
 use types.Run.{look, init, forget, stop, hop, fld, from, load, addr, of_opd, and_then, no_more, assigns, land, returns, enter, alloc1, alloc0, params1, pass1, pass0, free1, free0}
 use types.Part.{agg, whole, sub, look_in}
+use types.SemTy.{Body as Borrowed}
 use sound.WpLaws.{FmC, fm_of, WpFn-mono}
 use denote.RattleType.{RattleType, owns}
 use denote.Laws.{Is, shows}
-use denote.Memory.{pointee}
+use denote.Memory.{mem, pointee}
+use denote.Shares.{Shares}
 use denote.Builtin.{SliceRefMutOf}
 use denote.Ref.{MutRef, mut_vals, mut_Tells}
 use denote.Slice.{slice_val, mut_slice_vals, MutSlice, Room, mut_slice_Tells}
@@ -43,12 +46,14 @@ module _ (E S Y X A B : Lone) (D : Pair X Y) (P Q T : RattleType) (τP τQ τT :
   abbrev pub lent : Ended
   lent = record { signature = record { lifetimes = 4; outlives = []; params = mut_ref_to (0 ∷ []) tt (plain (λ _. P)) ∷ mut_ref_to (1 ∷ []) tt (plain (λ _. Q)) ∷ mut_ref_to (2 ∷ []) tt (plain (λ _. T)) ∷ SliceRefMutOf (3 ∷ []) tt (plain (λ κs. row_of E)) (λ κs. tt) ∷ plain (λ _. row_of A) ∷ plain (λ _. row_of B) ∷ []; result = plain (λ κs. row_of X) }; kept = (yes, (yes, (yes, (yes, (yes, (yes, tt)))))) }
 
-  abbrev pub thin : Name → Name → Name → Name → Fn
+  abbrev pub thin : Callee → Callee → Callee → Callee → Fn
   thin ask survey judge settle = record {
     lifetimes = 4;
     outlives = [];
+    ty_params = [];
+    givens = 0;
     params = 6;
-    locals = local X.ty value_local ∷ local (ty_ref (named 0) mut (pointee P.written)) value_local ∷ local (ty_ref (named 1) mut (pointee Q.written)) value_local ∷ local (ty_ref (named 2) mut (pointee T.written)) value_local ∷ local (slice_at E (named 3)) value_local ∷ local A.ty value_local ∷ local B.ty value_local ∷ local S.ty value_local ∷ local (pair_ty D) value_local ∷ local (ty_ref erased mut (pointee (row_of E).written)) value_local ∷ local (slice_at E erased) value_local ∷ local S.ty value_local ∷ local (ty_ref erased imm (pointee P.written)) value_local ∷ local (ty_ref erased mut (pointee P.written)) value_local ∷ local (ty_ref erased mut (pointee Q.written)) value_local ∷ local (ty_ref erased mut (pointee T.written)) value_local ∷ local (ty_unit) value_local ∷ local (ty_ref erased mut (pointee (row_of E).written)) value_local ∷ local (slice_at E erased) value_local ∷ [];
+    locals = local X.ty value_local ∷ local (ty_ref (named 0) mut (pointee P.written)) value_local ∷ local (ty_ref (named 1) mut (pointee Q.written)) value_local ∷ local (ty_ref (named 2) mut (pointee T.written)) value_local ∷ local (slice_at E (named 3)) value_local ∷ local A.ty value_local ∷ local B.ty value_local ∷ local S.ty value_local ∷ local (pair_ty D) value_local ∷ local (ty_ref erased mut (pointee (row_of E).written)) value_local ∷ local (slice_at E erased) value_local ∷ local S.ty value_local ∷ local (ty_ref erased imm (pointee P.written)) value_local ∷ local (ty_ref erased mut (pointee P.written)) value_local ∷ local (ty_ref erased mut (pointee Q.written)) value_local ∷ local (ty_ref erased mut (pointee T.written)) value_local ∷ local ty_unit value_local ∷ local (ty_ref erased mut (pointee (row_of E).written)) value_local ∷ local (slice_at E erased) value_local ∷ local Y.ty value_local ∷ [];
     body = seq (assign (place 9 []) (addr_of (place 4 (field 0 ∷ deref E.ty ∷ []))))
         (seq (assign (place 10 []) (aggregate (copy (place 9 []) ∷ copy (place 4 (field 1 ∷ [])) ∷ [])))
         (seq (assign (place 12 []) (addr_of (place 1 (deref τP ∷ []))))
@@ -60,9 +65,10 @@ module _ (E S Y X A B : Lone) (D : Pair X Y) (P Q T : RattleType) (τP τQ τT :
         (seq (call judge (copy (place 13 []) ∷ copy (place 14 []) ∷ copy (place 15 []) ∷ copy (place 5 []) ∷ copy (place 6 []) ∷ copy (place 7 []) ∷ []) (place 8 []))
         (seq (assign (place 17 []) (addr_of (place 4 (field 0 ∷ deref E.ty ∷ []))))
         (seq (assign (place 18 []) (aggregate (copy (place 17 []) ∷ copy (place 4 (field 1 ∷ [])) ∷ [])))
-        (seq (call settle (copy (place 18 []) ∷ copy (place 8 (field 1 ∷ [])) ∷ []) (place 16 []))
+        (seq (assign (place 19 []) (rv_opd (copy (place 8 (field 1 ∷ [])))))
+        (seq (call settle (copy (place 18 []) ∷ copy (place 19 []) ∷ []) (place 16 []))
         (seq (assign (place 0 []) (rv_opd (copy (place 8 (field 0 ∷ [])))))
-        return))))))))))));
+        return)))))))))))));
   }
 
   abbrev stayed : Stays lent.signature.params lent.kept
@@ -85,7 +91,7 @@ module _ (E S Y X A B : Lone) (D : Pair X Y) (P Q T : RattleType) (τP τQ τT :
 
 module _ (E S Y X A B : Lone) (D : Pair X Y) (P Q T : RattleType) (τP τQ τT : Ty) (K : P.Denot → Of A → Of B → Of S) (L : Of S → List (Of E) → Of S) (J : P.Denot → Q.Denot → T.Denot → Of A → Of B → Of S → D.D → P.Denot → Q.Denot → T.Denot → Type 0) (O : Of Y → List (Of E) → List (Of E)) (R : P.Denot → Q.Denot → T.Denot → List (Of E) → Of A → Of B → Of X → P.Denot → Q.Denot → T.Denot → List (Of E) → Type 0)
     (gives : (xs : List (Of E)) (p : P.Denot) (p' : Q.Denot) (p'' : T.Denot) (a : Of A) (a' : Of B) (s : Of S) (r : D.D) (z : P.Denot) (z' : Q.Denot) (z'' : T.Denot) → s ≡ L (K p a a') xs → J p p' p'' a a' s r z z' z'' → R p p' p'' xs a a' (D.fst r) z z' z'' (O (D.snd r) xs))
-    (ga gs gj gt : Name) {M : Type 1} {𝓤 : Ura M} (𝓛 : Logic 𝓤) where
+    (ga gs gj gt : Callee) {M : Type 1} {𝓤 : Ura M} (𝓛 : Logic 𝓤) (shares : Shares 𝓛 P []) where
   open 𝓛 use {H}
 
   module _ (κ₀ κ₁ κ₂ κ₃ : Lft) (q₀ q₁ q₂ q₃ : Share) (b o : ℕ) (γ : GName) (xs : List (Of E)) (bP oP : ℕ) (γP : GName) (bQ oQ : ℕ) (γQ : GName) (bT oT : ℕ) (γT : GName) (p : P.Denot) (p' : Q.Denot) (p'' : T.Denot) (a : Of A) (a' : Of B) (is-A : Is (row_of A) a (vals A a)) (is-B : Is (row_of B) a' (vals B a')) (room : Room (row_of E) (length xs)) where
@@ -99,9 +105,9 @@ module _ (E S Y X A B : Lone) (D : Pair X Y) (P Q T : RattleType) (τP τQ τT :
     Post = (walk_of 𝓛 (lent E S Y X A B D P Q T τP τQ τT) (stayed E S Y X A B D P Q T τP τQ τT) (says_lent E S Y X A B D P Q T τP τQ τT R 𝓤)).post bound
 
     exits : (r : D.D) → Is (row_of X) (D.fst r) (vals X (D.fst r)) → (zs : List (Of E)) (z : P.Denot) (z' : Q.Denot) (z'' : T.Denot) → length zs ≡ length xs → R p p' p'' xs a a' (D.fst r) z z' z'' zs
-        → ent 𝓤 (⋆ 𝓛 (‵ (the_run E b o κ₃ γ (length xs) zs) ∷ ‵ (flft κ₃ q₃) ∷ (‵ (flft κ₀ q₀) ⊛ ‵ (flft κ₁ q₁) ⊛ ‵ (flft κ₂ q₂) ⊛ ‵ ftrue) ∷ ‵ (fres γP (P.coded.code z)) ∷ ‵ (fres γQ (Q.coded.code z')) ∷ ‵ (fres γT (T.coded.code z'')) ∷ [])) (Post (val X (D.fst r)))
+        → ent 𝓤 (⋆ 𝓛 (‵ (the_run E b o κ₃ γ (length xs) zs) ∷ ‵ (flft κ₃ q₃) ∷ (‵ (flft κ₀ q₀) ⊛ ‵ (flft κ₁ q₁) ⊛ ‵ (flft κ₂ q₂) ⊛ ‵ ftrue) ∷ ‵ (fsep (fres γP (P.coded.code z)) (fbor κ₀ (Borrowed (mem P) bP oP γP))) ∷ ‵ (fsep (fres γQ (Q.coded.code z')) (fbor κ₁ (Borrowed (mem Q) bQ oQ γQ))) ∷ ‵ (fsep (fres γT (T.coded.code z'')) (fbor κ₂ (Borrowed (mem T) bT oT γT))) ∷ [])) (Post (val X (D.fst r)))
     exits r isX zs z z' z'' long e =
-        qed 𝓛 (‵ (the_run E b o κ₃ γ (length xs) zs) ∷ ‵ (flft κ₃ q₃) ∷ (‵ (flft κ₀ q₀) ⊛ ‵ (flft κ₁ q₁) ⊛ ‵ (flft κ₂ q₂) ⊛ ‵ ftrue) ∷ ‵ (fres γP (P.coded.code z)) ∷ ‵ (fres γQ (Q.coded.code z')) ∷ ‵ (fres γT (T.coded.code z'')) ∷ []) ∵
+        qed 𝓛 (‵ (the_run E b o κ₃ γ (length xs) zs) ∷ ‵ (flft κ₃ q₃) ∷ (‵ (flft κ₀ q₀) ⊛ ‵ (flft κ₁ q₁) ⊛ ‵ (flft κ₂ q₂) ⊛ ‵ ftrue) ∷ ‵ (fsep (fres γP (P.coded.code z)) (fbor κ₀ (Borrowed (mem P) bP oP γP))) ∷ ‵ (fsep (fres γQ (Q.coded.code z')) (fbor κ₁ (Borrowed (mem Q) bQ oQ γQ))) ∷ ‵ (fsep (fres γT (T.coded.code z'')) (fbor κ₂ (Borrowed (mem T) bT oT γT))) ∷ []) ∵
         suffices ! _ (ends_at 𝓛 (lent E S Y X A B D P Q T τP τQ τT) (stayed E S Y X A B D P Q T τP τQ τT) (says_lent E S Y X A B D P Q T τP τQ τT R 𝓤) bound (val X (D.fst r)) (D.fst r) (z, (z', (z'', (zs, (tt, (tt, tt)))))) (tt, (tt, (tt, (long, (tt, (tt, tt))))))) $ says ! e $
         move ! (2 ∷ []) $ split ! $ move ! (1 ∷ []) $ split ! $ move ! (1 ∷ []) $ split ! $ move ! (1 ∷ []) $ move ! (5 ∷ 0 ∷ []) $ join ! $ move ! (1 ∷ 0 ∷ []) $ join ! $ move ! (1 ∷ 0 ∷ []) $ join ! $ move ! (1 ∷ 0 ∷ []) $ join ! $ frame ! $ nothing ! $ owned ! (row_of B) (Is (row_of B)) (makes B 𝓛) a' (vals B a') is-B $ fjoin ! $ owned ! (row_of A) (Is (row_of A)) (makes A 𝓛) a (vals A a) is-A $ fjoin ! $ move ! (1 ∷ 0 ∷ []) $ fjoin ! $ move ! (3 ∷ 0 ∷ []) $ fjoin ! $ move ! (2 ∷ 0 ∷ []) $ fjoin ! $ move ! (1 ∷ 0 ∷ []) $ fjoin ! $ frame ! $
         owned ! (row_of X) (Is (row_of X)) (makes X 𝓛) (D.fst r) (vals X (D.fst r)) isX $ done !
@@ -111,34 +117,35 @@ module _ (E S Y X A B : Lone) (D : Pair X Y) (P Q T : RattleType) (τP τQ τT :
       walk : ent 𝓤 (on_entry 𝓛 (lent E S Y X A B D P Q T τP τQ τT).signature (κ₀, (κ₁, (κ₂, (κ₃, tt)))) (q₀, (q₁, (q₂, (q₃, tt)))) (record { ref_ptr = (bP, oP); ghost_name = γP; now = p }, (record { ref_ptr = (bQ, oQ); ghost_name = γQ; now = p' }, (record { ref_ptr = (bT, oT); ghost_name = γT; now = p'' }, (ref E b o γ xs, (a, (a', tt)))))) (vptr bP oP ∷ [], (vptr bQ oQ ∷ [], (vptr bT oT ∷ [], (s ∷ [], (vals A a, (vals B a', tt))))))) (WpFn 𝓤 H C Λ (thin E S Y X A B D P Q T τP τQ τT ga gs gj gt) (vptr bP oP ∷ vptr bQ oQ ∷ vptr bT oT ∷ s ∷ val A a ∷ val B a' ∷ []) Post)
       walk =
           qed 𝓛 ((‵ (flft κ₀ q₀) ⊛ ‵ (flft κ₁ q₁) ⊛ ‵ (flft κ₂ q₂) ⊛ ‵ (flft κ₃ q₃) ⊛ ‵ ftrue) ∷ ‵ (owns (MutRef (named 0) κ₀ P ∷ MutRef (named 1) κ₁ Q ∷ MutRef (named 2) κ₂ T ∷ MutSlice (named 3) κ₃ (row_of E) ∷ row_of A ∷ row_of B ∷ []) (record { ref_ptr = (bP, oP); ghost_name = γP; now = p }, (record { ref_ptr = (bQ, oQ); ghost_name = γQ; now = p' }, (record { ref_ptr = (bT, oT); ghost_name = γT; now = p'' }, (ref E b o γ xs, (a, (a', tt)))))) (vptr bP oP ∷ [], (vptr bQ oQ ∷ [], (vptr bT oT ∷ [], (s ∷ [], (vals A a, (vals B a', tt))))))) ∷ []) ∵ split ! $ move ! (1 ∷ []) $ split ! $ move ! (1 ∷ []) $ split ! $ move ! (1 ∷ []) $ split ! $ move ! (5 ∷ []) $ fsplit ! $ move ! (1 ∷ []) $ fsplit ! $ move ! (1 ∷ []) $ fsplit ! $ move ! (1 ∷ []) $ fsplit ! $ move ! (1 ∷ []) $ fsplit ! $ move ! (1 ∷ []) $ fsplit ! $ move ! (1 ∷ []) $ keep ! (3 ∷ 7 ∷ 6 ∷ 11 ∷ 5 ∷ 10 ∷ 4 ∷ 9 ∷ []) $ enter ! C Λ (thin E S Y X A B D P Q T τP τQ τT ga gs gj gt) (vptr bP oP ∷ vptr bQ oQ ∷ vptr bT oT ∷ s ∷ val A a ∷ val B a' ∷ []) _ $
-          alloc1 ! (λ l₀. alloc1 ! (λ l₁. alloc1 ! (λ l₂. alloc1 ! (λ l₃. alloc1 ! (λ l₄. alloc1 ! (λ l₅. alloc1 ! (λ l₆. alloc1 ! (λ l₇. alloc1 ! (λ l₈. alloc1 ! (λ l₉. alloc1 ! (λ l₁₀. alloc1 ! (λ l₁₁. alloc1 ! (λ l₁₂. alloc1 ! (λ l₁₃. alloc1 ! (λ l₁₄. alloc1 ! (λ l₁₅. alloc1 ! (λ l₁₆. alloc1 ! (λ l₁₇. alloc1 ! (λ l₁₈. alloc0 ! $ params1 ! $
-          pass1 ! (init ! 34 refl (tt, tt)) $ pass1 ! (init ! 32 refl (tt, tt)) $ pass1 ! (init ! 30 refl (tt, tt)) $ pass1 ! (init ! 28 refl (tt, (tt, (record { fits = room.0 }, tt)))) $ pass1 ! (init ! 26 refl (typed A 𝓛 a (val A a) is-A)) $ pass1 ! (init ! 24 refl (typed B 𝓛 a' (val B a') is-B)) $ pass0 ! $ move ! (38 ∷ 39 ∷ 40 ∷ 41 ∷ 42 ∷ 43 ∷ 44 ∷ 45 ∷ []) $
-          -- [the run; its token; each reference and its token; the locals, of which _i stands at 44 - 2 i]
-          assigns ! (addr ! (from ! (fld ! refl (hop ! (look_in ! 36 (sub ! 0 refl (whole !))) (stop !))))) (from ! (stop !)) (init ! 26 refl (tt, tt)) $
-          assigns ! (agg ! (and_then ! (load ! (from ! (stop !)) (look ! 26 refl)) (and_then ! (load ! (from ! (fld ! refl (stop !))) (look_in ! 36 (sub ! 1 refl (whole !)))) (no_more !)))) (from ! (stop !)) (init ! 24 refl (tt, (tt, (record { fits = room.0 }, tt)))) $
-          assigns ! (addr ! (from ! (hop ! (look ! 42 refl) (stop !)))) (from ! (stop !)) (init ! 20 refl (tt, tt)) $
-          move ! (2 ∷ 3 ∷ []) $ views ! fm P (A ∷ B ∷ []) S (λ p a r. r ≡ K p a.0 a.1.0) known-ask p (a, (a', tt)) (is-A, (is-B, tt)) (λ i j. and_then ! (load ! (from ! (stop !)) (look ! 20 refl)) (and_then ! (load ! (from ! (stop !)) (look ! 34 refl)) (and_then ! (load ! (from ! (stop !)) (look ! 32 refl)) (no_more !)))) (λ i j. from ! (stop !)) 22 (λ i j. refl) (λ s₀ is₀ e₀. move ! (2 ∷ 3 ∷ []) $
-          walks ! fm E S S (λ s xs zs r. (zs ≡ xs) × (r ≡ L s xs)) known-survey xs s₀ room is₀ (λ i j. and_then ! (load ! (from ! (stop !)) (look ! 24 refl)) (and_then ! (load ! (from ! (stop !)) (look ! 22 refl)) (no_more !))) (λ i j. from ! (stop !)) 30 (λ i j. refl) (λ ws s₁ _ is₁ e₁.
+          alloc1 ! (λ l₀. alloc1 ! (λ l₁. alloc1 ! (λ l₂. alloc1 ! (λ l₃. alloc1 ! (λ l₄. alloc1 ! (λ l₅. alloc1 ! (λ l₆. alloc1 ! (λ l₇. alloc1 ! (λ l₈. alloc1 ! (λ l₉. alloc1 ! (λ l₁₀. alloc1 ! (λ l₁₁. alloc1 ! (λ l₁₂. alloc1 ! (λ l₁₃. alloc1 ! (λ l₁₄. alloc1 ! (λ l₁₅. alloc1 ! (λ l₁₆. alloc1 ! (λ l₁₇. alloc1 ! (λ l₁₈. alloc1 ! (λ l₁₉. alloc0 ! $ params1 ! $
+          pass1 ! (init ! 36 refl (tt, tt)) $ pass1 ! (init ! 34 refl (tt, tt)) $ pass1 ! (init ! 32 refl (tt, tt)) $ pass1 ! (init ! 30 refl (tt, (tt, (record { fits = room.0 }, tt)))) $ pass1 ! (init ! 28 refl (typed A 𝓛 a (val A a) is-A)) $ pass1 ! (init ! 26 refl (typed B 𝓛 a' (val B a') is-B)) $ pass0 ! $ move ! (40 ∷ 41 ∷ 42 ∷ 43 ∷ 44 ∷ 45 ∷ 46 ∷ 47 ∷ []) $
+          -- [the run; its token; each reference and its token; the locals, of which _i stands at 46 - 2 i]
+          assigns ! (addr ! (from ! (fld ! refl (hop ! (look_in ! 38 (sub ! 0 refl (whole !))) (stop !))))) (from ! (stop !)) (init ! 28 refl (tt, tt)) $
+          assigns ! (agg ! (and_then ! (load ! (from ! (stop !)) (look ! 28 refl)) (and_then ! (load ! (from ! (fld ! refl (stop !))) (look_in ! 38 (sub ! 1 refl (whole !)))) (no_more !)))) (from ! (stop !)) (init ! 26 refl (tt, (tt, (record { fits = room.0 }, tt)))) $
+          assigns ! (addr ! (from ! (hop ! (look ! 44 refl) (stop !)))) (from ! (stop !)) (init ! 22 refl (tt, tt)) $
+          move ! (2 ∷ 3 ∷ []) $ views ! fm P shares (A ∷ B ∷ []) S (λ p a r. r ≡ K p a.0 a.1.0) known-ask p (a, (a', tt)) (is-A, (is-B, tt)) (λ i j. and_then ! (load ! (from ! (stop !)) (look ! 22 refl)) (and_then ! (load ! (from ! (stop !)) (look ! 36 refl)) (and_then ! (load ! (from ! (stop !)) (look ! 34 refl)) (no_more !)))) (λ i j. from ! (stop !)) 24 (λ i j. refl) (λ s₀ is₀ e₀. move ! (2 ∷ 3 ∷ []) $
+          walks ! fm E S S (λ s xs zs r. (zs ≡ xs) × (r ≡ L s xs)) known-survey xs s₀ room is₀ (λ i j. and_then ! (load ! (from ! (stop !)) (look ! 26 refl)) (and_then ! (load ! (from ! (stop !)) (look ! 24 refl)) (no_more !))) (λ i j. from ! (stop !)) 32 (λ i j. refl) (λ ws s₁ _ is₁ e₁.
           rewrite ! 0 (λ (l : List (Of E)). ‵ (the_run E b o κ₃ γ (length xs) l)) e₁.0 refl $
+          assigns ! (addr ! (from ! (hop ! (look ! 44 refl) (stop !)))) (from ! (stop !)) (init ! 20 refl (tt, tt)) $
           assigns ! (addr ! (from ! (hop ! (look ! 42 refl) (stop !)))) (from ! (stop !)) (init ! 18 refl (tt, tt)) $
           assigns ! (addr ! (from ! (hop ! (look ! 40 refl) (stop !)))) (from ! (stop !)) (init ! 16 refl (tt, tt)) $
-          assigns ! (addr ! (from ! (hop ! (look ! 38 refl) (stop !)))) (from ! (stop !)) (init ! 14 refl (tt, tt)) $
           move ! (3 ∷ 5 ∷ 7 ∷ 2 ∷ 4 ∷ 6 ∷ []) $ nothing ! $ owned ! (row_of S) (Is (row_of S)) (makes S 𝓛) s₁ (vals S s₁) is₁ $ fjoin ! $ owned ! (row_of B) (Is (row_of B)) (makes B 𝓛) a' (vals B a') is-B $ fjoin ! $ owned ! (row_of A) (Is (row_of A)) (makes A 𝓛) a (vals A a) is-A $ fjoin ! $ move ! (6 ∷ 0 ∷ []) $ fjoin ! $ move ! (5 ∷ 0 ∷ []) $ fjoin ! $ move ! (4 ∷ 0 ∷ []) $ fjoin ! $ nothing ! $ move ! (4 ∷ 0 ∷ []) $ join ! $ move ! (3 ∷ 0 ∷ []) $ join ! $ move ! (2 ∷ 0 ∷ []) $ join ! $ join ! $ nothing ! $ move ! (1 ∷ 0 ∷ []) $ join ! $ use1 𝓛 (raw ((Judge E S Y X A B D P Q T τP τQ τT J 𝓤 𝓛).pre (to_judge s₁))) (id⊢ 𝓤 _) $
-          calls_at ! fm (Judge E S Y X A B D P Q T τP τQ τT J 𝓤 𝓛) known-judge (to_judge s₁) (and_then ! (load ! (from ! (stop !)) (look ! 13 refl)) (and_then ! (load ! (from ! (stop !)) (look ! 11 refl)) (and_then ! (load ! (from ! (stop !)) (look ! 9 refl)) (and_then ! (load ! (from ! (stop !)) (look ! 29 refl)) (and_then ! (load ! (from ! (stop !)) (look ! 27 refl)) (and_then ! (load ! (from ! (stop !)) (look ! 25 refl)) (no_more !))))))) (λ v.
+          calls_at ! fm (Judge E S Y X A B D P Q T τP τQ τT J 𝓤 𝓛) known-judge (to_judge s₁) (and_then ! (load ! (from ! (stop !)) (look ! 15 refl)) (and_then ! (load ! (from ! (stop !)) (look ! 13 refl)) (and_then ! (load ! (from ! (stop !)) (look ! 11 refl)) (and_then ! (load ! (from ! (stop !)) (look ! 31 refl)) (and_then ! (load ! (from ! (stop !)) (look ! 29 refl)) (and_then ! (load ! (from ! (stop !)) (look ! 27 refl)) (no_more !))))))) (λ v.
           use1 𝓛 (later (some (λ (r : D.D). ((‵ (flft κ₀ q₀) ⊛ ‵ (flft κ₁ q₁) ⊛ ‵ (flft κ₂ q₂) ⊛ ‵ ftrue) ⊛ ‵ ((pair_row D).own_val r (v ∷ []))) ⊛ raw (ensured 𝓛 (judged E S Y X A B D P Q T τP τQ τT) (says_judged E S Y X A B D P Q T τP τQ τT J 𝓤) (κ₀, (κ₁, (κ₂, tt))) (record { ref_ptr = (bP, oP); ghost_name = γP; now = p }, (record { ref_ptr = (bQ, oQ); ghost_name = γQ; now = p' }, (record { ref_ptr = (bT, oT); ghost_name = γT; now = p'' }, (a, (a', (s₁, tt)))))) tt r)))) (id⊢ 𝓤 _) $ await ! tt $ pick ! (λ r.
           split ! $ move ! (1 ∷ []) $ use1 𝓛 (some (λ (zs : P.Denot × (Q.Denot × (T.Denot × (Unit {0} × (Unit {0} × (Unit {0} × Unit {0})))))). ‵ (lasts (judged E S Y X A B D P Q T τP τQ τT) (κ₀, (κ₁, (κ₂, tt))) (record { ref_ptr = (bP, oP); ghost_name = γP; now = p }, (record { ref_ptr = (bQ, oQ); ghost_name = γQ; now = p' }, (record { ref_ptr = (bT, oT); ghost_name = γT; now = p'' }, (a, (a', (s₁, tt)))))) zs) ⊛ raw (fact 𝓤 (J p p' p'' a a' s₁ r zs.0 zs.1.0 zs.1.1.0)))) (id⊢ 𝓤 _) $ pick ! (λ zs.
           split ! $ move ! (1 ∷ []) $ heard ! (J p p' p'' a a' s₁ r zs.0 zs.1.0 zs.1.1.0) (λ e₂.
           fsplit ! $ move ! (1 ∷ []) $ fsplit ! $ move ! (1 ∷ []) $ fsplit ! $ move ! (1 ∷ []) $ fsplit ! $ drop ! $ fsplit ! $ drop ! $ fsplit ! $ drop ! $ drop ! $ move ! (3 ∷ []) $ split ! $ move ! (1 ∷ []) $ peeks ! (pair_row D) (Is (pair_row D)) (shows 𝓛 (pair_row D)) r (v ∷ []) (λ is. drop ! $
           move ! (4 ∷ 5 ∷ 0 ∷ 3 ∷ 2 ∷ 1 ∷ []) $
-          -- [the run; its token; the other tokens; the last values; the locals, of which _i stands at 42 - 2 i]
-          land ! (from ! (stop !)) (init ! 26 refl ((parts D).fits 𝓛 r v is)) $ rewrite ! 26 (λ (u : Val). ‵ (fat full_share (pair_ty D) l₈ 0 u)) ((parts D).told r v is) refl $
-          assigns ! (addr ! (from ! (fld ! refl (hop ! (look_in ! 34 (sub ! 0 refl (whole !))) (stop !))))) (from ! (stop !)) (init ! 8 refl (tt, tt)) $
-          assigns ! (agg ! (and_then ! (load ! (from ! (stop !)) (look ! 8 refl)) (and_then ! (load ! (from ! (fld ! refl (stop !))) (look_in ! 34 (sub ! 1 refl (whole !)))) (no_more !)))) (from ! (stop !)) (init ! 6 refl (tt, (tt, (record { fits = room.0 }, tt)))) $
-          walks ! fm E Y nothing_at_all (λ y xs zs r. zs ≡ O y xs) known-settle xs (D.snd r) room (of_parts_lem D r (as_told (parts D) r v is)).1 (λ i j. and_then ! (load ! (from ! (stop !)) (look ! 6 refl)) (and_then ! (load ! (from ! (fld ! refl (stop !))) (look_in ! 26 (sub ! 1 refl (whole !)))) (no_more !))) (λ i j. from ! (stop !)) 10 (λ i j. refl) (λ us u long _ e₃.
-          assigns ! (of_opd ! (load ! (from ! (fld ! refl (stop !))) (look_in ! 26 (sub ! 0 refl (whole !))))) (from ! (stop !)) (init ! 42 refl (typed X 𝓛 (D.fst r) (val X (D.fst r)) (of_parts_lem D r (as_told (parts D) r v is)).0)) $
-          returns ! (look ! 42 refl) $ forget ! 6 refl $ forget ! 8 refl $ forget ! 10 refl $ forget ! 12 refl $ forget ! 14 refl $ forget ! 16 refl $ forget ! 18 refl $ forget ! 20 refl $ forget ! 22 refl $ forget ! 24 refl $ forget ! 26 refl $ forget ! 28 refl $ forget ! 30 refl $ forget ! 32 refl $ forget ! 34 refl $ forget ! 36 refl $ forget ! 38 refl $ forget ! 40 refl $ forget ! 42 refl $
-          move ! (42 ∷ 43 ∷ []) $ free1 ! $ move ! (40 ∷ 41 ∷ []) $ free1 ! $ move ! (38 ∷ 39 ∷ []) $ free1 ! $ move ! (36 ∷ 37 ∷ []) $ free1 ! $ move ! (34 ∷ 35 ∷ []) $ free1 ! $ move ! (32 ∷ 33 ∷ []) $ free1 ! $ move ! (30 ∷ 31 ∷ []) $ free1 ! $ move ! (28 ∷ 29 ∷ []) $ free1 ! $ move ! (26 ∷ 27 ∷ []) $ free1 ! $ move ! (24 ∷ 25 ∷ []) $ free1 ! $ move ! (22 ∷ 23 ∷ []) $ free1 ! $ move ! (20 ∷ 21 ∷ []) $ free1 ! $ move ! (18 ∷ 19 ∷ []) $ free1 ! $ move ! (16 ∷ 17 ∷ []) $ free1 ! $ move ! (14 ∷ 15 ∷ []) $ free1 ! $ move ! (12 ∷ 13 ∷ []) $ free1 ! $ move ! (10 ∷ 11 ∷ []) $ free1 ! $ move ! (8 ∷ 9 ∷ []) $ free1 ! $ move ! (6 ∷ 7 ∷ []) $ free1 ! $ free0 ! $
-          by ! (exits r (of_parts_lem D r (as_told (parts D) r v is)).0 us zs.0 zs.1.0 zs.1.1.0 long (subst (λ (l : List (Of E)). R p p' p'' xs a a' (D.fst r) zs.0 zs.1.0 zs.1.1.0 l) (sym e₃) (gives xs p p' p'' a a' s₁ r zs.0 zs.1.0 zs.1.1.0 (e₁.1 ∙ ap (λ (d : Of S). L d xs) e₀) e₂))))))))))))))))))))))))))))))
+          -- [the run; its token; the other tokens; the last values; the locals, of which _i stands at 44 - 2 i]
+          land ! (from ! (stop !)) (init ! 28 refl ((parts D).fits 𝓛 r v is)) $ rewrite ! 28 (λ (u : Val). ‵ (fat full_share (pair_ty D) l₈ 0 u)) ((parts D).told r v is) refl $
+          assigns ! (addr ! (from ! (fld ! refl (hop ! (look_in ! 36 (sub ! 0 refl (whole !))) (stop !))))) (from ! (stop !)) (init ! 10 refl (tt, tt)) $
+          assigns ! (agg ! (and_then ! (load ! (from ! (stop !)) (look ! 10 refl)) (and_then ! (load ! (from ! (fld ! refl (stop !))) (look_in ! 36 (sub ! 1 refl (whole !)))) (no_more !)))) (from ! (stop !)) (init ! 8 refl (tt, (tt, (record { fits = room.0 }, tt)))) $
+          assigns ! (of_opd ! (load ! (from ! (fld ! refl (stop !))) (look_in ! 28 (sub ! 1 refl (whole !))))) (from ! (stop !)) (init ! 6 refl (typed Y 𝓛 (D.snd r) (val Y (D.snd r)) (of_parts_lem D r (as_told (parts D) r v is)).1)) $
+          walks ! fm E Y nothing_at_all (λ y xs zs r. zs ≡ O y xs) known-settle xs (D.snd r) room (of_parts_lem D r (as_told (parts D) r v is)).1 (λ i j. and_then ! (load ! (from ! (stop !)) (look ! 8 refl)) (and_then ! (load ! (from ! (stop !)) (look ! 6 refl)) (no_more !))) (λ i j. from ! (stop !)) 12 (λ i j. refl) (λ us u long _ e₃.
+          assigns ! (of_opd ! (load ! (from ! (fld ! refl (stop !))) (look_in ! 28 (sub ! 0 refl (whole !))))) (from ! (stop !)) (init ! 44 refl (typed X 𝓛 (D.fst r) (val X (D.fst r)) (of_parts_lem D r (as_told (parts D) r v is)).0)) $
+          returns ! (look ! 44 refl) $ forget ! 6 refl $ forget ! 8 refl $ forget ! 10 refl $ forget ! 12 refl $ forget ! 14 refl $ forget ! 16 refl $ forget ! 18 refl $ forget ! 20 refl $ forget ! 22 refl $ forget ! 24 refl $ forget ! 26 refl $ forget ! 28 refl $ forget ! 30 refl $ forget ! 32 refl $ forget ! 34 refl $ forget ! 36 refl $ forget ! 38 refl $ forget ! 40 refl $ forget ! 42 refl $ forget ! 44 refl $
+          move ! (44 ∷ 45 ∷ []) $ free1 ! $ move ! (42 ∷ 43 ∷ []) $ free1 ! $ move ! (40 ∷ 41 ∷ []) $ free1 ! $ move ! (38 ∷ 39 ∷ []) $ free1 ! $ move ! (36 ∷ 37 ∷ []) $ free1 ! $ move ! (34 ∷ 35 ∷ []) $ free1 ! $ move ! (32 ∷ 33 ∷ []) $ free1 ! $ move ! (30 ∷ 31 ∷ []) $ free1 ! $ move ! (28 ∷ 29 ∷ []) $ free1 ! $ move ! (26 ∷ 27 ∷ []) $ free1 ! $ move ! (24 ∷ 25 ∷ []) $ free1 ! $ move ! (22 ∷ 23 ∷ []) $ free1 ! $ move ! (20 ∷ 21 ∷ []) $ free1 ! $ move ! (18 ∷ 19 ∷ []) $ free1 ! $ move ! (16 ∷ 17 ∷ []) $ free1 ! $ move ! (14 ∷ 15 ∷ []) $ free1 ! $ move ! (12 ∷ 13 ∷ []) $ free1 ! $ move ! (10 ∷ 11 ∷ []) $ free1 ! $ move ! (8 ∷ 9 ∷ []) $ free1 ! $ move ! (6 ∷ 7 ∷ []) $ free1 ! $ free0 ! $
+          by ! (exits r (of_parts_lem D r (as_told (parts D) r v is)).0 us zs.0 zs.1.0 zs.1.1.0 long (subst (λ (l : List (Of E)). R p p' p'' xs a a' (D.fst r) zs.0 zs.1.0 zs.1.1.0 l) (sym e₃) (gives xs p p' p'' a a' s₁ r zs.0 zs.1.0 zs.1.1.0 (e₁.1 ∙ ap (λ (d : Of S). L d xs) e₀) e₂)))))))))))))))))))))))))))))))
         where
           to_judge : Of S → (Judge E S Y X A B D P Q T τP τQ τT J 𝓤 𝓛).Ghost
           to_judge s₁ = (((κ₀, (κ₁, (κ₂, tt))), (q₀, (q₁, (q₂, tt))), tt, (record { ref_ptr = (bP, oP); ghost_name = γP; now = p }, (record { ref_ptr = (bQ, oQ); ghost_name = γQ; now = p' }, (record { ref_ptr = (bT, oT); ghost_name = γT; now = p'' }, (a, (a', (s₁, tt)))))), (vptr bP oP ∷ [], (vptr bQ oQ ∷ [], (vptr bT oT ∷ [], (vals A a, (vals B a', (vals S s₁, tt))))))), tt)

@@ -4,7 +4,7 @@
 -- One walk, with its loop, for every E and A of plain data, every F and every callee. The borrow is opened once, before the loop, and closed once, after it.
 -- Assumes nothing.
 use mathlib.Core.Path.{◌≡◌, refl, sym, ◌∙◌, ap, subst}
-use Prim.Native.Nat.{ℕ, suc, ◌+◌, ◌-◌, ◌*◌, ◌<◌, ◌^◌}
+use Prim.Native.Nat.{ℕ, suc, ◌+◌, ◌*◌, ◌<◌, ◌^◌}
 use native.Mathlib.Nat.{add-zero, zero-add, lt_of_le_of_lt, lt-suc_self, le_of_lt, mul-le-mul_right}
 use native.Mathlib.Numerals.{add-one}
 use native.Mathlib.Omega.{arith}
@@ -17,8 +17,8 @@ use lib.ListN.{length, get_or, set, length-append}
 use lib.Seq.{get_or-append_seam, set-append_seam, append_snoc}
 use lib.WfN.{lt-wf_rel}
 use seplogic.Ra.Ura.{Ura}
-use seplogic.Ra.TreeShare.{full_share}
-use mir.Syntax.{Name, Ty, Fn, Body, named, mut, w64, ty_int, ty_bool, ty_ptr, ty_unit, ty_ref, local, value_local, unsigned, skip as skipᴹ, seq, assign, block, loop, cond, exit, call, return, place, deref, field, copy, int, rv_opd, opd_unit, op2, add, mul, lt, offset}
+use base.Fraction.{full_share}
+use mir.Syntax.{Callee, Ty, Fn, Body, named, mut, w64, ty_int, ty_bool, ty_ptr, ty_unit, ty_ref, local, value_local, unsigned, skip as skipᴹ, seq, assign, block, loop, cond, exit, call, return, place, deref, field, copy, int, rv_opd, opd_unit, op2, add, mul, lt, offset}
 use mir.Val.{Val, vbool, vint, vptr, vunit}
 use base.Logic.{SProp, ent, emp, via, fst∗}
 use base.Fml.{GName, Lft, Share, ftrue, fat, froom, fdies, flft, fobs, fauth, fbor, fobor}
@@ -63,8 +63,8 @@ module _ (E A : Lone) (D : Pair E A) where
   abbrev slice : Ty
   slice = slice_ty (ty_ref (named 0) mut (pointee (row_of E).written))
 
-  -- the locals: the result, xs, a, i, what g makes, a number, the test, the place read, xs[i], the place written
-  abbrev turn : Name → Body
+  -- the locals: the result, xs, a, i, what g makes, a number, the test, the place read, xs[i], what it becomes, the place written
+  abbrev turn : Callee → Body
   turn g = seq (assign (place 5 []) (rv_opd (copy (place 1 (field 1 ∷ [])))))
       (seq (assign (place 6 []) (op2 (lt unsigned) (copy (place 3 [])) (copy (place 5 []))))
       (seq (cond (copy (place 6 [])) skipᴹ (exit 1))
@@ -72,21 +72,24 @@ module _ (E A : Lone) (D : Pair E A) where
       (seq (assign (place 7 []) (op2 offset (copy (place 1 (field 0 ∷ []))) (copy (place 5 []))))
       (seq (assign (place 8 []) (rv_opd (copy (place 7 (deref E.ty ∷ [])))))
       (seq (call g (copy (place 2 []) ∷ copy (place 8 []) ∷ []) (place 4 []))
+      (seq (assign (place 9 []) (rv_opd (copy (place 4 (field 0 ∷ [])))))
       (seq (assign (place 5 []) (op2 (mul unsigned) (copy (place 3 [])) (int w64 (size E.ty))))
-      (seq (assign (place 9 []) (op2 offset (copy (place 1 (field 0 ∷ []))) (copy (place 5 []))))
-      (seq (assign (place 9 (deref E.ty ∷ [])) (rv_opd (copy (place 4 (field 0 ∷ [])))))
+      (seq (assign (place 10 []) (op2 offset (copy (place 1 (field 0 ∷ []))) (copy (place 5 []))))
+      (seq (assign (place 10 (deref E.ty ∷ [])) (rv_opd (copy (place 9 []))))
       (seq (assign (place 2 []) (rv_opd (copy (place 4 (field 1 ∷ [])))))
-      (assign (place 3 []) (op2 (add unsigned) (copy (place 3 [])) (int w64 1)))))))))))))
+      (assign (place 3 []) (op2 (add unsigned) (copy (place 3 [])) (int w64 1))))))))))))))
 
   abbrev rest : Body
   rest = seq (assign (place 0 []) (rv_opd opd_unit)) return
 
-  abbrev pub thin : Name → Fn
+  abbrev pub thin : Callee → Fn
   thin g = record {
     lifetimes = 1;
     outlives = [];
+    ty_params = [];
+    givens = 0;
     params = 2;
-    locals = local ty_unit value_local ∷ local slice value_local ∷ local A.ty value_local ∷ local word value_local ∷ local (pair_ty D) value_local ∷ local word value_local ∷ local ty_bool value_local ∷ local ty_ptr value_local ∷ local E.ty value_local ∷ local ty_ptr value_local ∷ [];
+    locals = local ty_unit value_local ∷ local slice value_local ∷ local A.ty value_local ∷ local word value_local ∷ local (pair_ty D) value_local ∷ local word value_local ∷ local ty_bool value_local ∷ local ty_ptr value_local ∷ local E.ty value_local ∷ local E.ty value_local ∷ local ty_ptr value_local ∷ [];
     body = seq (assign (place 3 []) (rv_opd (int w64 0))) (seq (block (loop (turn g))) rest);
   }
 
@@ -97,7 +100,7 @@ module _ (E A : Lone) (D : Pair E A) where
     abbrev pub says_lent : Clauses 𝓤 lent
     says_lent κs a = record { ghost = Unit {0}; requires = λ g. emp 𝓤; ensures = λ g r e. fact 𝓤 (e.0.now ≡ scanned (λ c x. D.fst (F c x)) (λ c x. D.snd (F c x)) a.1.0 a.0.now) }
 
-module _ (E A : Lone) (D : Pair E A) (F : Of A → Of E → D.D) (g : Name) (none : Of E) (small : T (ltb (size E.ty) (2 ^ 64))) {M : Type 1} {𝓤 : Ura M} (𝓛 : Logic 𝓤) where
+module _ (E A : Lone) (D : Pair E A) (F : Of A → Of E → D.D) (g : Callee) (none : Of E) (small : T (ltb (size E.ty) (2 ^ 64))) {M : Type 1} {𝓤 : Ura M} (𝓛 : Logic 𝓤) where
   open 𝓛 use {H}
 
   abbrev RE : RattleType
@@ -151,15 +154,15 @@ module _ (E A : Lone) (D : Pair E A) (F : Of A → Of E → D.D) (g : Name) (non
       pub all : length ys + length zs ≡ n
       pub out : ys ++ scanned sets carries c zs ≡ scanned sets carries a xs
 
-    module _ (𝓣 : Tables 𝓤 H) (known : Triple 𝓤 (𝓣.C g) (Value (A ∷ E ∷ []) (parts D) Asked 𝓤 𝓛)) (l₀ l₁ l₂ l₃ l₄ l₅ l₆ l₇ l₈ l₉ : ℕ) where
+    module _ (𝓣 : Tables 𝓤 H) (known : Triple 𝓤 (𝓣.C g) (Value (A ∷ E ∷ []) (parts D) Asked 𝓤 𝓛)) (l₀ l₁ l₂ l₃ l₄ l₅ l₆ l₇ l₈ l₉ l₁₀ : ℕ) where
       abbrev En : Env 𝓤 H
-      En = (ty_unit, l₀) ∷ (slice E A D, l₁) ∷ (A.ty, l₂) ∷ (word, l₃) ∷ (pair_ty D, l₄) ∷ (word, l₅) ∷ (ty_bool, l₆) ∷ (ty_ptr, l₇) ∷ (E.ty, l₈) ∷ (ty_ptr, l₉) ∷ []
+      En = (ty_unit, l₀) ∷ (slice E A D, l₁) ∷ (A.ty, l₂) ∷ (word, l₃) ∷ (pair_ty D, l₄) ∷ (word, l₅) ∷ (ty_bool, l₆) ∷ (ty_ptr, l₇) ∷ (E.ty, l₈) ∷ (E.ty, l₉) ∷ (ty_ptr, l₁₀) ∷ []
 
       abbrev Here : ℕ → Of A → List (Of E) → List (Item 𝓤)
-      Here i c ws = ‵ (row RE full_share ws b o) ∷ ‵ (fat full_share A.ty l₂ 0 (val A c)) ∷ ‵ (fat full_share word l₃ 0 (vint w64 i)) ∷ ‵ (froom (pair_ty D) l₄ 0) ∷ ‵ (froom word l₅ 0) ∷ ‵ (froom ty_bool l₆ 0) ∷ ‵ (froom ty_ptr l₇ 0) ∷ ‵ (froom E.ty l₈ 0) ∷ ‵ (froom ty_ptr l₉ 0)
+      Here i c ws = ‵ (row RE full_share ws b o) ∷ ‵ (fat full_share A.ty l₂ 0 (val A c)) ∷ ‵ (fat full_share word l₃ 0 (vint w64 i)) ∷ ‵ (froom (pair_ty D) l₄ 0) ∷ ‵ (froom word l₅ 0) ∷ ‵ (froom ty_bool l₆ 0) ∷ ‵ (froom ty_ptr l₇ 0) ∷ ‵ (froom E.ty l₈ 0) ∷ ‵ (froom E.ty l₉ 0) ∷ ‵ (froom ty_ptr l₁₀ 0)
           ∷ ‵ (fat full_share (slice E A D) l₁ 0 (slice_val (b, o) n)) ∷ ‵ (froom ty_unit l₀ 0)
           ∷ ‵ (fobor κ q (Held RE n b o γ)) ∷ ‵ (fobs γ ((coded_holeys RE).code (heres RE xs))) ∷ ‵ (fauth γ ((coded_holeys RE).code (heres RE xs)))
-          ∷ ‵ (fdies ty_unit l₀) ∷ ‵ (fdies (slice E A D) l₁) ∷ ‵ (fdies A.ty l₂) ∷ ‵ (fdies word l₃) ∷ ‵ (fdies (pair_ty D) l₄) ∷ ‵ (fdies word l₅) ∷ ‵ (fdies ty_bool l₆) ∷ ‵ (fdies ty_ptr l₇) ∷ ‵ (fdies E.ty l₈) ∷ ‵ (fdies ty_ptr l₉) ∷ []
+          ∷ ‵ (fdies ty_unit l₀) ∷ ‵ (fdies (slice E A D) l₁) ∷ ‵ (fdies A.ty l₂) ∷ ‵ (fdies word l₃) ∷ ‵ (fdies (pair_ty D) l₄) ∷ ‵ (fdies word l₅) ∷ ‵ (fdies ty_bool l₆) ∷ ‵ (fdies ty_ptr l₇) ∷ ‵ (fdies E.ty l₈) ∷ ‵ (fdies E.ty l₉) ∷ ‵ (fdies ty_ptr l₁₀) ∷ []
 
       abbrev Inv : State → List (Item 𝓤)
       Inv s = Here (length s.ys) s.c (s.ys ++ s.zs)
@@ -177,26 +180,27 @@ module _ (E A : Lone) (D : Pair E A) (F : Of A → Of E → D.D) (g : Name) (non
           → Sq 𝓛 (Here (length ys) c (ys ++ z ∷ zs)) (runs 𝓣.C 𝓣.Λ En (turn E A D g) (Then X))
       unfolding after_turn
       more X ys c z zs isC below within k =
-          assigns ! (of_opd ! (load ! (from ! (fld ! refl (stop !))) (look_in ! 9 (sub ! 1 refl (whole !))))) (from ! (stop !)) (init ! 4 refl (tt, record { fits = fits.0 })) $
+          assigns ! (of_opd ! (load ! (from ! (fld ! refl (stop !))) (look_in ! 10 (sub ! 1 refl (whole !))))) (from ! (stop !)) (init ! 4 refl (tt, record { fits = fits.0 })) $
           assigns ! (bin ! (load ! (from ! (stop !)) (look ! 2 refl)) (load ! (from ! (stop !)) (look ! 4 refl)) tt) (from ! (stop !)) (init ! 5 refl (tt, tt)) $
           rewrite ! 5 (λ (t : Bool). ‵ (fat full_share ty_bool l₆ 0 (vbool t))) (lt-ltb i n below) refl $ stays ! (load ! (from ! (stop !)) (look ! 5 refl)) $
           assigns ! (bin ! (load ! (from ! (stop !)) (look ! 2 refl)) (lit ! small) (record { fits = bytes })) (from ! (stop !)) (store ! 4 refl (tt, record { fits = bytes })) $
-          assigns ! (bin ! (load ! (from ! (fld ! refl (stop !))) (look_in ! 9 (sub ! 0 refl (whole !)))) (load ! (from ! (stop !)) (look ! 4 refl)) tt) (from ! (stop !)) (init ! 6 refl (tt, tt)) $
+          assigns ! (bin ! (load ! (from ! (fld ! refl (stop !))) (look_in ! 10 (sub ! 0 refl (whole !)))) (load ! (from ! (stop !)) (look ! 4 refl)) tt) (from ! (stop !)) (init ! 6 refl (tt, tt)) $
           rewrite ! 6 (λ (p : ℕ). ‵ (fat full_share ty_ptr l₇ 0 (vptr b p))) (sym (place_is (size E.ty) o i)) refl $
           elem_out ! RE (Is RE) (shows 𝓛 RE) (vals E) (tells E) full_share (ys ++ z ∷ zs) i none b o within (λ isE.
-          -- [xs[i]; what it owns; the others; _2; _3; _4; _5; _6; _7; _8; _9; _1; _0; the open borrow; …]
+          -- [xs[i]; what it owns; the others; _2; _3; _4; _5; _6; _7; _8; _9; _10; _1; _0; the open borrow; …]
           assigns ! (of_opd ! (load ! (from ! (hop ! (look ! 8 refl) (stop !))) (look_raw ! 0 refl))) (from ! (stop !)) (init ! 9 refl (typed E 𝓛 e (val E e) isE)) $
           asks ! (fm_of 𝓤 H 𝓛.laws 𝓣) (A ∷ E ∷ []) (parts D) Asked known (c, (e, tt)) (isC, (isE, tt)) (and_then ! (load ! (from ! (stop !)) (look ! 3 refl)) (and_then ! (load ! (from ! (stop !)) (look ! 9 refl)) (no_more !)))
           (from ! (stop !)) 5 refl (λ r isR is-r.
+          assigns ! (of_opd ! (load ! (from ! (fld ! refl (stop !))) (look_in ! 5 (sub ! 0 refl (whole !))))) (from ! (stop !)) (init ! 10 refl (typed E 𝓛 (D.fst r) (val E (D.fst r)) (of_parts_lem D r isR).0)) $
           assigns ! (bin ! (load ! (from ! (stop !)) (look ! 4 refl)) (lit ! small) (record { fits = bytes })) (from ! (stop !)) (store ! 6 refl (tt, record { fits = bytes })) $
-          assigns ! (bin ! (load ! (from ! (fld ! refl (stop !))) (look_in ! 11 (sub ! 0 refl (whole !)))) (load ! (from ! (stop !)) (look ! 6 refl)) tt) (from ! (stop !)) (init ! 10 refl (tt, tt)) $
-          rewrite ! 10 (λ (p : ℕ). ‵ (fat full_share ty_ptr l₉ 0 (vptr b p))) (sym (place_is (size E.ty) o i)) refl $
-          assigns ! (of_opd ! (load ! (from ! (fld ! refl (stop !))) (look_in ! 5 (sub ! 0 refl (whole !))))) (from ! (hop ! (look ! 10 refl) (stop !))) (store_raw ! 0 refl (typed E 𝓛 (D.fst r) (val E (D.fst r)) (of_parts_lem D r isR).0)) $
+          assigns ! (bin ! (load ! (from ! (fld ! refl (stop !))) (look_in ! 12 (sub ! 0 refl (whole !)))) (load ! (from ! (stop !)) (look ! 6 refl)) tt) (from ! (stop !)) (init ! 11 refl (tt, tt)) $
+          rewrite ! 11 (λ (p : ℕ). ‵ (fat full_share ty_ptr l₁₀ 0 (vptr b p))) (sym (place_is (size E.ty) o i)) refl $
+          assigns ! (of_opd ! (load ! (from ! (stop !)) (look ! 10 refl))) (from ! (hop ! (look ! 11 refl) (stop !))) (store_raw ! 0 refl (typed E 𝓛 (D.fst r) (val E (D.fst r)) (of_parts_lem D r isR).0)) $
           move ! (1 ∷ []) $ drop ! $ owned ! RE (Is RE) (makes E 𝓛) (D.fst r) (vals E (D.fst r)) (of_parts_lem D r isR).0 $ move ! (1 ∷ 0 ∷ []) $
           elem_put ! RE full_share (ys ++ z ∷ zs) i (D.fst r) (vals E (D.fst r)) b o within $
           assigns ! (of_opd ! (load ! (from ! (fld ! refl (stop !))) (look_in ! 3 (sub ! 1 refl (whole !))))) (from ! (stop !)) (store ! 1 refl (typed A 𝓛 (D.snd r) (val A (D.snd r)) (of_parts_lem D r isR).1)) $
           assigns_last ! (bin ! (load ! (from ! (stop !)) (look ! 2 refl)) (lit ! tt) (record { fits = next })) (from ! (stop !)) (store ! 2 refl (tt, record { fits = next })) $
-          forget ! 3 refl $ forget ! 4 refl $ forget ! 5 refl $ forget ! 6 refl $ forget ! 7 refl $ forget ! 8 refl $
+          forget ! 3 refl $ forget ! 4 refl $ forget ! 5 refl $ forget ! 6 refl $ forget ! 7 refl $ forget ! 8 refl $ forget ! 9 refl $
           rewrite ! 2 (λ (j : ℕ). ‵ (fat full_share word l₃ 0 (vint w64 j))) (add-one i) refl $
           rewrite ! 1 (λ (d : Of A). ‵ (fat full_share A.ty l₂ 0 (val A d))) (ap D.snd (made r is-r)) refl $
           rewrite ! 0 (λ (ws : List (Of E)). ‵ (row RE full_share ws b o)) (ap (λ (d : D.D). set (ys ++ z ∷ zs) i (D.fst d)) (made r is-r) ∙ set-append_seam ys z zs (sets c z) ∙ sym (append_snoc ys (sets c z) zs)) refl $
@@ -221,15 +225,15 @@ module _ (E A : Lone) (D : Pair E A) (F : Of A → Of E → D.D) (g : Name) (non
       ends : (X : SProp 𝓤) (ys : List (Of E)) (c : Of A) → length ys ≡ n → ys ≡ scanned sets carries a xs → Sq 𝓛 (Here n c ys) (runs 𝓣.C 𝓣.Λ En (turn E A D g) (Then X))
       unfolding after_turn
       ends X ys c e e₁ =
-          assigns ! (of_opd ! (load ! (from ! (fld ! refl (stop !))) (look_in ! 9 (sub ! 1 refl (whole !))))) (from ! (stop !)) (init ! 4 refl (tt, record { fits = fits.0 })) $
+          assigns ! (of_opd ! (load ! (from ! (fld ! refl (stop !))) (look_in ! 10 (sub ! 1 refl (whole !))))) (from ! (stop !)) (init ! 4 refl (tt, record { fits = fits.0 })) $
           assigns ! (bin ! (load ! (from ! (stop !)) (look ! 2 refl)) (load ! (from ! (stop !)) (look ! 4 refl)) tt) (from ! (stop !)) (init ! 5 refl (tt, tt)) $
           rewrite ! 5 (λ (t : Bool). ‵ (fat full_share ty_bool l₆ 0 (vbool t))) (le-ltb n n (omega arith)) refl $ leaves_loop ! (load ! (from ! (stop !)) (look ! 5 refl)) $
           exec ! 𝓣.C 𝓣.Λ En (rest E A D) (at_ret En Post) $
-          assigns ! (of_opd ! (unit_lit !)) (from ! (stop !)) (init ! 10 refl (tt, tt)) $
-          move ! (0 ∷ 11 ∷ 12 ∷ 13 ∷ []) $ closes_slice ! tt RE xs ys e b o $
-          -- [obs; the borrow; the token; _2; _3; _4; _5; _6; _7; _8; _9; _1; _0; and that each local dies]
-          returns ! (look ! 12 refl) $ forget ! 3 refl $ forget ! 4 refl $ forget ! 6 refl $ forget ! 7 refl $ forget ! 11 refl $ forget ! 12 refl $
-          move ! (12 ∷ 13 ∷ []) $ free1 ! $ move ! (11 ∷ 12 ∷ []) $ free1 ! $ move ! (3 ∷ 11 ∷ []) $ free1 ! $ move ! (3 ∷ 10 ∷ []) $ free1 ! $ move ! (3 ∷ 9 ∷ []) $ free1 ! $ move ! (3 ∷ 8 ∷ []) $ free1 ! $
+          assigns ! (of_opd ! (unit_lit !)) (from ! (stop !)) (init ! 11 refl (tt, tt)) $
+          move ! (0 ∷ 12 ∷ 13 ∷ 14 ∷ []) $ closes_slice ! tt RE xs ys e b o $
+          -- [obs; the borrow; the token; _2; _3; _4; _5; _6; _7; _8; _9; _10; _1; _0; and that each local dies]
+          returns ! (look ! 13 refl) $ forget ! 3 refl $ forget ! 4 refl $ forget ! 6 refl $ forget ! 7 refl $ forget ! 12 refl $ forget ! 13 refl $
+          move ! (13 ∷ 14 ∷ []) $ free1 ! $ move ! (12 ∷ 13 ∷ []) $ free1 ! $ move ! (3 ∷ 12 ∷ []) $ free1 ! $ move ! (3 ∷ 11 ∷ []) $ free1 ! $ move ! (3 ∷ 10 ∷ []) $ free1 ! $ move ! (3 ∷ 9 ∷ []) $ free1 ! $ move ! (3 ∷ 8 ∷ []) $ free1 ! $
           move ! (3 ∷ 7 ∷ []) $ free1 ! $ move ! (3 ∷ 6 ∷ []) $ free1 ! $ move ! (3 ∷ 5 ∷ []) $ free1 ! $ move ! (3 ∷ 4 ∷ []) $ free1 ! $ free0 ! $ by ! (exits ys e e₁)
 
       -- a turn from any state leaves the loop, or ends in a state with fewer to come
@@ -253,14 +257,14 @@ module _ (E A : Lone) (D : Pair E A) (F : Of A → Of E → D.D) (g : Name) (non
         → ent 𝓤 (on_entry 𝓛 (lent E A D).signature (κ, tt) (q, tt) x at) (WpFn 𝓤 H 𝓣.C 𝓣.Λ (thin E A D g) (slice_val (b, o) n ∷ val A a ∷ []) Post)
     walk 𝓣 known =
         qed 𝓛 ((‵ (flft κ q) ⊛ ‵ ftrue) ∷ ‵ (owns (MutSlice (named 0) κ RE ∷ Ra ∷ []) x at) ∷ []) ∵ enter ! 𝓣.C 𝓣.Λ (thin E A D g) (slice_val (b, o) n ∷ val A a ∷ []) _ $
-        alloc1 ! (λ l₀. alloc1 ! (λ l₁. alloc1 ! (λ l₂. alloc1 ! (λ l₃. alloc1 ! (λ l₄. alloc1 ! (λ l₅. alloc1 ! (λ l₆. alloc1 ! (λ l₇. alloc1 ! (λ l₈. alloc1 ! (λ l₉. alloc0 ! $ params1 ! $
-        pass1 ! (init ! 16 refl (tt, (tt, (record { fits = fits.0 }, tt)))) $ pass1 ! (init ! 14 refl (typed A 𝓛 a (val A a) is_a)) $ pass0 ! $
-        assigns ! (of_opd ! (lit ! tt)) (from ! (stop !)) (init ! 12 refl (tt, record { fits = lit< tt })) $
+        alloc1 ! (λ l₀. alloc1 ! (λ l₁. alloc1 ! (λ l₂. alloc1 ! (λ l₃. alloc1 ! (λ l₄. alloc1 ! (λ l₅. alloc1 ! (λ l₆. alloc1 ! (λ l₇. alloc1 ! (λ l₈. alloc1 ! (λ l₉. alloc1 ! (λ l₁₀. alloc0 ! $ params1 ! $
+        pass1 ! (init ! 18 refl (tt, (tt, (record { fits = fits.0 }, tt)))) $ pass1 ! (init ! 16 refl (typed A 𝓛 a (val A a) is_a)) $ pass0 ! $
+        assigns ! (of_opd ! (lit ! tt)) (from ! (stop !)) (init ! 14 refl (tt, record { fits = lit< tt })) $
         -- the slice's borrow is opened
-        move ! (21 ∷ []) $ fsplit ! $ fsplit ! $ drop ! $ fsplit ! $ move ! (23 ∷ []) $ split ! $ move ! (2 ∷ 3 ∷ 0 ∷ []) $ opens_slice ! tt RE xs b o $
-        keep ! (0 ∷ 20 ∷ 18 ∷ 16 ∷ 14 ∷ 12 ∷ 10 ∷ 8 ∷ 6 ∷ 22 ∷ 24 ∷ 1 ∷ 2 ∷ 3 ∷ 25 ∷ 23 ∷ 21 ∷ 19 ∷ 17 ∷ 15 ∷ 13 ∷ 11 ∷ 9 ∷ 7 ∷ []) $ first ! $ blocks ! $
-        loops ! 𝓣 (Less 𝓣 known l₀ l₁ l₂ l₃ l₄ l₅ l₆ l₇ l₈ l₉) (InvImage.wf (λ s. length s.zs) lt-wf_rel.wf) (Inv 𝓣 known l₀ l₁ l₂ l₃ l₄ l₅ l₆ l₇ l₈ l₉)
-        (λ s. turns 𝓣 known l₀ l₁ l₂ l₃ l₄ l₅ l₆ l₇ l₈ l₉ s.ys s.zs s.c s.is s.all s.out) (record { ys = []; zs = xs; c = a; is = is_a; all = zero-add n; out = refl })))))))))))
+        move ! (23 ∷ []) $ fsplit ! $ fsplit ! $ drop ! $ fsplit ! $ move ! (25 ∷ []) $ split ! $ move ! (2 ∷ 3 ∷ 0 ∷ []) $ opens_slice ! tt RE xs b o $
+        keep ! (0 ∷ 22 ∷ 20 ∷ 18 ∷ 16 ∷ 14 ∷ 12 ∷ 10 ∷ 8 ∷ 6 ∷ 24 ∷ 26 ∷ 1 ∷ 2 ∷ 3 ∷ 27 ∷ 25 ∷ 23 ∷ 21 ∷ 19 ∷ 17 ∷ 15 ∷ 13 ∷ 11 ∷ 9 ∷ 7 ∷ []) $ first ! $ blocks ! $
+        loops ! 𝓣 (Less 𝓣 known l₀ l₁ l₂ l₃ l₄ l₅ l₆ l₇ l₈ l₉ l₁₀) (InvImage.wf (λ s. length s.zs) lt-wf_rel.wf) (Inv 𝓣 known l₀ l₁ l₂ l₃ l₄ l₅ l₆ l₇ l₈ l₉ l₁₀)
+        (λ s. turns 𝓣 known l₀ l₁ l₂ l₃ l₄ l₅ l₆ l₇ l₈ l₉ l₁₀ s.ys s.zs s.c s.is s.all s.out) (record { ys = []; zs = xs; c = a; is = is_a; all = zero-add n; out = refl }))))))))))))
 
   pub meets : (𝓣 : Tables 𝓤 H) → Triple 𝓤 (𝓣.C g) (Value (A ∷ E ∷ []) (parts D) Asked 𝓤 𝓛) → Meets 𝓛 (lent E A D).signature (WpFn 𝓤 H 𝓣.C 𝓣.Λ (thin E A D g)) (closing 𝓛 (lent E A D) (says_lent E A D F 𝓤))
   meets 𝓣 known =

@@ -15,7 +15,7 @@ use types::nmt::flags::FeatureFlags;
 use types::nmt::states::NmtState;
 use types::types::NodeId;
 
-#[derive(Drop)]
+#[derive(Clone, Copy)]
 pub struct CnNmtStateMachine {
     pub current_state: NmtState,
     pub node_id: NodeId,
@@ -27,7 +27,7 @@ pub struct CnNmtStateMachine {
     pub app_ready: bool,
 }
 
-#[derive(Drop)]
+#[derive(Clone, Copy)]
 pub struct NmtAnswer {
     pub machine: CnNmtStateMachine,
     pub errors: DllErrors,

@@ -6,7 +6,7 @@ use types::nmt::events::NmtEvent;
 use types::nmt::states::NmtState;
 
 // What an event leaves.
-#[derive(Drop)]
+#[derive(Clone, Copy)]
 pub struct Entry {
     pub state: NmtState,
     pub enabled: bool,

@@ -22,7 +22,6 @@ use Rattle.types.specs.declared.frame.error.types.DllError.{DllError}
 use Rattle.types.specs.declared.frame.error.types.DllErrorRead.TheVariants as error_read
 use Rattle.nmt.specs.Resets.{Passed, is_reset}
 use Rattle.nmt.specs.Nmt as Nmt
-use Rattle.nmt.specs.declared.cn_state_machine.NmtAnswer.{NmtAnswer}
 use Rattle.dll.specs.Dll as Dll
 use Rattle.dll.specs.declared.cs_state_machine.DllAnswer.{DllAnswer}
 use Rattle.counters.specs.Counters.{handled, completed}
@@ -35,7 +34,7 @@ use Rattle.entries.specs.History as History
 use Rattle.entries.specs.declared.emergency_queue.HandedOut.{HandedOut}
 use Rattle.entries.specs.declared.error_history.ErrorHistory.{ErrorHistory}
 use Rattle.entries.proofs.Lists.{handed_first, rest_waits, handed_capacity, history_loaded}
-use Rattle.head.specs.Head.{Head, forgetting, with_nmt_lem, with_dll_lem, with_errors_lem, with_soc_lem, with_values, with_queue_lem, soc_watch}
+use Rattle.head.specs.Head.{Head, forgetting, head_with_nmt, head_with_dll, head_with_errors, head_with_soc, head_with_values, head_with_queue, soc_watch}
 use Rattle.head.specs.declared.state.Deadline.TheVariants.{At, Nothing}
 use Rattle.head.specs.declared.state.SocWatch.{SocWatch}
 use Rattle.head.specs.declared.state.Dictionary.{Dictionary}
@@ -85,14 +84,14 @@ pub nmt_taken_lem :
     read_event n ≡ event.Taken e →
     es ≡ (Nmt.processed h.nmt e).errors →
     t ≡ (Nmt.processed h.nmt e).reset →
-    Alone h (nmt_event n) (left (forgetting_if (is_reset e) (with_nmt_lem h (Nmt.processed h.nmt e).machine)) (nmt_answer es t))
+    Alone h (nmt_event n) (left (forgetting_if (is_reset e) (head_with_nmt h (Nmt.processed h.nmt e).machine)) (nmt_answer es t))
 nmt_taken_lem h n e es t r x y = (
   λ q m.
       let p : Plain = plain h q m in
-      let g : Head = with_nmt_lem h (Nmt.processed h.nmt e).machine in
+      let g : Head = head_with_nmt h (Nmt.processed h.nmt e).machine in
       refined h q m (nmt_event n) _ q m no_run (nmt_taken p e (Nmt.processed h.nmt e)) (ap (nmt_step p) r)
       (plain_forgets (is_reset e) g q m) (λ i. nmt_answer (x i) (y i)) refl,
-  let s = forgets_places (is_reset e) (with_nmt_lem h (Nmt.processed h.nmt e).machine) in record { queue = s.queue; history = s.history },
+  let s = forgets_places (is_reset e) (head_with_nmt h (Nmt.processed h.nmt e).machine) in record { queue = s.queue; history = s.history },
 )
 
 pub nmt_refused : (h : Head) (n : ℕ) (x : Refusal) → read_event n ≡ event.Refused x → Alone h (nmt_event n) (left h (refused (refusal_number x)))
@@ -105,7 +104,7 @@ pub dll_taken_lem :
     (h : Head) (n : ℕ) (expected : Bool) (e : DllCsEvent) (a : DllAnswer) →
     read_cs_event n ≡ cs-event.Taken e →
     Dll.cs_outcome a ≡ Dll.cs_processed h.dll.state e h.nmt.current_state expected →
-    Alone h (dll_event n expected) (left (with_dll_lem h a.machine) (dll_answer (reported a.errors)))
+    Alone h (dll_event n expected) (left (head_with_dll h a.machine) (dll_answer (reported a.errors)))
 dll_taken_lem h n expected e a r o = (
   λ q m.
       let p : Plain = plain h q m in
@@ -127,7 +126,7 @@ pub error_taken_lem :
     read_error kind a b ≡ error_read.Taken e →
     r ≡ handled h.errors e →
     Alone h (error kind a b)
-    (left (with_errors_lem h r.counters) (error_answer r.action r.signal (reported r.logged)))
+    (left (head_with_errors h r.counters) (error_answer r.action r.signal (reported r.logged)))
 error_taken_lem h kind a b e r t s = (
   λ q m.
       let p : Plain = plain h q m in
@@ -148,7 +147,7 @@ error_refused h kind a b x t = (
 pub cycle_taken_lem :
     (h : Head) (r : CompletedCycle) →
     r ≡ completed h.errors →
-    Alone h cycle_complete (left (with_errors_lem h r.counters) (cycle_answer r.cleared))
+    Alone h cycle_complete (left (head_with_errors h r.counters) (cycle_answer r.cleared))
 cycle_taken_lem h r s = (
   λ q m.
       let p : Plain = plain h q m in
@@ -172,7 +171,7 @@ withdraw_refused h e = (
 pub withdraw_taken :
     (h : Head) →
     not (same_state h.nmt.current_state NmtReadyToOperate) ≡ true →
-    Alone h withdraw (left (with_nmt_lem h (withdrawn h.nmt)) taken)
+    Alone h withdraw (left (head_with_nmt h (withdrawn h.nmt)) taken)
 withdraw_taken h e = (
   λ q m.
       let p : Plain = plain h q m in
@@ -195,7 +194,7 @@ pub arm_taken :
     (h : Head) (t : ℕ) (s : SocWatch) →
     in_time t ≡ true →
     s ≡ armed h.soc h.od t →
-    Alone h (arm t) (left (with_soc_lem h s) taken)
+    Alone h (arm t) (left (head_with_soc h s) taken)
 arm_taken h t s e a = (
   λ q m.
       let p : Plain = plain h q m in
@@ -210,7 +209,7 @@ arm_taken h t s e a = (
 pub hand_out_taken :
     (h : Head) (q : List ℕ) (r : HandedOut) →
     r ≡ Queue.handed_out q h.queue →
-    ((m : List ℕ) → Refines h q m hand_out (left (with_queue_lem h r.queue) (hand_out_answer r.entry)) q m no_run)
+    ((m : List ℕ) → Refines h q m hand_out (left (head_with_queue h r.queue) (hand_out_answer r.entry)) q m no_run)
     × (r.queue ≡ (Queue.handed_out q h.queue).queue)
     × (h.history ≡ h.history)
 hand_out_taken h q r e =
@@ -234,7 +233,7 @@ module _ (h : Head) (m s : List ℕ) (values : DictionaryUpdate) (o : Dictionary
       (m' : List ℕ) (named : Bool) (k : ErrorHistory) →
       k ≡ loaded_places named s h.history →
       m' ≡ loaded_memory named m s →
-      ((q : List ℕ) → Refines h q m (load values (history_update named s)) (left (with_values h o k) taken) q m' no_run)
+      ((q : List ℕ) → Refines h q m (load values (history_update named s)) (left (head_with_values h o k) taken) q m' no_run)
       × (h.queue ≡ h.queue)
       × (k ≡ loaded_places named s h.history)
       × (m' ≡ loaded_memory named m s)

@@ -2,7 +2,7 @@
 -- of its caller.
 -- Assumes nothing.
 use Prim.Native.Nat.{ℕ}
-use mathlib.Core.List.{List, []}
+use mathlib.Core.List.{List}
 use Rattle.entries.specs.declared.status_response.FoundEntry.{FoundEntry}
 use Rattle.node.specs.declared.calls.CallAnswer.{CallAnswer}
 use Rattle.watched.specs.Watched.{run}

@@ -3,12 +3,12 @@
 use Prim.Native.Nat.{ℕ, ◌+◌}
 use mathlib.Core.Path.{◌≡◌, refl, sym, ap, subst, ◌∙◌}
 use mathlib.Core.Bool.{Bool, true, false}
-use mathlib.Core.List.{List, []}
+use mathlib.Core.List.{List}
 use native.Mathlib.Omega.{arith}
 use lib.ListN.{length, set, length-set}
 use Rattle.entries.specs.History.{loaded}
 use Rattle.entries.specs.declared.error_history.ErrorHistory.{ErrorHistory}
-use Rattle.head.specs.Head.{Head, object_in, statistic_in, with_register, with_object, with_statistic, with_values, with_od_lem}
+use Rattle.head.specs.Head.{Head, object_in, statistic_in, with_register, with_object, with_statistic, head_with_values, head_with_od}
 use Rattle.head.specs.declared.state.Object.{Object}
 use Rattle.head.specs.declared.state.Object.TheVariants.{CycleTime, Tolerance}
 use Rattle.head.specs.declared.state.Statistic.{Statistic}
@@ -49,20 +49,20 @@ object_long ws i object.Keep = refl
 module _ (ws : List ℕ) (long : length ws ≡ 60) where
   register_loaded :
       (u : ByteUpdate) → ByteFits u →
-      head_of (byte_loaded ws at.register u) ≡ with_od_lem (head_of ws) (with_register (updated_byte (head_of ws).od.error_register u) (head_of ws).od)
+      head_of (byte_loaded ws at.register u) ≡ head_with_od (head_of ws) (with_register (updated_byte (head_of ws).od.error_register u) (head_of ws).od)
   register_loaded (byte.Set n) h = register_written ws long n h
   register_loaded byte.Keep h = refl
 
   object_loaded_lem :
       (o : Object) (u : ObjectUpdate) →
-      head_of (object_loaded ws (at.object o) u) ≡ with_od_lem (head_of ws) (with_object o (updated_object (object_in o (head_of ws).od) u) (head_of ws).od)
+      head_of (object_loaded ws (at.object o) u) ≡ head_with_od (head_of ws) (with_object o (updated_object (object_in o (head_of ws).od) u) (head_of ws).od)
   object_loaded_lem o (object.Set v) = object_written_lem ws long o v
   object_loaded_lem CycleTime object.Keep = refl
   object_loaded_lem Tolerance object.Keep = refl
 
   statistic_loaded :
       (s : Statistic) (u : CounterUpdate) →
-      head_of (counter_loaded ws (at.statistic s) u) ≡ with_od_lem (head_of ws) (with_statistic s (updated_counter (statistic_in s (head_of ws).od) u) (head_of ws).od)
+      head_of (counter_loaded ws (at.statistic s) u) ≡ head_with_od (head_of ws) (with_statistic s (updated_counter (statistic_in s (head_of ws).od) u) (head_of ws).od)
   statistic_loaded s (counter.Set n) = statistic_written ws long s n
   statistic_loaded Counter1 counter.Keep = refl
   statistic_loaded Counter2 counter.Keep = refl
@@ -71,19 +71,19 @@ module _ (ws : List ℕ) (long : length ws ≡ 60) where
 
 -- what a value that is named makes of a head
 abbrev object_by : Object → ObjectUpdate → Head → Head
-object_by o u h = with_od_lem h (with_object o (updated_object (object_in o h.od) u) h.od)
+object_by o u h = head_with_od h (with_object o (updated_object (object_in o h.od) u) h.od)
 
 abbrev statistic_by : Statistic → CounterUpdate → Head → Head
-statistic_by s u h = with_od_lem h (with_statistic s (updated_counter (statistic_in s h.od) u) h.od)
+statistic_by s u h = head_with_od h (with_statistic s (updated_counter (statistic_in s h.od) u) h.od)
 
-history_loaded : (ws : List ℕ) → length ws ≡ 60 → (s : List ℕ) → head_of (history_written ws (loaded s)) ≡ with_values (head_of ws) (head_of ws).od (loaded s)
+history_loaded : (ws : List ℕ) → length ws ≡ 60 → (s : List ℕ) → head_of (history_written ws (loaded s)) ≡ head_with_values (head_of ws) (head_of ws).od (loaded s)
 unfolding loaded
 history_loaded ws long s = history_written_lem ws long (loaded s) (omega arith) (omega arith)
 
 -- all that are named, one after the other
 pub values_loaded_lem :
     (ws : List ℕ) → length ws ≡ 60 → (u : DictionaryUpdate) → ByteFits u.error_register →
-    (head_of (values_loaded ws u) ≡ with_od_lem (head_of ws) (updated (od_of ws) u)) × (length (values_loaded ws u) ≡ 60)
+    (head_of (values_loaded ws u) ≡ head_with_od (head_of ws) (updated (od_of ws) u)) × (length (values_loaded ws u) ≡ 60)
 unfolding head_of values_loaded updated
 values_loaded_lem ws l₀ u fits =
     let w₁ = byte_loaded ws at.register u.error_register in
@@ -118,7 +118,7 @@ pub values_in :
     w₅ ≡ counter_loaded w₄ at.counter2 u.counter_2 →
     w₆ ≡ counter_loaded w₅ at.counter3 u.counter_3 →
     w₇ ≡ counter_loaded w₆ at.counter5 u.counter_5 →
-    (head_of w₇ ≡ with_od_lem (head_of ws) (updated (od_of ws) u)) × (w₇ ≡ values_loaded ws u)
+    (head_of w₇ ≡ head_with_od (head_of ws) (updated (od_of ws) u)) × (w₇ ≡ values_loaded ws u)
 unfolding values_loaded
 values_in ws long u w₁ w₂ w₃ w₄ w₅ w₆ w₇ e₁ e₂ e₃ e₄ e₅ e₆ e₇ =
     let e : w₇ ≡ values_loaded ws u =
@@ -131,10 +131,10 @@ values_in ws long u w₁ w₂ w₃ w₄ w₅ w₆ w₇ e₁ e₂ e₃ e₄ e₅ 
     (ap head_of e ∙ (values_loaded_lem ws long u e₁.1).0, e)
 
 -- the call
-module _ (ws m : List ℕ) (u : DictionaryUpdate) (s w₁ : List ℕ) (v : (head_of w₁ ≡ with_od_lem (head_of ws) (updated (od_of ws) u)) × (w₁ ≡ values_loaded ws u)) where
+module _ (ws m : List ℕ) (u : DictionaryUpdate) (s w₁ : List ℕ) (v : (head_of w₁ ≡ head_with_od (head_of ws) (updated (od_of ws) u)) × (w₁ ≡ values_loaded ws u)) where
   loads :
       (named : Bool) (ws' m' : List ℕ) (k : ErrorHistory) →
-      head_of ws' ≡ with_values (head_of ws) (updated (od_of ws) u) k →
+      head_of ws' ≡ head_with_values (head_of ws) (updated (od_of ws) u) k →
       k ≡ loaded_places named s (head_of ws).history →
       m' ≡ loaded_memory named m s →
       ws' ≡ load_words ws u named s →
@@ -161,5 +161,5 @@ module _ (ws m : List ℕ) (u : DictionaryUpdate) (s w₁ : List ℕ) (v : (head
   named_too long k m' ws' e b w =
       let to : ws' ≡ history_written w₁ (loaded s) = w ∙ ap (history_written w₁) e in
       loads true ws' m' (loaded s)
-      (ap head_of to ∙ history_loaded w₁ long s ∙ ap (λ (h : Head). with_values h h.od (loaded s)) v.0) refl b
+      (ap head_of to ∙ history_loaded w₁ long s ∙ ap (λ (h : Head). head_with_values h h.od (loaded s)) v.0) refl b
       (to ∙ ap (λ (l : List ℕ). history_written l (loaded s)) v.1)

@@ -1,13 +1,13 @@
 -- The calls that are lent a run: one law for a declined call and one for a call that is taken, in whatever form the run is lent.
 -- Assumes nothing.
 use Prim.Native.Nat.{ℕ}
-use mathlib.Core.Path.{◌≡◌, refl, sym, ap, ◌∙◌}
+use mathlib.Core.Path.{◌≡◌, refl, ap, ◌∙◌}
 use mathlib.Core.List.{List}
 use lib.ListN.{length}
 use Rattle.types.specs.Refusals.{refusal_number}
 use Rattle.types.specs.declared.refusals.Refusal.{Refusal}
 use Rattle.head.specs.declared.state.Deadline.{Deadline}
-use Rattle.head.specs.Head.{Head, with_earliest_lem}
+use Rattle.head.specs.Head.{Head, head_with_earliest}
 use Rattle.head.specs.Words.{head_of}
 use Rattle.head.specs.Written.{earliest_written}
 use Rattle.head.proofs.Laws.{earliest_written_lem}
@@ -33,7 +33,7 @@ module _ (ws : List ℕ) (c : Call) (r : Run) where
       length ws ≡ 60 → ((p : Plain) → step p c ≡ leaves p r) → (d : Deadline) → d ≡ earliest (watching r) →
       (ws' : List ℕ) → ws' ≡ earliest_written ws d → OnRun ws c answer.Taken ws' r
   run_taken long e d g ws' w =
-      let h : head_of ws' ≡ with_earliest_lem (head_of ws) d = ap head_of w ∙ earliest_written_lem ws long d in
+      let h : head_of ws' ≡ head_with_earliest (head_of ws) d = ap head_of w ∙ earliest_written_lem ws long d in
       record {
         refines =
             λ q m.

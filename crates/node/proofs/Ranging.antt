@@ -3,7 +3,7 @@
 use Prim.Native.Nat.{ℕ, zero, suc, ◌+◌, ◌-◌, ◌≤◌, ◌<◌, min}
 use mathlib.Core.Path.{◌≡◌, refl, sym, ap, subst, ◌∙◌}
 use mathlib.Core.Bool.{Bool, true, false, not, true≢false}
-use mathlib.Core.List.{List, [], ◌∷◌}
+use mathlib.Core.List.{List, []}
 use native.Mathlib.Omega.{arith}
 use lib.Dec.{leb, ltb}
 use lib.IntN.{ℤ, pos, ◌-ℤ◌}
@@ -23,7 +23,7 @@ use Rattle.node.specs.Range.{each_reading, every_reading, verdict_of, margin_of,
 use Rattle.node.specs.Run.{step}
 use Rattle.node.specs.Refines.{plain, left}
 use Rattle.node.specs.InPlace.{Reading}
-use Rattle.node.proofs.Laws.{Alone, refined, same_places}
+use Rattle.node.proofs.Laws.{refined, same_places}
 use Rattle.node.proofs.Refining.{unwritten}
 
 -- each of the readings passes, said of the readings

@@ -41,7 +41,7 @@ use Rattle.entries.specs.Queue.{handed_out, length_of}
 use Rattle.entries.specs.declared.emergency_queue.EmergencyQueue.{EmergencyQueue}
 use Rattle.entries.specs.declared.emergency_queue.HandedOut.{HandedOut}
 use Rattle.entries.proofs.Lists.{handed_capacity}
-use Rattle.head.specs.Head.{Head, forgetting, with_errors_lem, with_queue_lem}
+use Rattle.head.specs.Head.{Head, head_with_errors, head_with_queue}
 use Rattle.head.specs.declared.state.SocWatch.{SocWatch}
 use Rattle.node.specs.Plain.{Call, nmt_event, dll_event, error, cycle_complete, withdraw, hand_out, arm, Answer, refused, taken, nmt_answer, dll_answer, error_answer, cycle_answer, hand_out_answer}
 use Rattle.watched.specs.Watched.{in_time}
@@ -181,13 +181,13 @@ module _ (ws : List ℕ) where
   module _ (long : length ws ≡ 60) where
     pub effect_written :
         (x : Counters.Effect) (e : DllError) →
-        head_of (effect_words ws x) ≡ with_errors_lem (head_of ws) (Counters.handled_as x (errors_of ws) e).counters
+        head_of (effect_words ws x) ≡ head_with_errors (head_of ws) (Counters.handled_as x (errors_of ws) e).counters
     unfolding head_of
     effect_written (Counters.counts k) e =
         let c : ThresholdCounter = (Counters.after_error (counter_at ws (at.counter k))).counter in
         counter_written_lem ws long k c (check_keeps (counter_at ws (at.counter k)))
-        ∙ ap (λ (c : ThresholdCounter). with_errors_lem (head_of ws) (Counters.replaced k (Counters.after_error c).counter (errors_of ws))) (sym (counter_read k))
-        ∙ ap (with_errors_lem (head_of ws)) (sym (counted_counters k (errors_of ws) e))
+        ∙ ap (λ (c : ThresholdCounter). head_with_errors (head_of ws) (Counters.replaced k (Counters.after_error c).counter (errors_of ws))) (sym (counter_read k))
+        ∙ ap (head_with_errors (head_of ws)) (sym (counted_counters k (errors_of ws) e))
     effect_written Counters.loses_link e = links_written ws long (Counters.add_top (word ws at.links) 1)
     effect_written Counters.is_logged e = refl
     effect_written Counters.nothing e = refl
@@ -273,7 +273,7 @@ module _ (ws : List ℕ) where
     cycle_yes r o w =
         let s : r.counters ≡ Counters.lowered (errors_of ws) = ap (λ (r : CompletedCycle). r.counters) o in
         in_place ws cycle_complete _ _ (cycle_words ws) _ ws' (cycle_taken_lem (head_of ws) r o)
-        (levels_written_lem ws long ∙ ap (with_errors_lem (head_of ws)) (sym s)) refl (w ∙ ap (levels_written ws) s)
+        (levels_written_lem ws long ∙ ap (head_with_errors (head_of ws)) (sym s)) refl (w ∙ ap (levels_written ws) s)
 
     pub arm_yes :
         (t : ℕ) (s : SocWatch) →
@@ -299,10 +299,10 @@ module _ (ws : List ℕ) where
         picked (λ (r : HandedOut). r.queue.oldest < 256) (ltb 0 (length_of p)) _ _ (omega arith) (omega arith) in
         let length : (handed_out q p).queue.length < 256 =
         picked (λ (r : HandedOut). r.queue.length < 256) (ltb 0 (length_of p)) _ _ (omega arith) (omega arith) in
-        let to : head_of ws' ≡ with_queue_lem (head_of ws) r.queue =
+        let to : head_of ws' ≡ head_with_queue (head_of ws) r.queue =
         ap head_of (w ∙ ap (λ (r : HandedOut). queue_written ws r.queue) o)
         ∙ queue_written_lem ws long (handed_out q p).queue oldest length (handed_capacity q p)
-        ∙ ap (λ (r : HandedOut). with_queue_lem (head_of ws) r.queue) (sym o) in
+        ∙ ap (λ (r : HandedOut). head_with_queue (head_of ws) r.queue) (sym o) in
         let x = hand_out_taken (head_of ws) q r o in (
           λ m. subst (λ (g : Head). Refines (head_of ws) q m hand_out (left g (hand_out_answer r.entry)) q m no_run) (sym to) (x.0 m),
           w ∙ ap (λ (r : HandedOut). queue_written ws r.queue) o,

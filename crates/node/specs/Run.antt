@@ -8,7 +8,7 @@ use Rattle.counters.specs.Counters.{completed}
 use Rattle.counters.specs.Marks.{cycle_marks}
 use Rattle.watched.specs.Watched.{heard_at, Run, changing}
 use Rattle.node.specs.Plain.{Plain, Call, nmt_event, dll_event, error, cycle_complete, withdraw, heard, hand_out, load, arm, tick, range, margin, add, remove, Answer, taken, Step}
-use Rattle.node.specs.Steps.{tried, with_nmt, with_soc, plain_with_values, no_run, answers, declines, leaves, nmt_step, dll_step, error_step, cycle_taken, withdrawn, withdraw_tests, heard_tests, add_tests, remove_tests, added, removed, hand_out_step, updated, updated_history, arm_tests, armed}
+use Rattle.node.specs.Steps.{tried, with_nmt, with_soc, with_values, no_run, answers, declines, leaves, nmt_step, dll_step, error_step, cycle_taken, withdrawn, withdraw_tests, heard_tests, add_tests, remove_tests, added, removed, hand_out_step, updated, updated_history, arm_tests, armed}
 use Rattle.node.specs.Tick.{tick_step}
 use Rattle.node.specs.Range.{range_step, margin_step}
 
@@ -21,7 +21,7 @@ step p cycle_complete = cycle_taken p (completed p.errors) (cycle_marks p.errors
 step p withdraw = tried (withdraw_tests p) (declines p no_run) (answers (with_nmt p (withdrawn p.nmt)) taken no_run)
 step p (heard n t r) = tried (heard_tests n t r) (declines p r) (leaves p (changing (heard_at n t) r))
 step p hand_out = hand_out_step p
-step p (load values h) = answers (plain_with_values p (updated p.od values) (updated_history p.history h)) taken no_run
+step p (load values h) = answers (with_values p (updated p.od values) (updated_history p.history h)) taken no_run
 step p (tick t r) = tick_step p t r
 step p (arm t) = tried (arm_tests t) (declines p no_run) (answers (with_soc p (armed p.soc p.od t)) taken no_run)
 step p (range earliest latest) = range_step p earliest latest

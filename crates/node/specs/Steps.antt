@@ -79,8 +79,8 @@ with_soc p s = plain_of p.nmt p.dll p.errors s p.od p.capacity p.queue p.history
 abbrev pub with_queue : Plain → List ErrorEntry → Plain
 with_queue p q = plain_of p.nmt p.dll p.errors p.soc p.od p.capacity q p.history p.earliest
 
-abbrev pub plain_with_values : Plain → Dictionary → List ErrorEntry → Plain
-plain_with_values p o h = plain_of p.nmt p.dll p.errors p.soc o p.capacity p.queue h p.earliest
+abbrev pub with_values : Plain → Dictionary → List ErrorEntry → Plain
+with_values p o h = plain_of p.nmt p.dll p.errors p.soc o p.capacity p.queue h p.earliest
 
 abbrev pub with_earliest : Plain → Deadline → Plain
 with_earliest p x = plain_of p.nmt p.dll p.errors p.soc p.od p.capacity p.queue p.history x

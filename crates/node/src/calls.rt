@@ -28,38 +28,38 @@ use types::refusals::Refusal;
 use watched::time::in_time;
 
 // What a call answers: the head stands in the words.
-#[derive(Drop)]
+#[derive(Clone, Copy)]
 pub enum CallAnswer {
     Taken,
     Refused(Refusal),
 }
 
-#[derive(Drop)]
+#[derive(Clone, Copy)]
 pub struct NmtTaken {
     pub errors: DllErrors,
     pub reset: ResetSequence,
 }
 
-#[derive(Drop)]
+#[derive(Clone, Copy)]
 pub enum NmtEventAnswer {
     Taken(NmtTaken),
     Refused(Refusal),
 }
 
-#[derive(Drop)]
+#[derive(Clone, Copy)]
 pub enum DllEventAnswer {
     Taken(DllErrors),
     Refused(Refusal),
 }
 
-#[derive(Drop)]
+#[derive(Clone, Copy)]
 pub struct ErrorTaken {
     pub action: NmtAction,
     pub signal: bool,
     pub logged: DllErrors,
 }
 
-#[derive(Drop)]
+#[derive(Clone, Copy)]
 pub enum ErrorAnswer {
     Taken(ErrorTaken),
     Refused(Refusal),

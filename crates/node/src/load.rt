@@ -4,32 +4,32 @@ ghost use Rattle.node.specs.Steps.{updated};
 ghost use Rattle.head.specs.Places as at;
 ghost use Rattle.head.specs.Words.{od_of, head_of};
 ghost use Rattle.node.specs.Loaded.{byte_loaded, counter_loaded, object_loaded, ByteFits, values_loaded, LoadedIn};
-ghost use Rattle.head.specs.Head.{with_od_lem};
+ghost use Rattle.head.specs.Head.{head_with_od};
 
 use entries::error_history::ErrorHistory;
 use head::parts::{byte, set_history, set_object, set_register, set_statistic, whole};
 use head::state::{Head, Object, ObjectValue, Statistic};
 
 // A value that a load sets, or that it leaves.
-#[derive(Drop)]
+#[derive(Clone, Copy)]
 pub enum ByteUpdate {
     Set(u8),
     Keep,
 }
 
-#[derive(Drop)]
+#[derive(Clone, Copy)]
 pub enum CounterUpdate {
     Set(u32),
     Keep,
 }
 
-#[derive(Drop)]
+#[derive(Clone, Copy)]
 pub enum ObjectUpdate {
     Set(ObjectValue),
     Keep,
 }
 
-#[derive(Drop)]
+#[derive(Clone, Copy)]
 pub struct DictionaryUpdate {
     pub error_register: ByteUpdate,
     pub cycle_time: ObjectUpdate,
@@ -85,7 +85,7 @@ fn load_statistic(head: &mut Head, statistic: Statistic, update: CounterUpdate)
 
 // The words of the values that are named, and no others.
 fn load_values(head: &mut Head, values: DictionaryUpdate)
-    ensures { (head_of head.new ≡ with_od_lem (head_of head.old) (updated (od_of head.old) values))
+    ensures { (head_of head.new ≡ head_with_od (head_of head.old) (updated (od_of head.old) values))
         × (head.new ≡ values_loaded head.old values) }
 {
     let register = values.error_register;

@@ -13,20 +13,20 @@ use types::refusals::Refusal;
 use watched::time::in_time;
 
 // What the readings of a clock say of the SoC: at each of them it is lost, at none, at some.
-#[derive(Drop)]
+#[derive(Clone, Copy)]
 pub enum SocVerdict {
     Lost,
     Kept,
     Open,
 }
 
-#[derive(Drop)]
+#[derive(Clone, Copy)]
 pub enum RangeAnswer {
     Taken(SocVerdict),
     Refused(Refusal),
 }
 
-#[derive(Drop)]
+#[derive(Clone, Copy)]
 pub enum MarginAnswer {
     Taken(i64),
     Refused(Refusal),

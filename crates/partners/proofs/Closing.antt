@@ -12,7 +12,7 @@ use borrow.Author.Tests.{lt-ltb, le-ltb}
 use Rattle.types.specs.Pick.{pick}
 use Rattle.watched.specs.declared.nodes.WatchedNode.{WatchedNode}
 use Rattle.watched.specs.Watched.{place_of, no_node, watched_node, without}
-use Rattle.watched.specs.Nodes.{node_at, nodes_of}
+use Rattle.watched.specs.Nodes.{nodes_of}
 use Rattle.watched.proofs.Watching.{places}
 use Rattle.partners.specs.Walks.{closed}
 use Rattle.partners.proofs.Places.{rest_set, turn_set, all_behind, ahead}

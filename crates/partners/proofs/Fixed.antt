@@ -6,7 +6,6 @@ use mathlib.Core.List.{List, [], ◌∷◌}
 use native.Mathlib.Omega.{arith}
 use lib.ListN.{length, get_or}
 use Rattle.entries.specs.Ring.{listed}
-use Rattle.watched.specs.declared.nodes.WatchedNode.{WatchedNode}
 use Rattle.watched.specs.Watched.{watched_node}
 use Rattle.watched.specs.Nodes.{node_at, nodes_of}
 use Rattle.partners.specs.Partners.{words_of}

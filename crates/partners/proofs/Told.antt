@@ -1,32 +1,29 @@
 -- Add and remove on nodes in words, over plain variables: what was found and what the walks left gives what the call must answer and leave.
 -- Assumes nothing.
-use Prim.Native.Nat.{ℕ, suc, ◌+◌, ◌-◌, ◌<◌, ◌≤◌}
-use mathlib.Core.Path.{◌≡◌, refl, sym, ap, ap₂, ◌∙◌}
+use Prim.Native.Nat.{ℕ, ◌+◌, ◌-◌, ◌<◌, ◌≤◌}
+use mathlib.Core.Path.{◌≡◌, refl, sym, ap, ◌∙◌}
 use mathlib.Core.Bool.{Bool, true, false}
 use mathlib.Core.List.{List, ◌++◌}
-use native.Mathlib.Omega.{arith}
-use native.Mathlib.Numerals.{add-one}
-use lib.Dec.{leb, ltb}
-use lib.ListN.{length, take, drop, replicate}
+use lib.Dec.{ltb}
+use lib.ListN.{length, take, drop}
 use borrow.Author.Tests.{ltb-true, ltb-false}
-use Rattle.types.specs.Pick.{pick, both}
+use Rattle.types.specs.Pick.{pick}
 use Rattle.types.specs.Types.{is_node, node, read_node}
 use Rattle.types.specs.declared.types.NodeId.{NodeId}
 use Rattle.types.specs.declared.types.NodeIdRead.{NodeIdRead}
 use Rattle.types.specs.declared.types.NodeIdRead.TheVariants as node-id
 use Rattle.types.specs.declared.refusals.Refusal.{Refusal}
 use Rattle.types.specs.declared.refusals.Refusal.TheVariants.{NodeNumber, WatchedNodes}
-use Rattle.types.proofs.Tests.{both_first, both_second}
 use Rattle.head.specs.declared.state.Deadline.{Deadline}
 use Rattle.head.specs.Written.{earliest_written}
 use Rattle.watched.specs.declared.nodes.WatchedNode.{WatchedNode}
-use Rattle.watched.specs.Watched.{all_of, ascending, fits, well_formed, is_watched, heard_at, place_of, no_node, watched_node, watched_of, Run, run, watching, well_lent, inserted, without}
+use Rattle.watched.specs.Watched.{well_formed, is_watched, heard_at, place_of, watched_node, watched_of, Run, run, watching, well_lent}
 use Rattle.watched.specs.Nodes.{never, nodes_of, soonest}
 use Rattle.watched.proofs.Lists.{watched_there, watched_nowhere}
 use Rattle.watched.proofs.Watching.{places, few, lent_words}
 use Rattle.node.specs.declared.calls.CallAnswer.{CallAnswer}
 use Rattle.node.specs.declared.calls.CallAnswer.TheVariants as answer
-use Rattle.node.specs.Steps.{earliest, added, removed}
+use Rattle.node.specs.Steps.{earliest, added}
 use Rattle.node.specs.InPlace.{moment_of, unless_refused}
 use Rattle.partners.specs.Partners.{add_answer, remove_answer, words_of, Added, Removed}
 use Rattle.partners.specs.Walks.{carried, closed}

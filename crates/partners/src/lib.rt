@@ -1,5 +1,7 @@
 // Heartbeat partners arrive and leave (document 02, No. 1): a node is added to the watched nodes of a head, or removed from them. Of nodes in words 32 places
 // are lent, three words each, with the number of the first ones that are watched.
+#![tactic(auto)]
+
 ghost use Rattle.std.specs.Prelude.{◌≡◌, ◌++◌, ◌-◌, ◌≤◌, ◌<◌, set, take, drop};
 ghost use Rattle.types.specs.Types.{is_node};
 ghost use Rattle.watched.specs.Watched.{watched_node};

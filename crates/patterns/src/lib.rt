@@ -1,5 +1,7 @@
 // Matching a line with a pattern. In a pattern a capital letter stands for a number by its width, and any other character for
 // itself. The place behind what was matched is UNREADABLE where it does not match, and so is every place from there on.
+#![tactic(auto)]
+
 ghost use Rattle.std.specs.Prelude.{◌≡◌, ◌≤◌, ◌<◌, length};
 ghost use Rattle.patterns.specs.Patterns.{digit_of, radix, grown, digits_at, is_hex, number_at, numbers_in, carries_byte, byte_or_any, largest_of, is_missing, matched, read_number, match_one, match_at};
 
@@ -15,7 +17,7 @@ pub const UNREADABLE: usize = usize::MAX;
 pub const KEPT: u64 = 8589934592;
 
 // A number and the place behind its digits.
-#[derive(Drop)]
+#[derive(Clone, Copy)]
 struct Number {
     n: u64,
     end: usize,

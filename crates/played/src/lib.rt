@@ -1,5 +1,7 @@
 // What a line of a call script does on a head (docs/CALLS.md), beside what it prints: the call of its key, made with the session's run, or the reading of a
 // number; and the bytes of the desk's buffer.
+#![tactic(auto)]
+
 ghost use Rattle.std.specs.Prelude.{◌≡◌, ◌++◌, ◌≤◌, min, length, take, drop};
 ghost use Rattle.calls.specs.Values.{at, entry_of};
 ghost use Rattle.calls.specs.Calls.{Starts, write_numbers};

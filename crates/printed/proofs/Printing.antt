@@ -7,9 +7,10 @@ use mathlib.Core.List.{List, [], ◌∷◌, ◌++◌}
 use native.Mathlib.Numerals.{add-one}
 use native.Mathlib.Omega.{arith}
 use lib.ListN.{length, get_or, set, take, drop, drop_of_length-le}
-use lib.Seq.{drop-cons, drop-drop, take-length}
+use lib.Seq.{drop-cons, drop-drop}
+use Rattle.std.proofs.lemmas.List.{take_rest}
 use borrow.Author.Tests.{eq-eqb, ne_eqb}
-use Rattle.bytes.specs.Bytes.{index_of, slice}
+use Rattle.forms.specs.Find.{index_of, slice}
 use Rattle.forms.specs.Hex.{hex_digits, hex_form}
 use Rattle.printed.specs.Marks.{numbers_in, hides, number_in}
 use Rattle.printed.specs.Printed.{place_in, placed, put_in, laid, decimal, is_silent, mark_text, shown_text, form_text, is_row, form_by, row_text, digits_text, bytes_text}
@@ -161,8 +162,7 @@ row_none rows ns b b' key from e l h =
 
 module _ (rows : List ℕ) (key from k t : ℕ) (inside : from < length rows) (turn : t ≡ suc k) (end : ℕ) (found : end ≡ from + 1 + index_of 59 (slice (from + 1) (length rows) rows)) where
   ends : end ≡ from + 1 + index_of 59 (drop (from + 1) rows)
-  unfolding slice
-  ends = rw (take-length rows) at found
+  ends = rw (take_rest rows (from + 1)) at found
 
   size : index_of 59 (drop (from + 1) rows) ≡ end - (from + 1)
   size = omega (arith, ends)

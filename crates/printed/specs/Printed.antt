@@ -2,7 +2,7 @@
 -- Assumes nothing.
 use Rattle.std.specs.Prelude.{ℕ, zero, suc, ◌+◌, ◌*◌, ◌/◌, ◌%◌, Bool, true, List, [], ◌∷◌, ◌++◌, eqb, ltb, length, get_or, set, take, drop}
 use Rattle.types.specs.Pick.{pick}
-use Rattle.bytes.specs.Bytes.{index_of}
+use Rattle.forms.specs.Find.{index_of}
 use Rattle.forms.specs.Hex.{hex_digits, hex_form}
 use Rattle.printed.specs.Marks.{numbers_in, hides, number_in}
 

@@ -7,12 +7,12 @@ use mathlib.Core.Bool.{Bool, true, false, true≢false}
 use mathlib.Core.List.{List, [], ◌∷◌}
 use mathlib.Core.Logic.{◌⊎◌, inl, inr}
 use lib.Dec.{eqb, ltb}
-use borrow.Author.Tests.{eqb-true, eqb-false, eq-eqb, ne_eqb, ltb-true, lt-ltb}
-use Rattle.types.specs.Pick.{pick, both}
+use borrow.Author.Tests.{eqb-true, eq-eqb, ne_eqb, ltb-true, lt-ltb}
+use Rattle.types.specs.Pick.{pick}
 use Rattle.types.proofs.Tests.{both_first, both_second}
 use Rattle.node.specs.Plain.{Start}
 use Rattle.reach.specs.declared.Line.{Line}
-use Rattle.reach.specs.Positions.{Position, Reached, named, steps_to, Among, key, is_before, in_order, EveryPosition}
+use Rattle.reach.specs.Positions.{Reached, named, steps_to, Among, key, is_before, in_order, EveryPosition}
 
 -- the order of two keys: by their first numbers, or those are the same
 abbrev Lesser : ℕ → ℕ → List ℕ → List ℕ → Type 0

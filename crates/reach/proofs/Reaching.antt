@@ -1,6 +1,6 @@
 -- Lines that pass four computed tests name every position that a head can reach, with its least number of steps.
 -- Assumes nothing.
-use Prim.Native.Nat.{ℕ, zero, suc, ◌<◌, ◌≤◌}
+use Prim.Native.Nat.{ℕ, zero, suc, ◌≤◌}
 use native.Mathlib.Omega.{arith}
 use mathlib.Core.Path.{◌≡◌, refl, sym, ap, subst, ◌∙◌}
 use mathlib.Core.Bool.{Bool, true, false, not, true≢false}
@@ -31,7 +31,7 @@ use Rattle.node.specs.Plain.{Plain, Step, nmt_event, withdraw, Start, taken}
 use Rattle.node.specs.Steps.{fresh, no_run, answers, declines, with_nmt, forgets, nmt_step, nmt_taken, withdrawn}
 use Rattle.node.specs.Run.{step}
 use Rattle.reach.specs.declared.Line.{Line}
-use Rattle.reach.specs.Positions.{Position, position_at, position, Steps, none, event, withdrawal, Reached, named, steps_to, Among, HasLine, same_flag, same_position, each_once, in_order, EveryPosition}
+use Rattle.reach.specs.Positions.{Position, position_at, position, Steps, none, event, withdrawal, Reached, named, steps_to, Among, same_flag, same_position, each_once, in_order, EveryPosition}
 
 -- a test at every one of a list, and at one of them
 abbrev all : {A : Type 0} → (A → Bool) → List A → Bool

@@ -1,4 +1,6 @@
 // Every position that a head can reach, and the line that the program `positions` prints of it (document 02, No. 12).
+#![tactic(auto)]
+
 ghost use Rattle.std.specs.Prelude.{◌≡◌, true};
 ghost use Rattle.forms.specs.Hex.{glyph};
 ghost use Rattle.head.specs.Words.{one};
@@ -8,7 +10,7 @@ ghost use Rattle.reach.specs.Positions.{EveryPosition};
 use types::nmt::states::NmtState;
 
 // A position, which is an NMT state, whether enabled and whether ready, and the least number of steps to it from a fresh head.
-#[derive(Drop)]
+#[derive(Clone, Copy)]
 pub struct Line(pub NmtState, pub bool, pub bool, pub u8);
 
 // In the order in which they are printed.

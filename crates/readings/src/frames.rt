@@ -4,6 +4,7 @@ ghost use Rattle.types.specs.Frames.{read_message};
 ghost use Rattle.readings.specs.Shown.{of_message};
 
 use crate::{Reading, print_reading, say, say_hex2, say_number};
+use forms::output::Output;
 use types::frame::FrameNmtEvent;
 use types::types::{MessageType, MessageTypeRead};
 
@@ -16,45 +17,45 @@ fn message(n: u8) -> Reading
     }
 }
 
-fn print_message(n: u8) {
-    print_reading(b"(message ", n as u64, message(n));
+fn print_message(out: &mut Output, n: u8) {
+    print_reading(out, b"(message ", n as u64, message(n));
 }
 
-pub(crate) fn print_messages() {
+pub(crate) fn print_messages(out: &mut Output) {
     for n in 0..=255u8 {
-        print_message(n);
+        print_message(out, n);
     }
 }
 
-fn say_nmt_event(event: FrameNmtEvent) {
+fn say_nmt_event(out: &mut Output, event: FrameNmtEvent) {
     match event {
-        FrameNmtEvent::Some(event) => say_number(event.as_u8() as u64),
-        FrameNmtEvent::None => say(b"none"),
+        FrameNmtEvent::Some(event) => say_number(out, event.as_u8() as u64),
+        FrameNmtEvent::None => say(out, b"none"),
     }
 }
 
-fn say_events(kind: MessageType) {
-    say(b" (dll ");
-    say_number(kind.dll_cn_event().as_u8() as u64);
-    say(b") (nmt ");
-    say_nmt_event(kind.nmt_event());
-    say(b"))\n");
+fn say_events(out: &mut Output, kind: MessageType) {
+    say(out, b" (dll ");
+    say_number(out, kind.dll_cn_event().as_u8() as u64);
+    say(out, b") (nmt ");
+    say_nmt_event(out, kind.nmt_event());
+    say(out, b"))\n");
 }
 
 // The places of a kind's DLL event and NMT event; of a number that is no kind, nothing.
-fn print_frame(n: u8) {
+fn print_frame(out: &mut Output, n: u8) {
     match MessageType::try_from(n) {
         MessageTypeRead::Taken(kind) => {
-            say(b"(frame ");
-            say_hex2(kind.as_u8() as u64);
-            say_events(kind);
+            say(out, b"(frame ");
+            say_hex2(out, kind.as_u8() as u64);
+            say_events(out, kind);
         }
         MessageTypeRead::Unknown => {}
     }
 }
 
-pub(crate) fn print_frames() {
+pub(crate) fn print_frames(out: &mut Output) {
     for n in 0..=255u8 {
-        print_frame(n);
+        print_frame(out, n);
     }
 }

@@ -4,6 +4,7 @@ ghost use Rattle.types.specs.Kinds.{kind_behind};
 ghost use Rattle.readings.specs.Shown.{of_code};
 
 use crate::{Reading, say, say_hex4, say_number};
+use forms::output::Output;
 use types::frame::error::kinds::{DllErrorKind, DllErrorKindRead};
 
 fn kind(code: u64) -> Reading
@@ -16,28 +17,28 @@ fn kind(code: u64) -> Reading
 }
 
 // A line for a code that names a kind; how many codes, 1 or 0, name none.
-fn print_kind(code: u64) -> u64
+fn print_kind(out: &mut Output, code: u64) -> u64
     ensures { result ≤ 1 }
 {
     match kind(code) {
         Reading::Number(place) => {
-            say(b"(kind ");
-            say_hex4(code);
-            say(b" ");
-            say_number(place as u64);
-            say(b")\n");
+            say(out, b"(kind ");
+            say_hex4(out, code);
+            say(out, b" ");
+            say_number(out, place as u64);
+            say(out, b")\n");
             0
         }
         Reading::Nothing => 1,
     }
 }
 
-pub(crate) fn print_kinds() {
+pub(crate) fn print_kinds(out: &mut Output) {
     let mut refused = 0;
     for code in 0..65536u64 {
-        refused += print_kind(code);
+        refused += print_kind(out, code);
     }
-    say(b"(kind refused ");
-    say_number(refused);
-    say(b")\n");
+    say(out, b"(kind refused ");
+    say_number(out, refused);
+    say(out, b")\n");
 }

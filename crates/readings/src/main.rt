@@ -1,5 +1,7 @@
 // What each 8-bit number is read as, the named node numbers, the events of each kind of frame, the code of each kind of error and the kind behind each code, the feature flags and
 // times at their limits, one form a line. The stored output was printed by the Rust (compare/), so a run shows that both agree.
+#![tactic(auto)]
+
 ghost use Rattle.std.specs.Prelude.{◌≡◌};
 ghost use Rattle.types.specs.States.{read_state};
 ghost use Rattle.types.specs.Events.{read_command, read_managing};
@@ -9,7 +11,8 @@ mod frames;
 mod kinds;
 mod times;
 
-use libc::STDOUT_FILENO;
+use forms::output::Output;
+use std::io;
 use types::frame::error::types::{DllError, DllErrorRead};
 use types::nmt::events::{
     NmtManagingCommand, NmtManagingCommandRead, NmtStateCommand, NmtStateCommandRead,
@@ -21,34 +24,34 @@ use types::types::{
     NodeId, NodeIdRead,
 };
 
-fn say(text: &[u8]) {
-    io::write_all(STDOUT_FILENO, text);
+fn say(out: &mut Output, text: &[u8]) {
+    out.write(text);
 }
 
-fn say_number(n: u64) {
-    io::print_decimal(STDOUT_FILENO, n);
+fn say_number(out: &mut Output, n: u64) {
+    out.write_number(n);
 }
 
-fn say_hex2(n: u64) {
-    say(&forms::hex2(n));
+fn say_hex2(out: &mut Output, n: u64) {
+    say(out, &forms::hex2(n));
 }
 
-fn say_hex4(n: u64) {
-    say(&forms::hex4(n));
+fn say_hex4(out: &mut Output, n: u64) {
+    say(out, &forms::hex4(n));
 }
 
-fn print_node(n: u8) {
-    say(b"(node ");
-    say_number(n as u64);
+fn print_node(out: &mut Output, n: u8) {
+    say(out, b"(node ");
+    say_number(out, n as u64);
     match NodeId::try_from(n) {
-        NodeIdRead::Taken(_) => say(b" taken)\n"),
-        NodeIdRead::Refused(_) => say(b" refused)\n"),
+        NodeIdRead::Taken(_) => say(out, b" taken)\n"),
+        NodeIdRead::Refused(_) => say(out, b" refused)\n"),
     }
 }
 
-fn print_nodes() {
+fn print_nodes(out: &mut Output) {
     for n in 0..=255u8 {
-        print_node(n);
+        print_node(out, n);
     }
 }
 
@@ -60,22 +63,22 @@ const ADDRESSES: [u8; 4] = [
     C_ADR_BROADCAST_NODE_ID,
 ];
 
-fn print_address(k: usize, number: u8) {
-    say(b"(address ");
-    say_number(k as u64);
-    say(b" ");
-    say_number(number as u64);
-    say(b")\n");
+fn print_address(out: &mut Output, k: usize, number: u8) {
+    say(out, b"(address ");
+    say_number(out, k as u64);
+    say(out, b" ");
+    say_number(out, number as u64);
+    say(out, b")\n");
 }
 
-fn print_addresses() {
+fn print_addresses(out: &mut Output) {
     for k in 0..4usize {
-        print_address(k, ADDRESSES[k]);
+        print_address(out, k, ADDRESSES[k]);
     }
 }
 
 // The number of what was read, or nothing.
-#[derive(Drop)]
+#[derive(Clone, Copy)]
 enum Reading {
     Number(u8),
     Nothing,
@@ -108,51 +111,51 @@ fn managing_command(n: u64) -> Reading
     }
 }
 
-fn print_reading(name: &[u8], n: u64, reading: Reading) {
-    say(name);
-    say_number(n);
+fn print_reading(out: &mut Output, name: &[u8], n: u64, reading: Reading) {
+    say(out, name);
+    say_number(out, n);
     match reading {
         Reading::Number(number) => {
-            say(b" ");
-            say_hex2(number as u64);
-            say(b")\n");
+            say(out, b" ");
+            say_hex2(out, number as u64);
+            say(out, b")\n");
         }
-        Reading::Nothing => say(b" refused)\n"),
+        Reading::Nothing => say(out, b" refused)\n"),
     }
 }
 
 // A line of the three tables of 256 numbers, which stand one after the other.
-fn print_line(k: u64) {
+fn print_line(out: &mut Output, k: u64) {
     let n = k % 256;
     match k / 256 {
-        0 => print_reading(b"(state ", n, state(n)),
-        1 => print_reading(b"(command ", n, command(n)),
-        _ => print_reading(b"(managing ", n, managing_command(n)),
+        0 => print_reading(out, b"(state ", n, state(n)),
+        1 => print_reading(out, b"(command ", n, command(n)),
+        _ => print_reading(out, b"(managing ", n, managing_command(n)),
     }
 }
 
-fn print_readings() {
+fn print_readings(out: &mut Output) {
     for k in 0..768u64 {
-        print_line(k);
+        print_line(out, k);
     }
 }
 
-fn print_code(kind: u64) {
+fn print_code(out: &mut Output, kind: u64) {
     match DllError::try_from(kind, 17, 2) {
         DllErrorRead::Taken(error) => {
-            say(b"(code ");
-            say_number(kind);
-            say(b" ");
-            say_hex4(error.to_error_code() as u64);
-            say(b")\n");
+            say(out, b"(code ");
+            say_number(out, kind);
+            say(out, b" ");
+            say_hex4(out, error.to_error_code() as u64);
+            say(out, b")\n");
         }
         DllErrorRead::Refused(_) => {}
     }
 }
 
-fn print_codes() {
+fn print_codes(out: &mut Output) {
     for kind in 0..22u64 {
-        print_code(kind);
+        print_code(out, kind);
     }
 }
 
@@ -180,30 +183,33 @@ fn flag(k: u64) -> FeatureFlags
     }
 }
 
-fn print_flag(k: u64) {
-    say(b"(flag ");
-    say_number(k);
-    say(b" ");
-    say_number(flag(k).bits() as u64);
-    say(b")\n");
+fn print_flag(out: &mut Output, k: u64) {
+    say(out, b"(flag ");
+    say_number(out, k);
+    say(out, b" ");
+    say_number(out, flag(k).bits() as u64);
+    say(out, b")\n");
 }
 
-fn print_flags() {
+fn print_flags(out: &mut Output) {
     for k in 0..16u64 {
-        print_flag(k);
+        print_flag(out, k);
     }
 }
 
-fn main() {
-    print_nodes();
-    print_addresses();
-    print_readings();
-    frames::print_messages();
-    frames::print_frames();
-    print_codes();
-    kinds::print_kinds();
-    print_flags();
-    times::print_times();
-    times::print_additions();
-    times::print_differences();
+fn main(rt: HostRuntime) -> io::Result<()> {
+    let mut output = Output::new(rt.stdout());
+    let out = &mut output;
+    print_nodes(out);
+    print_addresses(out);
+    print_readings(out);
+    frames::print_messages(out);
+    frames::print_frames(out);
+    print_codes(out);
+    kinds::print_kinds(out);
+    print_flags(out);
+    times::print_times(out);
+    times::print_additions(out);
+    times::print_differences(out);
+    output.end()
 }

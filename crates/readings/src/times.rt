@@ -3,6 +3,7 @@ ghost use Rattle.std.specs.Prelude.{◌≡◌};
 ghost use Rattle.readings.specs.Shown.{time_at};
 
 use crate::{say, say_number};
+use forms::output::Output;
 use types::common::NetTime;
 
 const MICROS: [u64; 10] = [
@@ -39,77 +40,77 @@ fn time(i: usize) -> NetTime
 }
 
 // Seconds and nanoseconds, each behind a space.
-fn say_pair(time: NetTime) {
-    say(b" ");
-    say_number(time.seconds as u64);
-    say(b" ");
-    say_number(time.nanoseconds as u64);
+fn say_pair(out: &mut Output, time: NetTime) {
+    say(out, b" ");
+    say_number(out, time.seconds as u64);
+    say(out, b" ");
+    say_number(out, time.nanoseconds as u64);
 }
 
-fn say_fields(time: NetTime) {
-    say(b" (seconds ");
-    say_number(time.seconds as u64);
-    say(b") (nanoseconds ");
-    say_number(time.nanoseconds as u64);
-    say(b")");
+fn say_fields(out: &mut Output, time: NetTime) {
+    say(out, b" (seconds ");
+    say_number(out, time.seconds as u64);
+    say(out, b") (nanoseconds ");
+    say_number(out, time.nanoseconds as u64);
+    say(out, b")");
 }
 
-fn print_time(micros: u64) {
+fn print_time(out: &mut Output, micros: u64) {
     let time = NetTime::from_micros(micros);
-    say(b"(time ");
-    say_number(micros);
-    say_fields(time);
-    say(b" (nanos ");
-    say_number(time.as_nanos());
-    say(b"))\n");
+    say(out, b"(time ");
+    say_number(out, micros);
+    say_fields(out, time);
+    say(out, b" (nanos ");
+    say_number(out, time.as_nanos());
+    say(out, b"))\n");
 }
 
-pub(crate) fn print_times() {
+pub(crate) fn print_times(out: &mut Output) {
     for i in 0..10usize {
-        print_time(MICROS[i]);
+        print_time(out, MICROS[i]);
     }
 }
 
-fn print_addition(time: NetTime, nanos: u64) {
-    say(b"(add");
-    say_pair(time);
-    say(b" ");
-    say_number(nanos);
-    say_fields(time.add_nanos(nanos));
-    say(b")\n");
+fn print_addition(out: &mut Output, time: NetTime, nanos: u64) {
+    say(out, b"(add");
+    say_pair(out, time);
+    say(out, b" ");
+    say_number(out, nanos);
+    say_fields(out, time.add_nanos(nanos));
+    say(out, b")\n");
 }
 
-pub(crate) fn print_additions() {
+pub(crate) fn print_additions(out: &mut Output) {
     for k in 0..20usize {
-        print_addition(time(k / 5), NANOS[k % 5]);
+        print_addition(out, time(k / 5), NANOS[k % 5]);
     }
 }
 
 // A number that is not negative; a negative one is left out.
-fn say_natural(z: i64) {
+fn say_natural(out: &mut Output, z: i64) {
     if 0 <= z {
-        say_number(z as u64);
+        say_number(out, z as u64);
     }
 }
 
 // The first time less the second; of a negative one the sign, and the other way round the number.
-fn print_difference(a: NetTime, b: NetTime) {
-    say(b"(difference");
-    say_pair(a);
-    say_pair(b);
+fn print_difference(out: &mut Output, a: NetTime, b: NetTime) {
+    say(out, b"(difference");
+    say_pair(out, a);
+    say_pair(out, b);
     let d = a.sub_net_time(b);
     if d < 0 {
-        say(b" -");
-        say_natural(b.sub_net_time(a));
+        say(out, b" -");
+        say_natural(out, b.sub_net_time(a));
     } else {
-        say(b" ");
-        say_natural(d);
+        say(out, b" ");
+        say_natural(out, d);
     }
-    say(b")\n");
+    say(out, b")\n");
 }
 
-pub(crate) fn print_differences() {
+pub(crate) fn print_differences(out: &mut Output) {
     for k in 0..16usize {
-        print_difference(time(k / 4), time(k % 4));
+        print_difference(out, time(k / 4), time(k % 4));
     }
 }

@@ -7,9 +7,10 @@ use mathlib.Core.List.{List, [], ◌∷◌}
 use native.Mathlib.Numerals.{add-one, unary_clauses}
 use native.Mathlib.Omega.{arith}
 use lib.ListN.{length, get_or, set, take, drop, drop_of_length-le}
-use lib.Seq.{drop-cons, drop-drop, take-length}
+use lib.Seq.{drop-cons, drop-drop}
+use Rattle.std.proofs.lemmas.List.{take_rest}
 use borrow.Author.Tests.{lt-ltb, le-ltb, eq-eqb, ne_eqb}
-use Rattle.bytes.specs.Bytes.{index_of, slice}
+use Rattle.forms.specs.Find.{index_of, slice}
 use Rattle.patterns.specs.Patterns.{digit_of, unreadable, kept, Matched, matched, match_at}
 use Rattle.session.specs.Session.{no_line}
 use Rattle.script.specs.Script.{codes, says, key_by, got, bytes_at, entries_at, value, values}
@@ -33,8 +34,7 @@ module _ (rows line g : List ℕ) (from k t : ℕ) (inside : from < length rows)
   front = rw add-one (drop-cons rows from 0 inside)
 
   ends : end ≡ from + 1 + index_of 59 (drop (from + 1) rows)
-  unfolding slice
-  ends = rw (take-length rows) at found
+  ends = rw (take_rest rows (from + 1)) at found
 
   size : index_of 59 (drop (from + 1) rows) ≡ end - (from + 1)
   size = omega (arith, ends)

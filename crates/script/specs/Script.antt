@@ -4,7 +4,7 @@ use Rattle.std.specs.Prelude.{ℕ, zero, suc, ◌+◌, ◌-◌, ◌*◌, ◌/◌
 use Prim.Native.Char.{code}
 use Prim.Native.String.{String, [] as []ˢ, ◌∷◌ as ◌∷ˢ◌}
 use Rattle.types.specs.Pick.{pick}
-use Rattle.bytes.specs.Bytes.{index_of}
+use Rattle.forms.specs.Find.{index_of}
 use Rattle.patterns.specs.Patterns.{digit_of, unreadable, kept, Matched, matched, match_at}
 use Rattle.session.specs.Session.{no_line}
 

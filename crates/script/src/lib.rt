@@ -1,5 +1,7 @@
 // What a line of a call script says (docs/CALLS.md): its key, and the numbers and bytes that it gives. The key of a comment is a space, that of a load l, of
 // a desk D, of the reading of an entry r, and the others stand in the table in `read_table`.
+#![tactic(auto)]
+
 ghost use Rattle.std.specs.Prelude.{◌≡◌, List, ℕ, ◌≤◌, length, take};
 ghost use Rattle.script.specs.Script.{says, key_by, table_says, desk_says, entry_says, line_says, text_says};
 
@@ -7,8 +9,8 @@ mod digits;
 pub mod lines;
 mod load;
 
-use bytes::scan::find;
 use digits::read_bytes;
+use forms::find::find;
 use load::read_load;
 use patterns::{Given, UNREADABLE, match_at};
 use session::NO_LINE;

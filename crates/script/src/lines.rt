@@ -8,7 +8,7 @@ use crate::LineBuffer;
 pub type Part = [u8; 65536];
 
 // A line that has been gathered, and where the script goes on.
-#[derive(Drop)]
+#[derive(Clone, Copy)]
 pub struct Gathered {
     // A number above the line buffer's length says that the line has more than the buffer.
     pub length: usize,

@@ -1,12 +1,12 @@
 -- Each way in which a line sets up the run, and the walk over its places.
 -- Assumes nothing.
-use Prim.Native.Nat.{ℕ, suc, ◌+◌, ◌-◌, ◌≤◌, ◌<◌, min}
-use mathlib.Core.Path.{◌≡◌, sym, ◌∙◌}
+use Prim.Native.Nat.{ℕ, suc, ◌+◌, ◌-◌, ◌≤◌, ◌<◌}
+use mathlib.Core.Path.{◌≡◌, sym}
 use mathlib.Core.List.{List}
 use native.Mathlib.Omega.{arith}
 use borrow.Author.Tests.{lt-ltb, le-ltb}
 use Rattle.session.specs.declared.Session.{Session}
-use Rattle.session.specs.Session.{with_number, record_put, record_at, behind_of, end_over, end_of, arranged, watched_by}
+use Rattle.session.specs.Session.{with_number, record_put, record_at, behind_of, end_over, arranged, watched_by}
 
 module _ (s : Session) (g ns rs : List ℕ) where
   pub watch_node :

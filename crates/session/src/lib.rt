@@ -1,6 +1,8 @@
 // What the lines of a script have set up: whether a start was accepted, and the run of watched nodes that is lent, three words a record, with the number
 // watched beside its places (document 02, No. 1). It may have more places than a head can watch, so that such a run can be tried: the first 32 stand in
 // the node words that a call is lent.
+#![tactic(auto)]
+
 ghost use Rattle.std.specs.Prelude.{◌≡◌, ◌≤◌, ◌<◌, min};
 ghost use Rattle.session.specs.Session.{key_after, lent_number, with_run, most, record_put, record_at, behind_of, end_of, arranged, watched_by, arranged_by};
 
@@ -13,7 +15,7 @@ pub const NO_LINE: u8 = b'?';
 // What stands behind the first 32 places.
 pub type Rest = [u64; 24];
 
-#[derive(Drop)]
+#[derive(Clone, Copy)]
 pub struct Session {
     // Whether a start was accepted: before that no line reaches the head.
     pub started: bool,

@@ -7,7 +7,7 @@ use Rattle.entries.specs.declared.status_response.ErrorEntry.{ErrorEntry}
 use Rattle.entries.specs.Entry.{entry_in}
 use Rattle.entries.proofs.Entries.{entry_same}
 use Rattle.shift.specs.Report.{codes_in}
-use Rattle.shift.specs.Feed.{Kept, keeping, counted_all, behind_whole, absorbed, fed, fed_all, one_run, no_counts, at_start}
+use Rattle.shift.specs.Feed.{Kept, keeping, counted, counted_all, behind_whole, absorbed, fed, fed_all, one_run, no_counts, at_start}
 use Rattle.shift.proofs.Codes.{codes_none, codes_front}
 
 -- whole entries, and what is behind them
@@ -81,7 +81,7 @@ module _ (s : List ℕ) where
 counted_append : (cs xs ys : List ℕ) → counted_all cs (xs ++ ys) ≡ counted_all (counted_all cs xs) ys
 unfolding counted_all
 counted_append cs [] ys = refl
-counted_append cs (x ∷ xs) ys = counted_append _ xs ys
+counted_append cs (x ∷ xs) ys = counted_append (counted cs x) xs ys
 
 module _ (n : ℕ) (cs : List ℕ) where
   -- a part behind a run that was counted

@@ -6,7 +6,7 @@ ghost use Rattle.shift.specs.Feed.{keeping, counted, counted_all, absorbed};
 // How often each code of 16 bits occurred: no search at an entry, and the codes ascend.
 pub type Counts = [u64; 65536];
 
-#[derive(Drop)]
+#[derive(Clone, Copy)]
 pub struct Shift {
     // The whole entries so far. By them each count is bounded, so that 2^64 entries would have to be read before one began again at 0.
     pub entries: u64,

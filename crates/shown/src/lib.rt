@@ -1,4 +1,6 @@
 // The numbers that a head shows, in the order of their lines, and those of an entry. specs/Shown.antt says which.
+#![tactic(auto)]
+
 ghost use Rattle.std.specs.Prelude.{◌≡◌};
 ghost use Rattle.head.specs.Words.{one, queue_of, history_of, head_of};
 ghost use Rattle.entries.specs.Desk.{read_reply};

@@ -21,7 +21,7 @@ use Rattle.entries.specs.History.{history}
 use Rattle.watched.specs.Watched.{all_of}
 use Rattle.types.specs.declared.frame.cs_state_machine.DllCsEvent.TheVariants.{SocTimeout}
 use Rattle.head.specs.declared.state.Deadline.TheVariants.{At, Nothing}
-use Rattle.head.specs.Head.{Head, with_dll_lem}
+use Rattle.head.specs.Head.{Head, head_with_dll}
 use Rattle.node.specs.Plain.{Plain}
 use Rattle.node.specs.Steps.{plain_of, with_soc, with_dll, cycle_of, tolerance_of, limit_of}
 use Rattle.node.specs.Tick.{Ticked, goes_on, behind, check_off, with_deadline, next_deadline, rescheduled, within_limit, soc_timeout, deal_all, lost, soc_check, at_not_active, sets_basic, times_out, timed_out, event_in_tick, used_up, by_deadline}
@@ -144,7 +144,7 @@ itself h = (λ q m. refl, record { queue = refl; history = refl })
 pub loses :
     (h : Head) (a : DllAnswer) →
     Dll.cs_outcome a ≡ Dll.cs_processed h.dll.state SocTimeout h.nmt.current_state true →
-    Loses h (with_dll_lem h a.machine) a.errors
+    Loses h (head_with_dll h a.machine) a.errors
 loses h a e =
     record {
       head = (

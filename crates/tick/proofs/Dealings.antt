@@ -21,7 +21,7 @@ use Rattle.entries.specs.declared.status_response.ErrorEntry.{ErrorEntry}
 use Rattle.entries.specs.declared.emergency_queue.Pushed.{Pushed}
 use Rattle.entries.specs.declared.error_history.ErrorHistory.{ErrorHistory}
 use Rattle.entries.proofs.Lists.{pushed_capacity}
-use Rattle.head.specs.Head.{Head, with_statistic, of_parts, with_errors_lem, with_od_lem}
+use Rattle.head.specs.Head.{Head, with_statistic, of_parts, head_with_errors, head_with_od}
 use Rattle.watched.specs.Watched.{all_of}
 use Rattle.node.specs.Steps.{with_errors}
 use Rattle.node.specs.Tick.{acts, one_more, statistics, counter1, signalled, queued, deal, deal_all}
@@ -117,7 +117,7 @@ module _ (ws : List ℕ) (long : length ws ≡ 60) where
         EntersIn ws' m
     unfolding head_of entry_words
     drops lq y ws' w =
-        let h : head_of ws' ≡ with_od_lem (head_of ws) (with_statistic Counter3 (one_more (word ws at.counter3)) (head_of ws).od) =
+        let h : head_of ws' ≡ head_with_od (head_of ws) (with_statistic Counter3 (one_more (word ws at.counter3)) (head_of ws).od) =
         ap head_of w ∙ statistic_written ws long Counter3 _ in
         let x = entry_dropped (head_of ws) q m q' e p a b lq y (one_more (word ws at.counter3)) refl in
         let z : (plain (head_of ws') q' m ≡ queued (plain (head_of ws) q m) e) × (rings (head_of ws') q' m ≡ joins (rings (head_of ws) q m) e) =
@@ -129,7 +129,7 @@ module _ (ws : List ℕ) (long : length ws ≡ 60) (q m : List ℕ) (e : DllErro
   abbrev R : HandledError
   R = handled (errors_of ws) e
 
-  raised : head_of ws₁ ≡ with_errors_lem (head_of ws) R.counters
+  raised : head_of ws₁ ≡ head_with_errors (head_of ws) R.counters
   unfolding handled
   raised = ap head_of there ∙ effect_written ws long (effect e) e
 

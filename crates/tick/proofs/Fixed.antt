@@ -13,15 +13,15 @@ use Rattle.node.specs.Refines.{Rings}
 use Rattle.tick.specs.TickWords.{tick_words}
 use Rattle.node.proofs.Fixed.{apart, refusal_of, errors_of_lem}
 use Rattle.tick.specs.declared.tick.TickAnswer.{TickAnswer}
-use Rattle.tick.specs.declared.tick.TickAnswer.TheVariants as tick_answer_lem
+use Rattle.tick.specs.declared.tick.TickAnswer.TheVariants as tick-answer
 use Rattle.tick.specs.TickIn.{tick_said, tick_leaves, TickedIn}
 
 -- an answer is fixed by what it says
 pub tick_said_fixed : (a b : TickAnswer) → tick_said a ≡ tick_said b → a ≡ b
-tick_said_fixed (tick_answer_lem.Taken t) (tick_answer_lem.Taken u) e = ap tick_answer_lem.Taken (reported_fixes t u (errors_of_lem e))
-tick_said_fixed (tick_answer_lem.Taken t) (tick_answer_lem.Refused s) e = apart (sym e) refl refl
-tick_said_fixed (tick_answer_lem.Refused r) (tick_answer_lem.Taken u) e = apart e refl refl
-tick_said_fixed (tick_answer_lem.Refused r) (tick_answer_lem.Refused s) e = ap tick_answer_lem.Refused (number_fixes (refusal_of e))
+tick_said_fixed (tick-answer.Taken t) (tick-answer.Taken u) e = ap tick-answer.Taken (reported_fixes t u (errors_of_lem e))
+tick_said_fixed (tick-answer.Taken t) (tick-answer.Refused s) e = apart (sym e) refl refl
+tick_said_fixed (tick-answer.Refused r) (tick-answer.Taken u) e = apart e refl refl
+tick_said_fixed (tick-answer.Refused r) (tick-answer.Refused s) e = ap tick-answer.Refused (number_fixes (refusal_of e))
 
 leaves_same : {a b : TickAnswer} → a ≡ b → (ws ws' : List ℕ) → tick_leaves a ws ws' ≡ tick_leaves b ws ws'
 leaves_same e ws ws' = ap (λ (a : TickAnswer). tick_leaves a ws ws') e

@@ -8,7 +8,7 @@ use Rattle.types.specs.Pick.{pick}
 use Rattle.types.specs.Errors.{reported}
 use Rattle.types.specs.declared.frame.error.types.DllError.{DllError}
 use Rattle.entries.specs.declared.status_response.ErrorEntry.{ErrorEntry}
-use Rattle.head.specs.Head.{Head, with_earliest_lem}
+use Rattle.head.specs.Head.{Head, head_with_earliest}
 use Rattle.watched.specs.declared.nodes.WatchedNode.{WatchedNode}
 use Rattle.watched.specs.Watched.{in_time, all_of, Run, watching, well_lent, changing}
 use Rattle.node.specs.Plain.{Plain, tick, Answer, refused, tick_answer, Step}
@@ -146,7 +146,7 @@ module _ (h : Head) (q m : List ℕ) (r : Run) (t : ℕ) where
         Ticks h q m (tick_taken p₀ t (watching r)) d q' m' →
         (l : Run) →
         l ≡ pick checks (changing (map (looked t)) r) r →
-        TickLeft (tick_answer (reported d.logged)) (with_earliest_lem d.head (earliest (watching l))) q' m' l
+        TickLeft (tick_answer (reported d.logged)) (head_with_earliest d.head (earliest (watching l))) q' m' l
     tick_accepted f d q' m' w l n =
         let s : step p₀ (tick t r) ≡ tick_answered (tick_taken p₀ t (watching r)) (looked_at p₀ t r) = rw (a, b, f) in (
           refined h q m (tick t r) _ q' m' l (tick_answered (tick_taken p₀ t (watching r)) (looked_at p₀ t r)) s

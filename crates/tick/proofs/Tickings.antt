@@ -11,7 +11,7 @@ use Rattle.types.specs.Pick.{pick}
 use Rattle.types.specs.Errors.{reported}
 use Rattle.types.proofs.Tests.{both_second}
 use Rattle.head.specs.declared.state.Deadline.{Deadline}
-use Rattle.head.specs.Head.{Head, with_earliest_lem}
+use Rattle.head.specs.Head.{Head, head_with_earliest}
 use Rattle.head.specs.Written.{earliest_written}
 use Rattle.head.proofs.Laws.{earliest_written_lem}
 use Rattle.node.specs.Plain.{tick_answer}
@@ -158,8 +158,8 @@ module _ (ws q m : List ℕ) (r : Run) (t : ℕ) where
       unfolding head_of
       run_accepted f d ws₁ q' m' h long l n x e ws' w =
           let k = tick_accepted (head_of ws) q m r t a b f (dealt_of ws₁ d) q' m' h.ticks l n in
-          let g : head_of ws' ≡ with_earliest_lem (head_of ws₁) (earliest (watching l)) =
-          ap head_of w ∙ earliest_written_lem ws₁ long x ∙ ap (with_earliest_lem (head_of ws₁)) e in
+          let g : head_of ws' ≡ head_with_earliest (head_of ws₁) (earliest (watching l)) =
+          ap head_of w ∙ earliest_written_lem ws₁ long x ∙ ap (head_with_earliest (head_of ws₁)) e in
           let y = subst (λ (g : Head). TickLeft (head_of ws) q m r t (tick_answer (reported d.logged)) g q' m' l) (sym g) k in
           record { refines = y.0; rings = y.1; words = w ∙ (λ i. earliest_written (h.words i) (e i)) }
 

@@ -14,7 +14,7 @@ use Rattle.entries.specs.History.{error_history}
 use Rattle.head.specs.declared.state.Deadline.{Deadline}
 use Rattle.head.specs.declared.state.Deadline.TheVariants.{At, Nothing}
 use Rattle.head.specs.declared.state.Statistic.TheVariants.{Counter1}
-use Rattle.head.specs.Head.{Head, soc_watch, of_parts, with_soc_lem}
+use Rattle.head.specs.Head.{Head, soc_watch, of_parts, head_with_soc}
 use Rattle.node.specs.Steps.{with_soc, cycle_of, limit_of}
 use Rattle.node.specs.Tick.{check_off, with_deadline, event_in_tick, statistics, counter1, one_more, next_deadline, rescheduled, within_limit, sets_basic, times_out}
 use Rattle.tick.proofs.DeadlineLaws.{resched_on, resched_off, within_none, within_ahead, within_late, basic_on, basic_none, timed_out_lem, never_out}
@@ -29,11 +29,11 @@ use Rattle.heartbeats.specs.PartsIn.{Turns}
 use Rattle.heartbeats.proofs.Turns.{turned}
 
 abbrev OffRead : List ℕ → Type 0
-OffRead ws = head_of (set ws at.check 0) ≡ with_soc_lem (head_of ws) (check_off (soc_of ws))
+OffRead ws = head_of (set ws at.check 0) ≡ head_with_soc (head_of ws) (check_off (soc_of ws))
 
 abbrev with_due : Head → Deadline → Head
 with_due h d =
-    with_soc_lem h (soc_watch h.soc.last_soc_reception_time_us h.soc.soc_timeout_check_active d h.soc.error_status_changed)
+    head_with_soc h (soc_watch h.soc.last_soc_reception_time_us h.soc.soc_timeout_check_active d h.soc.error_status_changed)
 
 abbrev DueRead : ℕ → ℕ → List ℕ → Type 0
 DueRead a b ws = head_of (set (set (set ws at.due 1) at.deadline a) (at.deadline + 1) b) ≡ with_due (head_of ws) (At (time_of a b))

@@ -1,4 +1,6 @@
 // The tick (node/cn/tick.rs): the heartbeats (crate `heartbeats`), the deadline, the SoC check and its errors.
+#![tactic(auto)]
+
 pub mod deadline;
 mod soc;
 pub mod tick;

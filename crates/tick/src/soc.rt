@@ -80,7 +80,7 @@ fn deal(
 }
 
 // The next error of a walk, or none.
-#[derive(Drop)]
+#[derive(Clone, Copy)]
 enum NextError {
     Error(DllError),
     None,

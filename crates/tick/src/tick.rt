@@ -22,7 +22,7 @@ use watched::nodes::{NodeWords, Seen, Tried, look, try_nodes};
 use watched::time::in_time;
 
 // What a tick answers: what it logged. Head and nodes stand in the words.
-#[derive(Drop)]
+#[derive(Clone, Copy)]
 pub enum TickAnswer {
     Taken(DllErrors),
     Refused(Refusal),

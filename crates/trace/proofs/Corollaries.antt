@@ -1,6 +1,6 @@
 -- What a reader expects besides: the claim after each of the calls, the earliest moment after those that work it out, and the last SoC time of a head.
 -- Assumes nothing.
-use Prim.Native.Nat.{ℕ, ◌≤◌, min}
+use Prim.Native.Nat.{ℕ, ◌≤◌}
 use mathlib.Core.Path.{◌≡◌, refl, sym, ap, subst, ◌∙◌}
 use mathlib.Core.Bool.{Bool, true, false, not}
 use mathlib.Core.List.{List, [], ◌∷◌, ◌++◌}
@@ -33,7 +33,7 @@ use Rattle.node.specs.Range.{range_tests, margin_tests, verdict_of, margin_of}
 use Rattle.node.specs.Run.{step, step_all, Said, said_all}
 use Rattle.trace.specs.Earliest.{works_out, accepted, last_left}
 use Rattle.trace.specs.Claim.{Claim}
-use Rattle.trace.specs.Driven.{says, Made, Began, Driven, stop, next}
+use Rattle.trace.specs.Driven.{says, Began, Driven, stop, next}
 use Rattle.trace.proofs.Ticking.{picked, tick_part}
 use Rattle.trace.proofs.Shares.{tried_by_lem, Leaves, stays, goes, run_call}
 use Rattle.trace.proofs.Earliest.{ends_with}
@@ -100,7 +100,7 @@ last_of_lem d z (s ∷ ss) = last_of_lem s z ss
 last_said : (d : Said) (p : Plain) (cs : List Call) (c : Call) → last_of d (said_all p (cs ++ (c ∷ []))) ≡ says (step (step_all p cs) c).answer (step (step_all p cs) c).lent
 unfolding said_all step_all
 last_said d p [] c = refl
-last_said d p (x ∷ cs) c = last_said _ (step p x).head cs c
+last_said d p (x ∷ cs) c = last_said (says (step p x).answer (step p x).lent) (step p x).head cs c
 
 -- a list that ends with one of the others: what it said last is the run that it left
 pub ends_afresh :

@@ -4,7 +4,6 @@ use Prim.Native.Nat.{ℕ}
 use mathlib.Core.Path.{◌≡◌, refl, sym, ap, subst, ◌∙◌}
 use mathlib.Core.Bool.{Bool, true, false, not}
 use mathlib.Core.List.{List, [], ◌∷◌}
-use native.Mathlib.Omega.{arith}
 use lib.ListN.{set}
 use seplogic.Ra.Ura.{Ura}
 use base.Logic.{SProp, emp}
@@ -21,7 +20,6 @@ use Rattle.types.specs.CsEvents.{cs_events, cs_event_number, read_cs_event}
 use Rattle.types.specs.Errors.{Kind, kinds, carried, read_error}
 use Rattle.types.specs.declared.refusals.Refusal.{Refusal}
 use Rattle.types.specs.declared.refusals.Refusal.TheVariants.{NodeNumber, UnknownNumber}
-use Rattle.types.specs.declared.types.NodeIdRead.{NodeIdRead}
 use Rattle.types.specs.declared.types.NodeIdRead.TheVariants as node-id
 use Rattle.types.specs.declared.nmt.states.NmtState.TheVariants.{NmtReadyToOperate}
 use Rattle.types.specs.declared.nmt.events.NmtEvent.{NmtEvent}
@@ -36,7 +34,7 @@ use Rattle.types.specs.declared.frame.error.types.DllErrorRead.TheVariants as er
 use Rattle.types.proofs.Reading.{Each, reads_holds}
 use Rattle.watched.specs.Watched.{in_time, heard_at, unheard, Run, run as run_of, watching, changing}
 use Rattle.watched.specs.Nodes.{nodes_of}
-use Rattle.node.specs.Plain.{Plain, Call, nmt_event, dll_event, error, cycle_complete, withdraw, heard, hand_out, load, arm, tick, range, margin, add, remove, Answer, refused, taken, range_answer, margin_answer, Step, Start, Begun, begins, FirstStep}
+use Rattle.node.specs.Plain.{Plain, Call, nmt_event, dll_event, error, cycle_complete, withdraw, heard, hand_out, load, arm, tick, range, margin, add, remove, refused, taken, range_answer, margin_answer, Step, Start, Begun, begins, FirstStep}
 use Rattle.node.specs.Steps.{Test, tried, no_run, answers, declines, leaves, with_nmt, with_soc, nmt_step, dll_step, error_step, withdrawn, withdraw_tests, heard_tests, add_tests, remove_tests, added, removed, arm_tests, armed, fresh, start_tests, started}
 use Rattle.node.specs.Tick.{tick_tests, tick_taken, tick_answered, looked_at}
 use Rattle.node.specs.Range.{range_tests, margin_tests, verdict_of, margin_of}
@@ -50,7 +48,7 @@ use Rattle.head.specs.Written.{soc_written}
 use Rattle.node.specs.declared.calls.CallAnswer.{CallAnswer}
 use Rattle.node.specs.declared.calls.CallAnswer.TheVariants as answer
 use Rattle.tick.specs.declared.tick.TickAnswer.{TickAnswer}
-use Rattle.tick.specs.declared.tick.TickAnswer.TheVariants as tick_answer_lem
+use Rattle.tick.specs.declared.tick.TickAnswer.TheVariants as tick-answer
 use Rattle.tick.specs.TickIn.{tick_said, tick_leaves, TickedOn}
 use Rattle.node.proofs.calls.nmt_event.Reads as nmt-event-reads
 use Rattle.node.proofs.calls.dll_event.Reads as dll-event-reads
@@ -223,8 +221,8 @@ said_leaves answer.Taken n h ws ws' = apart (sym h) refl refl
 said_leaves (answer.Refused r) n h ws ws' = refl
 
 tick_leaves_lem : (o : TickAnswer) (n : ℕ) → tick_said o ≡ refused n → (ws ws' : List ℕ) → tick_leaves o ws ws' ≡ ws
-tick_leaves_lem (tick_answer_lem.Taken es) n h ws ws' = apart (sym h) refl refl
-tick_leaves_lem (tick_answer_lem.Refused r) n h ws ws' = refl
+tick_leaves_lem (tick-answer.Taken es) n h ws ws' = apart (sym h) refl refl
+tick_leaves_lem (tick-answer.Refused r) n h ws ws' = refl
 
 -- a declined tick: no entry joins, so both memories stay
 tick_declines :
@@ -270,31 +268,31 @@ pub demand_1 :
     Made ws q m ns k c s ws' q' m' ns' k' →
     s.answer ≡ refused n →
     Declined ws q m ns k c n s ws' q' m' ns' k'
-demand_1 {q = q} {m = m} n (Made.nmt_event κs a o x e) h =
-    let r = e.refines q m in declined n r h (e.words ∙ nmt_words_lem _ _ (read_event a.1.0) n (sym r.answer ∙ h)) refl refl refl refl
-demand_1 {q = q} {m = m} n (Made.dll_event κs a o x e) h =
-    let r = e.refines q m in declined n r h (e.words ∙ dll_words_lem _ _ a.1.1.0 (read_cs_event a.1.0) n (sym r.answer ∙ h)) refl refl refl refl
-demand_1 {q = q} {m = m} n (Made.error κs a o x e) h =
+demand_1 {q = q} {m = m} n (Made.nmt_event i o e) h =
+    let r = e.refines q m in declined n r h (e.words ∙ nmt_words_lem _ _ (read_event i) n (sym r.answer ∙ h)) refl refl refl refl
+demand_1 {q = q} {m = m} n (Made.dll_event i b o e) h =
+    let r = e.refines q m in declined n r h (e.words ∙ dll_words_lem _ _ b (read_cs_event i) n (sym r.answer ∙ h)) refl refl refl refl
+demand_1 {q = q} {m = m} n (Made.error i a b o e) h =
     let r = e.refines q m in
-    declined n r h (e.words ∙ error_words_lem _ _ (read_error a.1.0 a.1.1.0 a.1.1.1.0) n (sym r.answer ∙ h)) refl refl refl refl
-demand_1 n (Made.cycle_complete κs a o x e) h = apart (sym h) refl refl
-demand_1 {q = q} {m = m} n (Made.withdraw κs a o x e) h =
+    declined n r h (e.words ∙ error_words_lem _ _ (read_error i a b) n (sym r.answer ∙ h)) refl refl refl refl
+demand_1 n (Made.cycle_complete o e) h = apart (sym h) refl refl
+demand_1 {q = q} {m = m} n (Made.withdraw o e) h =
     let r = e.refines q m in declined n r h (e.words ∙ withdraw_words_lem _ q m n (sym r.answer ∙ h)) refl refl refl refl
-demand_1 {q = q} {m = m} n (Made.heard κs a o x e) h =
+demand_1 {q = q} {m = m} n (Made.heard i t o e) h =
     declined n (e.on.refines q m) h (e.on.words ∙ said_leaves o n h _ _) refl refl (e.nodes ∙ said_leaves o n h _ _) refl
 demand_1 n (Made.heard_run l i t o l' e) h = run_declined n o e h
-demand_1 n (Made.hand_out κs a o x e) h = apart (sym h) refl refl
-demand_1 n (Made.load κs a o x e) h = apart (sym h) refl refl
-demand_1 {q = q} {m = m} n (Made.arm κs a o x e) h =
-    let r = e.refines q m in declined n r h (e.words ∙ arm_words_lem _ _ a.1.0 n (sym r.answer ∙ h)) refl refl refl refl
-demand_1 n (Made.tick κs a o x e) h =
+demand_1 n (Made.hand_out o e) h = apart (sym h) refl refl
+demand_1 n (Made.load u named es e) h = apart (sym h) refl refl
+demand_1 {q = q} {m = m} n (Made.arm t o e) h =
+    let r = e.refines q m in declined n r h (e.words ∙ arm_words_lem _ _ t n (sym r.answer ∙ h)) refl refl refl refl
+demand_1 n (Made.tick t o e) h =
     let d = tick_declines o n e.on h in declined n e.on.refines h d.0 d.1 d.2 (e.nodes ∙ tick_leaves_lem o n h _ _) refl
 demand_1 n (Made.tick_run l t o l' e) h = let d = tick_declines o n e h in declined n e.refines h d.0 d.1 d.2 refl refl
-demand_1 {q = q} {m = m} n (Made.range κs a o x e) h = declined n (e.refines q m) h refl refl refl refl refl
-demand_1 {q = q} {m = m} n (Made.margin κs a o x e) h = declined n (e.refines q m) h refl refl refl refl refl
-demand_1 n (Made.add κs a o x e) h = words_declined n o e.on h refl _ e.nodes
+demand_1 {q = q} {m = m} n (Made.range a b o e) h = declined n (e.refines q m) h refl refl refl refl refl
+demand_1 {q = q} {m = m} n (Made.margin t o e) h = declined n (e.refines q m) h refl refl refl refl refl
+demand_1 n (Made.add i t o e) h = words_declined n o e.on h refl _ e.nodes
 demand_1 n (Made.add_run l i t o l' e) h = run_declined n o e h
-demand_1 n (Made.remove κs a o x e) h = words_declined n o e.on h refl _ e.nodes
+demand_1 n (Made.remove i o e) h = words_declined n o e.on h refl _ e.nodes
 demand_1 n (Made.remove_run l i o l' e) h = run_declined n o e h
 
 -- AND OF A START, in either form: one of its numbers. That it is the plain start's, the first that applies, and that nothing has changed, is `start_declined`.

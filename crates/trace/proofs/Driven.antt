@@ -15,13 +15,10 @@ use Rattle.node.specs.declared.calls.CallAnswer.TheVariants as answer
 use Rattle.node.specs.Plain.{Call, Start, declined}
 use Rattle.node.specs.Steps.{started}
 use Rattle.node.specs.Run.{Said}
-use Rattle.node.specs.Refines.{plain, Refines, left}
-use Rattle.node.proofs.Links as Links
-use Rattle.partners.proofs.Links as partners-links
+use Rattle.node.specs.Refines.{Refines, left}
 use Rattle.start.specs.Started.{Begins, StartedOn}
 use Rattle.start.proofs.start.start.Reads as start-reads
-use Rattle.start.proofs.Links.{start_begins, start_leaves}
-use Rattle.tick.proofs.Links.{process_tick_refines}
+use Rattle.start.proofs.Links.{start_leaves}
 use Rattle.trace.specs.Claim.{Claim}
 use Rattle.trace.specs.Driven.{Made, Began, Driven, stop, next}
 use Rattle.trace.proofs.Follows.{Follows, finished, declined_lent, followed}
@@ -31,23 +28,23 @@ pub refines :
     {ws q m ns ws' q' m' ns' : List ℕ} {k k' : ℕ} {c : Call} {s : Said} →
     Made ws q m ns k c s ws' q' m' ns' k' →
     Refines (head_of ws) q m c (left (head_of ws') s.answer) q' m' s.lent
-refines {q = q} {m = m} (Made.nmt_event κs a o x e) = Links.nmt_event_refines κs a o x e q m
-refines {q = q} {m = m} (Made.dll_event κs a o x e) = Links.dll_event_refines κs a o x e q m
-refines {q = q} {m = m} (Made.error κs a o x e) = Links.handle_error_refines κs a o x e q m
-refines {q = q} {m = m} (Made.cycle_complete κs a o x e) = Links.on_cycle_complete_refines κs a o x e q m
-refines {q = q} {m = m} (Made.withdraw κs a o x e) = Links.withdraw_refines κs a o x e q m
-refines {q = q} {m = m} (Made.heard κs a o x e) = Links.heard_refines κs a o x e q m
+refines {q = q} {m = m} (Made.nmt_event n o e) = e.refines q m
+refines {q = q} {m = m} (Made.dll_event n b o e) = e.refines q m
+refines {q = q} {m = m} (Made.error n a b o e) = e.refines q m
+refines {q = q} {m = m} (Made.cycle_complete o e) = e.refines q m
+refines {q = q} {m = m} (Made.withdraw o e) = e.refines q m
+refines {q = q} {m = m} (Made.heard n t o e) = e.on.refines q m
 refines {q = q} {m = m} (Made.heard_run r n t o r' e) = e.refines q m
-refines {m = m} (Made.hand_out κs a o x e) = Links.hand_out_refines κs a o x e m
-refines {q = q} (Made.load κs a o x e) = Links.load_refines κs a o x e q
-refines {q = q} {m = m} (Made.arm κs a o x e) = Links.arm_refines κs a o x e q m
-refines (Made.tick κs a o x e) = process_tick_refines κs a o x e
+refines {m = m} (Made.hand_out o e) = e.0 m
+refines {q = q} (Made.load u named es e) = e.refines q
+refines {q = q} {m = m} (Made.arm t o e) = e.refines q m
+refines (Made.tick t o e) = e.on.refines
 refines (Made.tick_run r t o r' e) = e.refines
-refines {q = q} {m = m} (Made.range κs a o x e) = Links.soc_range_refines κs a o x e q m
-refines {q = q} {m = m} (Made.margin κs a o x e) = Links.soc_margin_refines κs a o x e q m
-refines {q = q} {m = m} (Made.add κs a o x e) = partners-links.add_refines κs a o x e q m
+refines {q = q} {m = m} (Made.range a b o e) = e.refines q m
+refines {q = q} {m = m} (Made.margin t o e) = e.refines q m
+refines {q = q} {m = m} (Made.add n t o e) = e.on.refines q m
 refines {q = q} {m = m} (Made.add_run r n t o r' e) = e.refines q m
-refines {q = q} {m = m} (Made.remove κs a o x e) = partners-links.remove_refines κs a o x e q m
+refines {q = q} {m = m} (Made.remove n o e) = e.on.refines q m
 refines {q = q} {m = m} (Made.remove_run r n o r' e) = e.refines q m
 
 pub follows :
@@ -68,7 +65,7 @@ and_then (next f d) r = next f (and_then d r)
 
 -- what start's contract in src/ ensures is `Begins`
 pub begins : {s : Start} {o : CallAnswer} {l : Run} {ws : List ℕ} → Began s o l ws → Begins s o (head_of ws) l
-begins (Began.start κs a o x e) = start_begins κs a o x e
+begins (Began.start n f t c od ts o e) = e.on.begins
 begins (Began.start_run r n f t c od ts o r' e) = e.begins
 
 -- from the words that start wrote, over any list of the calls

@@ -8,6 +8,7 @@ pub mod Visits
 pub mod Keeps
 pub mod Follows
 pub mod Driven
+pub mod Contracts
 pub mod Corollaries
 pub mod Declines
 pub mod Unmoved

@@ -19,7 +19,7 @@ use Rattle.types.specs.declared.frame.error.types.DllErrorRead.TheVariants as er
 use Rattle.nmt.specs.Resets.{is_reset}
 use Rattle.nmt.specs.Nmt.{processed}
 use Rattle.nmt.specs.declared.cn_state_machine.CnNmtStateMachine.{CnNmtStateMachine}
-use Rattle.watched.specs.Watched.{in_time, heard_at, watching, changing}
+use Rattle.watched.specs.Watched.{heard_at, watching, changing}
 use Rattle.node.specs.Plain.{Plain, Call, nmt_event, dll_event, error, cycle_complete, withdraw, heard, hand_out, load, arm, tick, range, margin, add, remove, taken, range_answer, margin_answer, EventMade, made, no_event, Step}
 use Rattle.node.specs.Steps.{no_run, answers, declines, with_nmt, with_soc, forgets, nmt_step, dll_step, error_step, withdrawn, heard_tests, add_tests, remove_tests, added, removed, arm_tests, armed}
 use Rattle.node.specs.Tick.{tick_tests, tick_taken, tick_answered, looked_at}

@@ -200,24 +200,24 @@ brings :
     length m ≡ 5080 →
     Made ws q m ns k c s ws' q' m' ns' k' →
     Brings (head_of ws).history m (brought_by (plain (head_of ws) q m) c) (head_of ws').history m'
-brings long (Made.nmt_event κs a o x e) = brings_none e.places.history refl
-brings long (Made.dll_event κs a o x e) = brings_none e.places.history refl
-brings long (Made.error κs a o x e) = brings_none e.places.history refl
-brings long (Made.cycle_complete κs a o x e) = brings_none e.places.history refl
-brings long (Made.withdraw κs a o x e) = brings_none e.places.history refl
-brings long (Made.heard κs a o x e) = brings_none e.on.places.history refl
+brings long (Made.nmt_event n o e) = brings_none e.places.history refl
+brings long (Made.dll_event n b o e) = brings_none e.places.history refl
+brings long (Made.error n a b o e) = brings_none e.places.history refl
+brings long (Made.cycle_complete o e) = brings_none e.places.history refl
+brings long (Made.withdraw o e) = brings_none e.places.history refl
+brings long (Made.heard n t o e) = brings_none e.on.places.history refl
 brings long (Made.heard_run r n t o r' e) = brings_none e.places.history refl
-brings long (Made.hand_out κs a o x e) =
-    brings_none (ap (λ (ws : List ℕ). (head_of ws).history) e.1 ∙ queue_apart a.0.now (handed_out a.1.0.now _).queue) refl
-brings long (Made.load κs a o x e) = brings_loaded a.1.1.1.0 a.1.1.1.1.0.now long e.history e.memory
-brings long (Made.arm κs a o x e) = brings_none e.places.history refl
-brings long (Made.tick κs a o x e) = brings_ticked long e.on
+brings {ws = ws} {q = q} long (Made.hand_out o e) =
+    brings_none (ap (λ (ws : List ℕ). (head_of ws).history) e.1 ∙ queue_apart ws (handed_out q _).queue) refl
+brings long (Made.load u named es e) = brings_loaded named es long e.history e.memory
+brings long (Made.arm t o e) = brings_none e.places.history refl
+brings long (Made.tick t o e) = brings_ticked long e.on
 brings long (Made.tick_run r t o r' e) = brings_ticked long e
-brings long (Made.range κs a o x e) = brings_none refl refl
-brings long (Made.margin κs a o x e) = brings_none refl refl
-brings long (Made.add κs a o x e) = brings_none e.on.places.history refl
+brings long (Made.range a b o e) = brings_none refl refl
+brings long (Made.margin t o e) = brings_none refl refl
+brings long (Made.add n t o e) = brings_none e.on.places.history refl
 brings long (Made.add_run r n t o r' e) = brings_none e.places.history refl
-brings long (Made.remove κs a o x e) = brings_none e.on.places.history refl
+brings long (Made.remove n o e) = brings_none e.on.places.history refl
 brings long (Made.remove_run r n o r' e) = brings_none e.places.history refl
 
 -- and a list of them, between any two moments

@@ -1,6 +1,6 @@
 -- Demand 3: what holds after any list of calls from a fresh head. The demand's sentences stand above the fields.
 -- Assumes nothing.
-use Rattle.std.specs.Prelude.{ℕ, ◌+◌, ◌*◌, ◌<◌, ◌≤◌, ◌≡◌, true, false, List, [], ◌∷◌, ◌++◌, length}
+use Rattle.std.specs.Prelude.{ℕ, ◌+◌, ◌*◌, ◌<◌, ◌≤◌, ◌≡◌, false, List, [], ◌∷◌, ◌++◌, length}
 use Rattle.types.specs.declared.nmt.states.NmtState.TheVariants.{NmtPreOperational2, NmtReadyToOperate}
 use Rattle.counters.specs.Counters.{counter, top, threshold_for}
 use Rattle.counters.specs.Marks.{Mark, level, is_crossing, count_of, E, N, D}

@@ -1,6 +1,6 @@
 -- Which machine and which event stand at a place of the lists that are printed.
 -- Assumes nothing.
-use Rattle.std.specs.Prelude.{ℕ, ◌%◌, Bool, List, [], ◌∷◌, map, get_or}
+use Rattle.std.specs.Prelude.{ℕ, ◌%◌, Bool, [], ◌∷◌, map, get_or}
 use Rattle.types.specs.Pick.{read_by}
 use Rattle.types.specs.Types.{node}
 use Rattle.types.specs.Flags.{flags}

@@ -1,12 +1,15 @@
 // Every pair of the NMT and of the DLL state machine, one form a line. The stored output was printed by the Rust (compare/), so
 // a run shows that both agree.
+#![tactic(auto)]
+
 ghost use Rattle.std.specs.Prelude.{◌≡◌};
 ghost use Rattle.transitions.specs.Pairs.{state_at, event_at, cs_event_at, cs_state_at, machine_of};
 
 use dll::cs_state_machine::{DllAnswer, DllCsState, DllCsStateMachine};
-use libc::STDOUT_FILENO;
+use forms::output::Output;
 use nmt::cn_state_machine::{CnNmtStateMachine, NmtAnswer};
 use nmt::state_machine::{EnteredStates, IndexRange, ResetSequence, RestoredRanges, is_reset};
+use std::io;
 use types::frame::cs_state_machine::{DllCsEvent, DllCsEventRead};
 use types::frame::error::types::{DllError, DllErrors};
 use types::nmt::events::{NmtEvent, NmtEventRead};
@@ -14,55 +17,55 @@ use types::nmt::flags::FeatureFlags;
 use types::nmt::states::{NmtState, NmtStateRead};
 use types::types::NodeId;
 
-fn say(text: &[u8]) {
-    io::write_all(STDOUT_FILENO, text);
+fn say(out: &mut Output, text: &[u8]) {
+    out.write(text);
 }
 
-fn say_number(n: u64) {
-    io::print_decimal(STDOUT_FILENO, n);
+fn say_number(out: &mut Output, n: u64) {
+    out.write_number(n);
 }
 
-fn say_hex2(n: u64) {
-    say(&forms::hex2(n));
+fn say_hex2(out: &mut Output, n: u64) {
+    say(out, &forms::hex2(n));
 }
 
-fn say_flag(on: bool) {
+fn say_flag(out: &mut Output, on: bool) {
     if on {
-        say(b"1");
+        say(out, b"1");
     } else {
-        say(b"0");
+        say(out, b"0");
     }
 }
 
-fn say_pair(state: u8, event: u8) {
-    say(b" ");
-    say_hex2(state as u64);
-    say(b" ");
-    say_number(event as u64);
+fn say_pair(out: &mut Output, state: u8, event: u8) {
+    say(out, b" ");
+    say_hex2(out, state as u64);
+    say(out, b" ");
+    say_number(out, event as u64);
 }
 
 // An error's kind, with the state and event that it carries. No machine reports an error with a node.
-fn say_error(error: DllError) {
-    say(b" (");
-    say_number(error.kind() as u64);
+fn say_error(out: &mut Output, error: DllError) {
+    say(out, b" (");
+    say_number(out, error.kind() as u64);
     match error {
-        DllError::UnexpectedEventInState { state, event } => say_pair(state, event),
+        DllError::UnexpectedEventInState { state, event } => say_pair(out, state, event),
         _ => {}
     }
-    say(b")");
+    say(out, b")");
 }
 
-fn say_errors(errors: DllErrors) {
-    say(b"(errors");
+fn say_errors(out: &mut Output, errors: DllErrors) {
+    say(out, b"(errors");
     match errors {
         DllErrors::None => {}
-        DllErrors::One(a) => say_error(a),
+        DllErrors::One(a) => say_error(out, a),
         DllErrors::Two(a, b) => {
-            say_error(a);
-            say_error(b);
+            say_error(out, a);
+            say_error(out, b);
         }
     }
-    say(b")");
+    say(out, b")");
 }
 
 // The states' numbers, in the order of the enum.
@@ -108,103 +111,103 @@ fn cs_state_at(i: usize) -> DllCsState
     }
 }
 
-fn say_state(state: NmtState) {
-    say_hex2(state.as_u8() as u64);
+fn say_state(out: &mut Output, state: NmtState) {
+    say_hex2(out, state.as_u8() as u64);
 }
 
-fn say_entered(state: NmtState) {
-    say(b" ");
-    say_state(state);
+fn say_entered(out: &mut Output, state: NmtState) {
+    say(out, b" ");
+    say_state(out, state);
 }
 
-fn say_two(a: NmtState, b: NmtState) {
-    say_entered(a);
-    say_entered(b);
+fn say_two(out: &mut Output, a: NmtState, b: NmtState) {
+    say_entered(out, a);
+    say_entered(out, b);
 }
 
-fn say_range(range: IndexRange) {
-    say(b" (");
-    say(&forms::hex4(range.first as u64));
-    say(b" ");
-    say(&forms::hex4(range.last as u64));
-    say(b")");
+fn say_range(out: &mut Output, range: IndexRange) {
+    say(out, b" (");
+    say(out, &forms::hex4(range.first as u64));
+    say(out, b" ");
+    say(out, &forms::hex4(range.last as u64));
+    say(out, b")");
 }
 
-fn say_states(entered: EnteredStates) {
+fn say_states(out: &mut Output, entered: EnteredStates) {
     match entered {
         EnteredStates::None => {}
-        EnteredStates::Two(a, b) => say_two(a, b),
+        EnteredStates::Two(a, b) => say_two(out, a, b),
         EnteredStates::Three(a, b, c) => {
-            say_entered(a);
-            say_two(b, c);
+            say_entered(out, a);
+            say_two(out, b, c);
         }
         EnteredStates::Four(a, b, c, d) => {
-            say_two(a, b);
-            say_two(c, d);
+            say_two(out, a, b);
+            say_two(out, c, d);
         }
         EnteredStates::Five(a, b, c, d, e) => {
-            say_entered(a);
-            say_two(b, c);
-            say_two(d, e);
+            say_entered(out, a);
+            say_two(out, b, c);
+            say_two(out, d, e);
         }
     }
 }
 
-fn say_ranges(restored: RestoredRanges) {
+fn say_ranges(out: &mut Output, restored: RestoredRanges) {
     match restored {
         RestoredRanges::None => {}
-        RestoredRanges::One(a) => say_range(a),
+        RestoredRanges::One(a) => say_range(out, a),
         RestoredRanges::Three(a, b, c) => {
-            say_range(a);
-            say_range(b);
-            say_range(c);
+            say_range(out, a);
+            say_range(out, b);
+            say_range(out, c);
         }
     }
 }
 
-fn say_reset(reset: ResetSequence) {
+fn say_reset(out: &mut Output, reset: ResetSequence) {
     let entered = reset.entered;
     let restored = reset.restored;
-    say(b"(entered");
-    say_states(entered);
-    say(b") (restore");
-    say_ranges(restored);
-    say(b")");
+    say(out, b"(entered");
+    say_states(out, entered);
+    say(out, b") (restore");
+    say_ranges(out, restored);
+    say(out, b")");
 }
 
 // The fields that an event can change.
-fn say_machine(machine: CnNmtStateMachine) {
+fn say_machine(out: &mut Output, machine: CnNmtStateMachine) {
     let state = machine.current_state;
-    say_state(state);
-    say(b" (enabled ");
-    say_flag(machine.ready_to_operate_enabled);
-    say(b") (ready ");
-    say_flag(machine.app_ready);
-    say(b"))");
+    say_state(out, state);
+    say(out, b" (enabled ");
+    say_flag(out, machine.ready_to_operate_enabled);
+    say(out, b") (ready ");
+    say_flag(out, machine.app_ready);
+    say(out, b"))");
 }
 
-fn say_nmt_answer(event: NmtEvent, answer: NmtAnswer) {
+fn say_nmt_answer(out: &mut Output, event: NmtEvent, answer: NmtAnswer) {
     let after = answer.machine;
-    say(b" (to ");
-    say_machine(after);
-    say(b" ");
+    say(out, b" (to ");
+    say_machine(out, after);
+    say(out, b" ");
     if is_reset(event) {
         let reset = answer.reset;
-        say_reset(reset);
+        say_reset(out, reset);
     } else {
         let errors = answer.errors;
-        say_errors(errors);
+        say_errors(out, errors);
     }
-    say(b")\n");
+    say(out, b")\n");
 }
 
-fn print_nmt_event(machine: CnNmtStateMachine, event: NmtEvent) {
-    say(b"(nmt (at ");
-    say_machine(machine);
-    say(b" (event ");
-    say_number(event.as_u8() as u64);
-    say(b")");
-    say_nmt_answer(event, machine.process_event(event));
+fn print_nmt_event(out: &mut Output, machine: CnNmtStateMachine, event: NmtEvent) {
+    say(out, b"(nmt (at ");
+    say_machine(out, machine);
+    say(out, b" (event ");
+    say_number(out, event.as_u8() as u64);
+    say(out, b")");
+    say_nmt_answer(out, event, machine.process_event(event));
 }
 
 fn machine_at(state: NmtState, enabled: bool, ready: bool) -> CnNmtStateMachine
@@ -220,51 +223,59 @@ fn machine_at(state: NmtState, enabled: bool, ready: bool) -> CnNmtStateMachine
     }
 }
 
-fn print_nmt() {
+fn print_nmt(out: &mut Output) {
     for k in 0..912usize {
         let ready = k % 2 == 1;
         let enabled = k / 2 % 2 == 1;
         print_nmt_event(
+            out,
             machine_at(state_at(k / 76), enabled, ready),
             event_at(k / 4 % 19),
         );
     }
 }
 
-fn say_dll_answer(answer: DllAnswer) {
+fn say_dll_answer(out: &mut Output, answer: DllAnswer) {
     let after = answer.machine;
     let to = after.current_state();
     let errors = answer.errors;
-    say(b" (to ");
-    say_number(to.as_u8() as u64);
-    say(b") ");
-    say_errors(errors);
-    say(b")\n");
+    say(out, b" (to ");
+    say_number(out, to.as_u8() as u64);
+    say(out, b") ");
+    say_errors(out, errors);
+    say(out, b")\n");
 }
 
-fn say_dll_event(state: DllCsState, event: DllCsEvent) {
-    say(b"(dll (at ");
-    say_number(state.as_u8() as u64);
-    say(b") (event ");
-    say_number(event.as_u8() as u64);
-    say(b")");
+fn say_dll_event(out: &mut Output, state: DllCsState, event: DllCsEvent) {
+    say(out, b"(dll (at ");
+    say_number(out, state.as_u8() as u64);
+    say(out, b") (event ");
+    say_number(out, event.as_u8() as u64);
+    say(out, b")");
 }
 
-fn print_dll_event(state: DllCsState, event: DllCsEvent, nmt: NmtState, expected: bool) {
-    say_dll_event(state, event);
-    say(b" (nmt ");
-    say_state(nmt);
-    say(b") (expected ");
-    say_flag(expected);
-    say(b")");
+fn print_dll_event(
+    out: &mut Output,
+    state: DllCsState,
+    event: DllCsEvent,
+    nmt: NmtState,
+    expected: bool,
+) {
+    say_dll_event(out, state, event);
+    say(out, b" (nmt ");
+    say_state(out, nmt);
+    say(out, b") (expected ");
+    say_flag(out, expected);
+    say(out, b")");
     let machine = DllCsStateMachine { state };
-    say_dll_answer(machine.process_event(event, nmt, expected));
+    say_dll_answer(out, machine.process_event(event, nmt, expected));
 }
 
-fn print_dll() {
+fn print_dll(out: &mut Output) {
     for k in 0..576usize {
         let expected = k % 2 == 1;
         print_dll_event(
+            out,
             cs_state_at(k / 144),
             cs_event_at(k / 24 % 6),
             state_at(k / 2 % 12),
@@ -273,7 +284,10 @@ fn print_dll() {
     }
 }
 
-fn main() {
-    print_nmt();
-    print_dll();
+fn main(rt: HostRuntime) -> io::Result<()> {
+    let mut output = Output::new(rt.stdout());
+    let out = &mut output;
+    print_nmt(out);
+    print_dll(out);
+    output.end()
 }

@@ -2,7 +2,7 @@
 -- Assumes nothing.
 use Prim.Native.Nat.{ℕ}
 use mathlib.Core.Path.{◌≡◌, refl, sym, ap, ◌∙◌}
-use mathlib.Core.List.{List, [], ◌∷◌}
+use mathlib.Core.List.{[], ◌∷◌}
 use Rattle.types.specs.Pick.{read_by}
 use Rattle.types.specs.Refusals.{refusal_number}
 use Rattle.types.specs.declared.refusals.Refusal.{Refusal}

@@ -1,7 +1,7 @@
 -- Reading the number of an item gives the item, and an accepted number is the number of what was read: each reading is true to its numbers.
 -- Assumes nothing.
 use Prim.Native.Nat.{ℕ}
-use mathlib.Core.Path.{◌≡◌, refl, sym, ap}
+use mathlib.Core.Path.{◌≡◌, refl, ap}
 use native.Mathlib.Omega.{arith}
 use Rattle.types.specs.Types.{read_node}
 use Rattle.types.specs.States.{state_number, states, read_state}
@@ -9,7 +9,6 @@ use Rattle.types.specs.Events.{command_number, commands, read_command, managing_
 use Rattle.types.specs.CsEvents.{cs_event_number, cs_events, read_cs_event}
 use Rattle.types.specs.Frames.{message_number, messages, read_message}
 use Rattle.types.specs.Errors.{Kind, kinds, carried, error_kind_of, read_error}
-use Rattle.types.specs.declared.refusals.Refusal.{Refusal}
 use Rattle.types.specs.declared.refusals.Refusal.TheVariants.{UnknownNumber}
 use Rattle.types.specs.declared.types.NodeIdRead.{NodeIdRead}
 use Rattle.types.specs.declared.types.NodeIdRead.TheVariants as node-id

@@ -9,7 +9,7 @@ use crate::frame::cs_state_machine::DllCsEvent;
 use crate::nmt::events::NmtEvent;
 use crate::types::MessageType;
 
-#[derive(Drop)]
+#[derive(Clone, Copy)]
 pub enum FrameNmtEvent {
     Some(NmtEvent),
     None,

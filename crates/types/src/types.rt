@@ -14,10 +14,10 @@ pub const C_ADR_RT1_DEF_NODE_ID: u8 = 254;
 // POWERLINK Node ID for broadcast messages.
 pub const C_ADR_BROADCAST_NODE_ID: u8 = 255;
 
-#[derive(Drop)]
+#[derive(Clone, Copy)]
 pub struct NodeId(pub u8);
 
-#[derive(Drop)]
+#[derive(Clone, Copy)]
 pub enum NodeIdRead {
     Taken(NodeId),
     Refused(Refusal),
@@ -38,7 +38,7 @@ impl NodeId {
 }
 
 // The kinds of frames, by their message type IDs (Appendix 3.1).
-#[derive(Drop)]
+#[derive(Clone, Copy)]
 pub enum MessageType {
     SoC,
     PReq,
@@ -48,7 +48,7 @@ pub enum MessageType {
 }
 
 // A number that is no message type is answered without a refusal's number: no call of document 01 reads one.
-#[derive(Drop)]
+#[derive(Clone, Copy)]
 pub enum MessageTypeRead {
     Taken(MessageType),
     Unknown,

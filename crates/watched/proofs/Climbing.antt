@@ -13,7 +13,6 @@ use Rattle.types.specs.Pick.{pick, both}
 use Rattle.types.specs.Types.{is_node}
 use Rattle.types.proofs.Tests.{both_first, both_second}
 use Rattle.watched.specs.declared.nodes.WatchedNode.{WatchedNode}
-use Rattle.watched.specs.declared.nodes.Tried.TheVariants as tried
 use Rattle.watched.specs.declared.nodes.Seen.TheVariants as seen
 use Rattle.watched.specs.Watched.{latest, in_time, timed, fits, all_of, no_node}
 use Rattle.watched.specs.Nodes.{node_at, nodes_of, not_before, rising, climbing, numbered, roused_from}

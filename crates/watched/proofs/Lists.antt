@@ -11,7 +11,7 @@ use lib.ListN.{length, get_or, set, take, drop, take-append-drop, length-append,
 use lib.Seq.{length-take-le, take-suc, drop-cons, append_snoc, set-append_left, get_or-take, set_at, get_or_at, take_at}
 use borrow.Author.Tests.{ltb-false, le-leb, lt-leb, leb-true}
 use Rattle.types.specs.Pick.{pick, both, either}
-use Rattle.types.specs.Types.{node, is_node}
+use Rattle.types.specs.Types.{is_node}
 use Rattle.entries.specs.Ring.{listed}
 use Rattle.entries.proofs.Rings.{listed_long}
 use Rattle.watched.specs.declared.nodes.WatchedNode.{WatchedNode}

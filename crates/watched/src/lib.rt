@@ -1,4 +1,6 @@
 // The watched nodes in words that their owner lends: whether they pass number 3, where a node is, and whether one asks for something. Nothing here
 // writes.
+#![tactic(auto)]
+
 pub mod nodes;
 pub mod time;

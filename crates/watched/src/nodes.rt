@@ -12,7 +12,7 @@ use crate::time::in_time;
 pub type NodeWords = [u64; 96];
 
 // What three words of a node stand for.
-#[derive(Drop)]
+#[derive(Clone, Copy)]
 pub struct WatchedNode {
     pub node: u8,
     // In microseconds; 0 never fires.
@@ -98,7 +98,7 @@ fn all_heard_by(before: bool, timeout: u64, last_heard: u64, time: u64) -> bool
 pub const NEVER: u64 = 18446744073709551615;
 
 // Whether nodes are well formed, and the soonest moment at which one would be late.
-#[derive(Drop)]
+#[derive(Clone, Copy)]
 pub enum Tried {
     Unformed,
     Formed(u64),
@@ -149,7 +149,7 @@ pub fn sooner(soonest: u64, timeout: u64, last_heard: u64) -> u64
 
 // Where a walk ended, and of the nodes before that place: the last one's number, all times one over the other, and the soonest of what is three before
 // their moments.
-#[derive(Drop)]
+#[derive(Clone, Copy)]
 struct Climbed {
     place: usize,
     last: u64,
@@ -252,7 +252,7 @@ pub fn well_formed(nodes: &NodeWords, count: usize) -> bool
 }
 
 // The place of a node among well formed ones, their number where it is not watched; and the soonest moment with that node heard at a time.
-#[derive(Drop)]
+#[derive(Clone, Copy)]
 pub enum Found {
     Unformed,
     Formed(usize, u64),
@@ -331,7 +331,7 @@ fn rest_until(soonest: u64, timeout: u64, last_heard: u64, time: u64) -> u64
 
 // Whether some of well formed nodes does not rest, so that a tick is to look at them, and then whether its time is before no last-heard time (number 6);
 // where all rest, the soonest moment.
-#[derive(Drop)]
+#[derive(Clone, Copy)]
 pub enum Seen {
     Unformed,
     Roused(bool),

@@ -4,7 +4,7 @@ ghost use Rattle.types.specs.CsEvents.{cs_event_number, read_cs_event};
 
 use crate::refusals::Refusal;
 
-#[derive(Drop)]
+#[derive(Clone, Copy)]
 pub enum DllCsEvent {
     Soc,
     Preq,
@@ -14,7 +14,7 @@ pub enum DllCsEvent {
     SocTimeout,
 }
 
-#[derive(Drop)]
+#[derive(Clone, Copy)]
 pub enum DllCsEventRead {
     Taken(DllCsEvent),
     Refused(Refusal),

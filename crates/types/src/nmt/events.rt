@@ -4,7 +4,7 @@ ghost use Rattle.types.specs.Events.{command_number, managing_number, event_numb
 
 use crate::refusals::Refusal;
 
-#[derive(Drop)]
+#[derive(Clone, Copy)]
 pub enum NmtStateCommand {
     StartNode,
     StopNode,
@@ -16,25 +16,25 @@ pub enum NmtStateCommand {
     SwReset,
 }
 
-#[derive(Drop)]
+#[derive(Clone, Copy)]
 pub enum NmtStateCommandRead {
     Taken(NmtStateCommand),
     Refused(Refusal),
 }
 
-#[derive(Drop)]
+#[derive(Clone, Copy)]
 pub enum NmtManagingCommand {
     NmtNetHostNameSet,
     NmtFlushArpEntry,
 }
 
-#[derive(Drop)]
+#[derive(Clone, Copy)]
 pub enum NmtManagingCommandRead {
     Taken(NmtManagingCommand),
     Refused(Refusal),
 }
 
-#[derive(Drop)]
+#[derive(Clone, Copy)]
 pub enum NmtEvent {
     // Commands of the managing node, and a reset from outside.
     StartNode,
@@ -62,7 +62,7 @@ pub enum NmtEvent {
     AllMandatoryCnsOperational,
 }
 
-#[derive(Drop)]
+#[derive(Clone, Copy)]
 pub enum NmtEventRead {
     Taken(NmtEvent),
     Refused(Refusal),

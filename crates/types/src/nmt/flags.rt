@@ -2,7 +2,7 @@
 ghost use Rattle.std.specs.Prelude.{◌≡◌};
 ghost use Rattle.types.specs.Flags.{flags};
 
-#[derive(Drop)]
+#[derive(Clone, Copy)]
 pub struct FeatureFlags(pub u32);
 
 impl FeatureFlags {

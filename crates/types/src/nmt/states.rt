@@ -4,7 +4,7 @@ ghost use Rattle.types.specs.States.{state_number, read_state};
 
 use crate::refusals::Refusal;
 
-#[derive(Drop)]
+#[derive(Clone, Copy)]
 pub enum NmtState {
     NmtGsOff,
     NmtGsInitialising,
@@ -20,7 +20,7 @@ pub enum NmtState {
     NmtBasicEthernet,
 }
 
-#[derive(Drop)]
+#[derive(Clone, Copy)]
 pub enum NmtStateRead {
     Taken(NmtState),
     Refused(Refusal),

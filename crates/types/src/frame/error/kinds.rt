@@ -6,7 +6,7 @@ ghost use Rattle.types.specs.Kinds.{kind_place, kind_code, error_kinds, kind_at,
 use crate::frame::error::types::DllError;
 use crate::refusals::Refusal;
 
-#[derive(Drop)]
+#[derive(Clone, Copy)]
 pub enum DllErrorKind {
     LossOfLink,
     BadPhysicalMode,
@@ -32,7 +32,7 @@ pub enum DllErrorKind {
     HeartbeatTimeout,
 }
 
-#[derive(Drop)]
+#[derive(Clone, Copy)]
 pub enum DllErrorKindRead {
     Taken(DllErrorKind),
     Refused(Refusal),

@@ -8,14 +8,14 @@ use crate::refusals::Refusal;
 use crate::types::{NodeId, NodeIdRead};
 
 // What NMT is asked for after an error.
-#[derive(Drop)]
+#[derive(Clone, Copy)]
 pub enum NmtAction {
     None,
     ResetCommunication,
     ResetNode(NodeId),
 }
 
-#[derive(Drop)]
+#[derive(Clone, Copy)]
 pub enum DllError {
     LossOfLink,
     BadPhysicalMode,
@@ -42,14 +42,14 @@ pub enum DllError {
 }
 
 // The errors that one event reports: at most two, in order.
-#[derive(Drop)]
+#[derive(Clone, Copy)]
 pub enum DllErrors {
     None,
     One(DllError),
     Two(DllError, DllError),
 }
 
-#[derive(Drop)]
+#[derive(Clone, Copy)]
 pub enum DllErrorRead {
     Taken(DllError),
     Refused(Refusal),

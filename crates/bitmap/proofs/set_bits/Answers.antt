@@ -1,0 +1,58 @@
+-- `bitmap::set_bits` meets its contract: after i turns the bytes are those of the first i nodes.
+-- Assumes nothing.
+use mathlib.Core.Path.{◌≡◌, refl, sym}
+use native.Mathlib.Omega.{arith}
+use Rattle.entries.specs.Ring.{listed}
+use Rattle.watched.specs.Nodes.{nodes_of}
+use Rattle.watched.proofs.Lists.{few}
+use Rattle.bitmap.specs.Bitmap.{bytes_of}
+use Rattle.bitmap.proofs.Bitmaps.{node_below, turn}
+use Rattle.bitmap.proofs.set_bits.Goals as goal
+
+pub loop-i-init : goal.loop-i-init
+unfolding bytes_of listed
+loop-i-init c =
+    let a = c.args in
+    (refl, omega arith, few (nodes_of a.nodes.now) a.count _ (sym c.requires) refl)
+
+pub bounds-bytes-at : goal.bounds-bytes-at
+unfolding bytes_of listed
+bounds-bytes-at c =
+    let l = c.loop-i in
+    let a = c.args in
+    omega (arith, node_below a.nodes.now a.count c.requires l.i c.loop-i-test.true l.invariant.2)
+
+pub with_node-requires : goal.with_node-requires
+unfolding bytes_of listed
+with_node-requires c =
+    tt
+
+pub bounds-bytes-at-in-loop-i : goal.bounds-bytes-at-in-loop-i
+unfolding bytes_of listed
+bounds-bytes-at-in-loop-i c =
+    let l = c.loop-i in
+    let a = c.args in
+    omega (arith, node_below a.nodes.now a.count c.requires l.i c.loop-i-test.true l.invariant.2)
+
+pub loop-i-smaller : goal.loop-i-smaller
+unfolding bytes_of listed
+loop-i-smaller c =
+    omega arith
+
+pub loop-i-preserved : goal.loop-i-preserved
+unfolding bytes_of listed
+loop-i-preserved c =
+    let l = c.loop-i in
+    let a = c.args in (
+      turn a.nodes.now a.count c.requires l.i c.loop-i-test.true l.invariant.2 l.bytes l.invariant.0 c.with_node.result c.with_node.ensures,
+      omega arith,
+      l.invariant.2,
+    )
+
+pub returns : goal.returns
+unfolding bytes_of listed
+returns c =
+    let l = c.loop-i in
+    let a = c.args in
+    let e : l.i ≡ a.count = omega arith in
+    rw e at l.invariant.0

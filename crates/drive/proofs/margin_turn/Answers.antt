@@ -1,0 +1,13 @@
+-- `drive::margin_turn` meets its contract: the call was made, and its number.
+-- Assumes nothing.
+use Rattle.drive.proofs.Making.{made_margin}
+use Rattle.drive.proofs.Turning.{turned}
+use Rattle.drive.proofs.margin_turn.Goals as goal
+
+pub returns-in-Taken : goal.returns-in-Taken
+returns-in-Taken c q m ns k =
+    turned (made_margin q m ns k c.args.time c.soc_margin.result c.soc_margin.ensures) (rw c.in-Taken.is)
+
+pub returns-in-Refused : goal.returns-in-Refused
+returns-in-Refused c q m ns k =
+    turned (made_margin q m ns k c.args.time c.soc_margin.result c.soc_margin.ensures) (rw (c.in-Refused.is, ← c.number.ensures))

@@ -1,0 +1,36 @@
+-- `entries::desk::write_at` meets its contract: the tests in their order, then one write.
+-- Assumes nothing.
+use Prim.Native.Nat.{◌+◌, ◌≤◌}
+use mathlib.Core.Path.{sym, ◌∙◌}
+use native.Mathlib.Omega.{arith}
+use borrow.Author.Tests.{leb-true, le-leb, lt-leb}
+use lib.ListN.{length}
+use Rattle.entries.proofs.DeskLaws.{no_room, no_profile, wrote}
+use Rattle.entries.proofs.desk.write_at.Goals as goal
+
+pub returns-then-not-room : goal.returns-then-not-room
+returns-then-not-room c =
+    let a = c.args in
+    no_room a.buffer.now a.place a.entry (sym c.has_room-room.ensures ∙ c.if-not-room.true)
+
+pub returns-then-not-small : goal.returns-then-not-small
+returns-then-not-small c =
+    let a = c.args in
+    no_profile a.buffer.now a.place a.entry
+    (sym c.has_room-room.ensures ∙ c.if-not-room.false)
+    (lt-leb _ 4095 c.if-not-small.true)
+
+pub put_entry-requires : goal.put_entry-requires
+put_entry-requires c =
+    let a = c.args in
+    let room : a.place + 20 ≤ length a.buffer.now =
+    leb-true (a.place + 20) (length a.buffer.now) (sym c.has_room-room.ensures ∙ c.if-not-room.false) in
+    omega (arith, room)
+
+pub returns : goal.returns
+returns c =
+    let a = c.args in
+    wrote a.buffer.now a.place a.entry
+    (sym c.has_room-room.ensures ∙ c.if-not-room.false)
+    (le-leb _ 4095 c.if-not-small.false)
+    c.put_entry.ensures

@@ -1,0 +1,7 @@
+-- `entry_bytes::fill` meets its contract. The loop's invariant: what is left to fill gives the same as the whole.
+-- Assumes nothing.
+use Rattle.entry_bytes.proofs.Filling.{Left}
+use Rattle.entry_bytes.proofs.fill.Given as goal
+
+abbrev pub invariant-loop-i : goal.invariant-loop-i
+invariant-loop-i l = Left l.initial.pattern l.initial.x l.pattern l.x l.i

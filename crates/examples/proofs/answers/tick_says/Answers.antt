@@ -1,0 +1,12 @@
+-- `examples::answers::tick_says` meets its contract: taken or declined.
+-- Assumes nothing.
+use Rattle.examples.proofs.Answering.{tick_taken_lem, tick_refused}
+use Rattle.examples.proofs.answers.tick_says.Goals as goal
+
+pub returns-in-Taken : goal.returns-in-Taken
+returns-in-Taken c =
+    rw c.in-Taken.is (tick_taken_lem _ c.args.stated c.are.ensures)
+
+pub returns-in-Refused : goal.returns-in-Refused
+returns-in-Refused c =
+    rw c.in-Refused.is (tick_refused _ c.args.stated)

@@ -1,0 +1,12 @@
+-- `examples::memory::is_found` meets its contract: an entry or none.
+-- Assumes nothing.
+use Rattle.examples.proofs.Holding.{exact_found, not_found}
+use Rattle.examples.proofs.memory.is_found.Goals as goal
+
+pub returns-in-Entry : goal.returns-in-Entry
+returns-in-Entry c =
+    rw c.in-Entry.is (exact_found _ _ c.is_entry.ensures)
+
+pub returns-in-None : goal.returns-in-None
+returns-in-None c =
+    rw c.in-None.is (not_found _)

@@ -1,0 +1,55 @@
+// What a program prints. A write that fails is kept, nothing is written behind it, and the program ends with it. What reaches standard output no contract can say;
+// of a writer whose bytes are known, as one over memory, they say which bytes join them.
+ghost use Rattle.std.specs.Prelude.{◌≡◌, IsOk, IsErr};
+ghost use Rattle.std.specs.Io.KnownBytes.{Appends};
+ghost use Rattle.std.specs.Fmt.{decimal};
+
+use std::io;
+use std::io::{Stdout, Write};
+
+#[derive(Drop)]
+pub struct Output<W = Stdout> {
+    pub to: W,
+    pub outcome: io::Result<()>,
+}
+
+impl<W: Write> Output<W> {
+    pub fn new(to: W) -> Output<W>
+        ensures outcome { IsOk result.outcome }
+        ensures to { result.to ≡ to }
+    {
+        Output {
+            to,
+            outcome: Ok(()),
+        }
+    }
+
+    // Writes all bytes, unless a write has failed before.
+    pub fn write(&mut self, bytes: &[u8])
+        ensures failed { IsErr self.old.outcome → self.new ≡ self.old }
+        ensures written { IsOk self.new.outcome → Appends (W.contents self.old.to) (W.contents self.new.to) bytes.now }
+    {
+        if self.outcome.is_ok() {
+            self.outcome = self.to.write_all(bytes);
+        }
+    }
+
+    // The same with a number in decimal.
+    pub fn write_number(&mut self, n: u64)
+        ensures failed { IsErr self.old.outcome → self.new ≡ self.old }
+        ensures written { IsOk self.new.outcome → Appends (W.contents self.old.to) (W.contents self.new.to) (decimal n) }
+    {
+        if self.outcome.is_ok() {
+            self.outcome = write!(self.to, "{n}");
+        }
+    }
+
+    // Whether all was written.
+    pub fn end(self) -> io::Result<()>
+    where
+        W: Drop,
+        ensures { result ≡ self.outcome }
+    {
+        self.outcome
+    }
+}

@@ -1,0 +1,33 @@
+-- `partners::add` meets its contract: its tests, then the walk, and the earliest moment.
+-- Assumes nothing.
+use mathlib.Core.Path.{refl}
+use native.Mathlib.Omega.{arith}
+use Rattle.watched.proofs.Watching.{found_unformed, found_formed}
+use Rattle.partners.proofs.Told.{add_unformed, add_room, add_declined, add_taken}
+use Rattle.partners.proofs.add.Goals as goal
+
+pub returns-in_default : goal.returns-in_default
+returns-in_default c =
+    let a = c.args in
+    add_unformed a.head.now a.nodes.now a.count.now a.node
+    (found_unformed a.nodes.now a.count.now a.node 0 c.find-found.result c.find-found.ensures c.in_default.is)
+    a.timeout c.is_known-known.result c.is_known-known.ensures c.try_add.result c.try_add.ensures
+
+pub overflow_add-count : goal.overflow_add-count
+overflow_add-count c =
+    let a = c.args in
+    let x = found_formed a.nodes.now a.count.now a.node 0 c.find-found.result c.find-found.ensures _ _ c.in-Formed.is in
+    omega (arith, add_room a.head.now a.nodes.now a.count.now a.node x.0 _ x.1 _ refl a.timeout c.is_known-known.result c.is_known-known.ensures c.try_add-answer.result c.try_add-answer.ensures c.in-Taken.is)
+
+pub returns-in-Taken : goal.returns-in-Taken
+returns-in-Taken c =
+    let a = c.args in
+    let x = found_formed a.nodes.now a.count.now a.node 0 c.find-found.result c.find-found.ensures _ _ c.in-Formed.is in
+    add_taken a.head.now a.nodes.now a.count.now a.node x.0 _ x.1 _ refl a.timeout c.is_known-known.result c.is_known-known.ensures c.try_add-answer.result c.try_add-answer.ensures c.in-Taken.is
+    c.whole.ensures _ c.insert.ensures c.all_places.ensures _ x.2 c.moment.result c.moment.ensures _ c.set_earliest.ensures
+
+pub returns-in-Refused : goal.returns-in-Refused
+returns-in-Refused c =
+    let a = c.args in
+    let x = found_formed a.nodes.now a.count.now a.node 0 c.find-found.result c.find-found.ensures _ _ c.in-Formed.is in
+    add_declined a.head.now a.nodes.now a.count.now a.node x.0 _ x.1 _ refl a.timeout c.is_known-known.result c.is_known-known.ensures c.try_add-answer.result c.try_add-answer.ensures _ c.in-Refused.is

@@ -1,0 +1,10 @@
+-- `readings::times::print_differences` is safe and ends: the loop counts up to a constant.
+-- Assumes nothing.
+use Prim.Native.Nat.{◌-◌}
+use Rattle.readings.proofs.times.print_differences.Given as goal
+
+abbrev pub invariant-loop-k : goal.invariant-loop-k
+invariant-loop-k l = Unit
+
+abbrev pub decreases-loop-k : goal.decreases-loop-k
+decreases-loop-k l = 16 - l.k

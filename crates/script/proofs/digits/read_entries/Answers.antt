@@ -1,0 +1,27 @@
+-- `script::digits::read_entries` meets its contract: the entries one behind another. The loop's invariant: what follows, from here, is the whole.
+-- Assumes nothing.
+use Prim.Native.Nat.{◌+◌, ◌-◌, ◌*◌}
+use mathlib.Core.Path.{◌∙◌}
+use native.Mathlib.Omega.{arith}
+use Rattle.script.proofs.Reading.{entries_first, entries_none, entries_other, entries_fails, entries_goes}
+use Rattle.script.proofs.digits.read_entries.Goals as goal
+
+pub loop-i-init : goal.loop-i-init
+loop-i-init c =
+    let a = c.args in entries_first a.line.now a.count a.at a.bytes.now 0
+
+pub returns-then-line-from-ne32 : goal.returns-then-line-from-ne32
+returns-then-line-from-ne32 c =
+    let l = c.loop-i in let a = c.args in entries_other a.line.now (a.count - l.i) (a.at + 41 * l.i) l.bytes (20 * l.i) (a.count - (l.i + 1)) (omega (arith, c.loop-i-test.true)) c.if-line-from-ne32.true ∙ l.invariant
+
+pub returns-then-not-read_bytes : goal.returns-then-not-read_bytes
+returns-then-not-read_bytes c =
+    let l = c.loop-i in let a = c.args in entries_fails a.line.now (a.count - l.i) (a.at + 41 * l.i) l.bytes (20 * l.i) (a.count - (l.i + 1)) (omega (arith, c.loop-i-test.true)) c.if-line-from-ne32.false c.read_bytes.result _ c.read_bytes.ensures c.if-not-read_bytes.true ∙ l.invariant
+
+pub loop-i-preserved : goal.loop-i-preserved
+loop-i-preserved c =
+    let l = c.loop-i in let a = c.args in entries_goes a.line.now (a.count - l.i) (a.at + 41 * l.i) l.bytes (20 * l.i) (a.count - (l.i + 1)) (omega (arith, c.loop-i-test.true)) c.if-line-from-ne32.false c.read_bytes.result _ c.read_bytes.ensures c.if-not-read_bytes.false _ _ (omega arith) (omega arith) ∙ l.invariant
+
+pub returns : goal.returns
+returns c =
+    let l = c.loop-i in let a = c.args in entries_none a.line.now (a.count - l.i) (a.at + 41 * l.i) l.bytes (20 * l.i) (omega (arith, c.loop-i-test.false)) ∙ l.invariant

@@ -1,0 +1,27 @@
+-- `script::load::read_history` meets its contract: by the tests.
+-- Assumes nothing.
+use Prim.Native.Nat.{◌-◌, ◌/◌}
+use mathlib.Core.Path.{refl}
+use lib.ListN.{length}
+use Rattle.script.proofs.Saying.{history_past, history_part, history_long, history_fails, history_taken}
+use Rattle.script.proofs.load.read_history.Goals as goal
+
+pub returns-then-line-at : goal.returns-then-line-at
+returns-then-line-at c =
+    let a = c.args in history_past a.line.now a.at a.given.now a.bytes.now c.if-line-at.true
+
+pub returns-then-at-count : goal.returns-then-at-count
+returns-then-at-count c =
+    let a = c.args in history_part a.line.now a.at a.given.now a.bytes.now c.if-line-at.false ((length a.line.now - a.at) / 41) refl c.if-at-count.true
+
+pub returns-then-count-gt300 : goal.returns-then-count-gt300
+returns-then-count-gt300 c =
+    let a = c.args in history_long a.line.now a.at a.given.now a.bytes.now c.if-line-at.false ((length a.line.now - a.at) / 41) refl c.if-at-count.false c.if-count-gt300.true
+
+pub returns-then-read_entries : goal.returns-then-read_entries
+returns-then-read_entries c =
+    let a = c.args in history_taken a.line.now a.at a.given.now a.bytes.now c.if-line-at.false ((length a.line.now - a.at) / 41) refl c.if-at-count.false c.if-count-gt300.false c.read_entries.result _ c.read_entries.ensures c.if-read_entries.true
+
+pub returns : goal.returns
+returns c =
+    let a = c.args in history_fails a.line.now a.at a.given.now a.bytes.now c.if-line-at.false ((length a.line.now - a.at) / 41) refl c.if-at-count.false c.if-count-gt300.false c.read_entries.result _ c.read_entries.ensures c.if-read_entries.false

@@ -1,0 +1,20 @@
+-- `start::start::start` meets its contract: the fresh head or a number, then the nodes' words.
+-- Assumes nothing.
+use native.Mathlib.Omega.{arith}
+use Rattle.start.proofs.Begun.{declined, below, begun}
+use Rattle.start.proofs.start.start.Goals as goal
+
+pub unheard-requires : goal.unheard-requires
+unheard-requires c =
+    let a = c.args in
+    omega (arith, below a.head.now a.nodes.now a.count a.node a.feature_flags a.basic_ethernet_timeout a.queue_capacity a.od a.thresholds c.well_formed-formed.result c.well_formed-formed.ensures c.begin-answer.result _ c.begin-answer.ensures c.in-Taken.is)
+
+pub returns-in-Taken : goal.returns-in-Taken
+returns-in-Taken c =
+    let a = c.args in
+    begun a.head.now a.nodes.now a.count a.node a.feature_flags a.basic_ethernet_timeout a.queue_capacity a.od a.thresholds c.well_formed-formed.result c.well_formed-formed.ensures c.begin-answer.result _ c.begin-answer.ensures c.in-Taken.is _ c.unheard.ensures
+
+pub returns-in-Refused : goal.returns-in-Refused
+returns-in-Refused c =
+    let a = c.args in
+    declined a.head.now a.nodes.now a.count a.node a.feature_flags a.basic_ethernet_timeout a.queue_capacity a.od a.thresholds c.well_formed-formed.result c.well_formed-formed.ensures c.begin-answer.result _ c.begin-answer.ensures _ c.in-Refused.is

@@ -1,0 +1,10 @@
+-- `transitions::print_dll` is safe and ends: the loop counts up to a constant.
+-- Assumes nothing.
+use Prim.Native.Nat.{◌-◌}
+use Rattle.transitions.proofs.print_dll.Given as goal
+
+abbrev pub invariant-loop-k : goal.invariant-loop-k
+invariant-loop-k l = Unit
+
+abbrev pub decreases-loop-k : goal.decreases-loop-k
+decreases-loop-k l = 576 - l.k
