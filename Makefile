@@ -15,9 +15,9 @@ SHELL := bash
 .PHONY: run incident replay watch shift test compare compare-oracle wireshark
 
 replay:
-	@mkdir -p target
+	@mkdir -p target/bin
 	@echo "Proving the node and the program that drives it (some minutes the first time)."
-	@rt check replay 2>&1 | tee target/run.log | grep '^rt: .* proved' || { cat target/run.log; exit 1; }
+	@scripts/build.sh replay
 
 run: replay
 	@scripts/run.sh scripts/run.txt
@@ -29,14 +29,11 @@ watch: replay
 	@tests/watch.py
 
 shift:
-	@mkdir -p target
-	@rt check shiftreport 2>&1 | tee target/shift.log | grep '^rt: shiftreport' || { cat target/shift.log; exit 1; }
+	@scripts/build.sh shiftreport
 	@tests/shiftreport.py
 	@tests/shiftreport.py --speed
 
 test:
-	@echo "Checking the layout of every .rt and .antt file."
-	@rt fmt --check
 	@echo "Checking public contracts and the documents' references."
 	@sh tests/documents.sh
 	@echo "Checking that the laws which a script writes are what it writes."
@@ -47,7 +44,8 @@ test:
 	@compare/joined.sh --check
 	@echo "Proving every crate, trying the must-fail edits, running the programs (40 minutes or more on two cores); behind it, silent where all is"
 	@echo "as expected, the program of shift totals on stored and generated inputs, and the page on the watch beside what replay prints."
-	@rt ci
+	@scripts/gate.sh
+	@scripts/build.sh --built replay shiftreport
 	@tests/shiftreport.py >target/shift.log || { cat target/shift.log; exit 1; }
 	@tests/watch.py --quiet
 

@@ -4,67 +4,68 @@
 # than 32, which the other form cannot be given, and a number of 33 the lent form has to decline. Then wrong forms take the place of the lent ones, and each has
 # to be noticed. Needs the kit alone.
 #
-# A function that lends structs has to be walked by hand, so the driver, compare/lent/*.rt.txt, is an unproved program above the proved libraries. The kit's
-# `rattle-cases` compiles it three ways (-O0, -O3, and with the compiler's assumptions checked) and runs each. `rt try` would give it the source of every
-# library, where our crate `types` and a module of the kit's libc have one name; here it is given what the libraries were built to.
+# The driver, compare/lent/*.rt.txt, is a program with no proof above the sources of the crates, which `rt ci` proves. `rt try` runs it, in a copy of these
+# sources outside the checkout: by some calls both compiled and on the kit's interpreter, which have to print the same, and by all calls compiled. What is
+# compiled stops at an index out of bounds, an overflow or a bad access. All calls are seeded. JOBS says how many wrong forms are tried at a time.
 set -eu
 here=$(cd "$(dirname "${BASH_SOURCE[0]}")" && pwd)
 root=$(dirname "$here")
-work="$root/target/compare/lent"
+# The counts, and the messages of `rt try`. No source is put here: `rt ci` refuses one outside crates/.
+kept="$root/target/compare/lent"
+work=$(mktemp -d "${TMPDIR:-/tmp}/lent.XXXXXX")
+trap 'rm -rf "$work"' EXIT
 seeds="1 2 3 4 5"
 calls=9000
+# The interpreter is slow: it makes so many calls of each seed, in so many steps or less.
+few=60
+steps=1000000000
 # Each line of the report has to count at least so many.
 least=20
+jobs=${JOBS:-$(nproc)}
 
 fail() {
     echo "compare/lent.sh: $*" >&2
     exit 1
 }
 
-# The folder of the kit, and in it what is for this machine.
-kit=$(dirname "$(dirname "$(rt doc)")")
-own="$kit/on/$(uname -m)"
-[ -x "$own/bin/rattle-cases" ] || fail "the kit has no $own/bin/rattle-cases."
+# The crates that crate lent stands on, and it.
+crates="$(sed -n 's/^lent: //p' "$root/crates.txt") lent"
 
-# Runs the driver, with the crate `lent` that the words behind $1 name. The reports of the three builds are put one behind another into the file $1.
+# Copies their sources into the folder $1, with the driver above them.
+copy() {
+    local crate file
+    mkdir -p "$1/crates/lent_beside/src"
+    for crate in $crates; do
+        mkdir "$1/crates/$crate"
+        cp -R "$root/crates/$crate/src" "$1/crates/$crate"
+        grep "^$crate:" "$root/crates.txt" >>"$1/crates.txt"
+    done
+    echo "lent_beside: $crates" >>"$1/crates.txt"
+    for file in "$here"/lent/*.rt.txt; do
+        cp "$file" "$1/crates/lent_beside/src/$(basename "$file" .txt)"
+    done
+}
+
+# Runs the driver of the folder $1, by $2 calls of each seed, and at most $3 steps of the interpreter. What it prints is put into the file $4, and what rt says
+# beside it.
 drive() {
-    local report=$1 word words=(--toolchain "$own/toolchain" --link "$kit/lib/libos_c.a")
-    shift
-    rm -f "$report"
-    touch "$report"
-    for word in "$report" "$calls" $seeds; do
-        words+=(--arg "$word")
-    done
-    words+=("$work/src/main.rt" --crate-name lent_beside)
-    for word in std io os libc; do
-        words+=(--extern "$word=$own/rlib/$word.rlib")
-    done
-    for word in $(sed -n 's/^lent: //p' "$root/crates.txt"); do
-        words+=(--extern "$word=$root/target/rlib/$word.rlib")
-    done
-    "$own/bin/rattle-cases" "${words[@]}" "$@" >"$report.log" 2>&1
+    local listed
+    listed=$(echo $seeds | sed 's/ /, /g')
+    printf '// What is played.\npub const CALLS: u64 = %s;\n\npub const SEEDS: [u64; %s] = [%s];\n' "$2" "$(wc -w <<<"$seeds")" "$listed" >"$1/crates/lent_beside/src/plan.rt"
+    (cd "$1/crates/lent_beside" && rt try --seconds 600 --steps "$3") >"$4" 2>"$4.log" </dev/null
 }
 
-# The driver wrote something into the file $1, or could not be run as $2 says.
-ran() {
-    [ -s "$1" ] || {
-        cat "$1.log" >&2
-        fail "the driver could not be run $2."
-    }
-}
-
-# The three reports in the file $1 are one, which is left there.
-one_of_three() {
-    local lines
-    lines=$(($(wc -l <"$1") / 3))
-    head -n "$lines" "$1" >"$1.first"
-    cat "$1.first" "$1.first" "$1.first" | cmp -s - "$1" || fail "the three builds of the driver count differently: see target/compare/lent/report."
-    mv "$1.first" "$1"
+# The driver of which $1 is the report did not end as it should, with the words $2.
+ended() {
+    [ -s "$1" ] || cat "$1.log" >&2
+    ! grep -q '^checked: no-answer' "$1.log" || fail "the driver gave no answer within ten minutes; is the machine busy?"
+    ! grep -q '^seed ' "$1" || fail "the lent form differs: $(grep '^seed ' "$1" | head -n 1)."
+    fail "$2"
 }
 
 # The sum of the counts whose names match $1.
 sum() {
-    grep -E "^[0-9]+ ($1)\$" "$work/report" | awk '{ n += $1 } END { print n + 0 }'
+    grep -E "^[0-9]+ ($1)\$" "$kept/report" | awk '{ n += $1 } END { print n + 0 }'
 }
 
 # The calls of the name $1, in both forms.
@@ -73,62 +74,68 @@ made() {
 }
 
 compare() {
-    drive "$work/report" --extern "lent=$root/target/rlib/lent.rlib" || {
-        ran "$work/report" "with the crate lent"
-        ! grep -q 'did not end within the time limit' "$work/report.log" || fail "the driver did not end within the kit's time limit; is the machine busy?"
-        fail "the lent form differs: $(head -n 1 "$work/report")."
-    }
-    one_of_three "$work/report"
-    rare=$(awk -v least="$least" '$1 < least' "$work/report")
+    local report="$kept/report" rare
+    drive "$work/right" "$few" "$steps" "$kept/few" || ended "$kept/few" "the driver could not be run by $few calls of each seed: see target/compare/lent/few.log."
+    grep -q '^run=ended status=0 runners=2 ' "$kept/few.log" || ended "$kept/few" "the interpreter gave no answer: see target/compare/lent/few.log."
+    ! grep -q '^seed ' "$kept/few" || ended "$kept/few" ""
+    echo "Alike after each of $(sed -n 's/ calls in all$//p' "$kept/few") calls, compiled and on the interpreter."
+    drive "$work/right" "$calls" 1000 "$report" || ended "$report" "the driver could not be run with the crate lent."
+    grep -q ' calls in all$' "$report" || ended "$report" "the driver did not count its calls."
+    rare=$(awk -v least="$least" '$1 < least' "$report")
     [ -z "$rare" ] || fail "met less than $least times: $rare"
     echo "Alike after each of $(sum 'calls in all') calls: $(made start) starts, $(made heard) of heard, $(made tick) ticks, $(made add) adds, $(made remove) removals," \
         "$(sum 'counters: calls') on counters, $(sum '[a-z]+: alone.*') of the lent form alone, and those between them."
     echo "Alone it declined $(sum '[a-z]+: alone, on 31 places') calls on 31 places, $(sum '[a-z]+: alone, on 33 places') on 33," \
         "$(sum '[a-z]+: alone, on another number of places') on another number of them, and $(sum '[a-z]+: alone, with a number of 33') with a number of 33; nothing was changed."
-    echo "The $(wc -l <"$work/report") counts of target/compare/lent/report are $least or more; the least: $(sort -n "$work/report" | head -n 1)."
+    echo "The $(wc -l <"$report") counts of target/compare/lent/report are $least or more; the least: $(sort -n "$report" | head -n 1)."
 }
 
-# In the file $1 of the crate, the text $2 stands once; with $3 in its place, the driver has to notice a difference.
+# Wrong form number $1: in the file $2 of the crate, the text $3 stands once; with $4 in its place, the driver has to notice a difference.
 notice() {
-    local text rest report="$work/noticed"
-    rm -rf "$work/wrong"
-    mkdir -p "$work/wrong"
-    cp -R "$root/crates/lent/src" "$root/crates/lent/specs" "$work/wrong"
-    text=$(cat "$work/wrong/src/$1")
-    rest=${text#*"$2"}
-    [ "$rest" != "$text" ] && [ "${rest#*"$2"}" = "$rest" ] || fail "crates/lent/src/$1 does not have this once: $2"
-    printf '%s\n' "${text%%"$2"*}$3$rest" >"$work/wrong/src/$1"
-    ! drive "$report" --lib "lent=$work/wrong/src/lib.rt" || fail "in $1, this was not noticed: $3"
-    ran "$report" "with this in $1: $3"
-    grep -q '^seed ' "$report" || fail "in $1, the driver ended without a difference (is the machine busy?): $3"
-    echo "  $1, $3 noticed at $(head -n 1 "$report")"
+    local text rest top="$work/$1" report="$kept/wrong-$1"
+    copy "$top"
+    text=$(cat "$top/crates/lent/src/$2")
+    rest=${text#*"$3"}
+    [ "$rest" != "$text" ] && [ "${rest#*"$3"}" = "$rest" ] || fail "crates/lent/src/$2 does not have this once: $3"
+    printf '%s\n' "${text%%"$3"*}$4$rest" >"$top/crates/lent/src/$2"
+    drive "$top" "$calls" 1000 "$report" || true
+    [ -s "$report" ] || {
+        cat "$report.log" >&2
+        fail "the driver could not be run with this in $2: $4"
+    }
+    grep -q '^seed ' "$report" || fail "in $2, this was not noticed: $4"
+    echo "  $1 of $wrong: $2, $4 noticed at $(grep '^seed ' "$report")"
+    rm -rf "$top" "$report" "$report.log"
 }
 
-echo "Proving the crate lent (some minutes the first time)."
-rm -rf "$work"
-mkdir -p "$work/src"
-(cd "$root" && rt check lent) >"$work/check.log" 2>&1 || {
-    cat "$work/check.log"
-    exit 1
-}
-for file in "$here"/lent/*.rt.txt; do
-    cp "$file" "$work/src/$(basename "$file" .txt)"
-done
-
-echo "Driving the lent forms beside the others, by $calls calls of each of the seeds $seeds."
+rm -rf "$kept"
+mkdir -p "$kept"
+copy "$work/right"
+echo "Driving the lent forms beside the others, by $calls calls of each of the seeds $seeds (a minute or two)."
 compare
 
-echo "Putting wrong forms in the place of the lent ones."
+wrong=$(grep -c '^new: ' "$here/lent/wrong.txt") || fail "compare/lent/wrong.txt has no wrong form."
+echo "Putting $wrong wrong forms in the place of the lent ones (five to fifteen minutes), $jobs at a time."
 tried=0
+running=()
 while IFS= read -r line; do
     case $line in
     'file: '*) file=${line#file: } ;;
     'old: '*) old=${line#old: } ;;
     'new: '*)
-        notice "$file" "$old" "${line#new: }"
+        if [ "${#running[@]}" -ge "$jobs" ]; then
+            wait "${running[0]}" || failed=1
+            running=("${running[@]:1}")
+        fi
+        [ -z "${failed:-}" ] || break
         tried=$((tried + 1))
+        notice "$tried" "$file" "$old" "${line#new: }" &
+        running+=($!)
         ;;
     esac
 done <"$here/lent/wrong.txt"
-[ "$tried" -gt 0 ] || fail "compare/lent/wrong.txt has no wrong form."
+for job in "${running[@]}"; do
+    wait "$job" || failed=1
+done
+[ -z "${failed:-}" ] || exit 1
 echo "Noticed all $tried wrong forms."

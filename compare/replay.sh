@@ -92,10 +92,7 @@ sum() {
 echo "Proving and building replay (some minutes the first time)."
 rm -rf "$work"
 mkdir -p "$work"
-(cd "$root" && rt check replay) >"$work/check.log" 2>&1 || {
-    cat "$work/check.log"
-    exit 1
-}
+"$root/scripts/build.sh" replay
 
 for script in "$here"/scripts/*.txt; do
     compare_stored "$script"

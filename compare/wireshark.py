@@ -137,9 +137,9 @@ def numbers_differing():
     """Compares the tables, and says which numbers Wireshark does not have."""
     theirs, failed = tables(), 0
     ours = {
-        "state": specified("crates/types/specs/States.antt", "stateNumber"),
-        "command": specified("crates/types/specs/Events.antt", "commandNumber"),
-        "message": specified("crates/types/specs/Frames.antt", "messageNumber"),
+        "state": specified("crates/types/specs/States.antt", "state_number"),
+        "command": specified("crates/types/specs/Events.antt", "command_number"),
+        "message": specified("crates/types/specs/Frames.antt", "message_number"),
     }
     for what, names in ours.items():
         known = {number: name for number, name in names.items() if number in theirs[what]}

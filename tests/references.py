@@ -5,7 +5,7 @@
   - a file that a document or a comment names, by its path or by the end of it, is there; of `file:name` the file has the name
   - another name between backquotes stands in the code, and that of a comment not in comments alone
 
-A name is looked up whole: one that is cut short is not there. docs/CHANGES.md tells of each step by the names of its time, so names alone are not looked up there."""
+A name is looked up whole: one that is cut short is not there. docs/CHANGES.md and docs/PORT.md tell of each step by the names of its time, so names alone are not looked up there."""
 import os
 import re
 import sys
@@ -13,7 +13,7 @@ import sys
 os.chdir(os.path.dirname(os.path.dirname(os.path.abspath(__file__))))
 FILES = []
 for folder, inside, names in os.walk('.'):
-    inside[:] = [d for d in inside if d not in ('.git', 'target')]
+    inside[:] = [d for d in inside if d not in ('.git', 'target', 'out')]
     FILES += [os.path.relpath(os.path.join(folder, n)) for n in names]
 FILES.sort()
 TOP = ('crates', 'compare', 'tests', 'docs', 'scripts')
@@ -110,7 +110,7 @@ for file in FILES:
                 found += 1
                 if not re.match(r'[a-z]+:', target) and not os.path.exists(os.path.join(os.path.dirname(file), target)):
                     wrong.append(f'{file}:{number}: the link to {target} leads nowhere')
-            found += look(f'{file}:{number}', re.sub(r'\]\([^)]*\)', ']', line), file != 'docs/CHANGES.md', True)
+            found += look(f'{file}:{number}', re.sub(r'\]\([^)]*\)', ']', line), file not in ('docs/CHANGES.md', 'docs/PORT.md'), True)
         else:
             found += look(f'{file}:{number}', comment(file, line), is_code(file), False)
 if wrong:
