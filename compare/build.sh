@@ -3,7 +3,7 @@
 #
 # The original Rust source is not part of this repository. It is read from the folder that POWERLINK_RS names, or else
 # from ../shared/docs/src beside the repository. The originals declare sibling modules that are not given, so the files
-# that originals.txt lists and our stand-ins are linked into one tree, which is compiled as one crate.
+# that originals.txt lists and our stand-ins are copied into one tree, which is compiled as one crate: copies and no links, which rt ci refuses below the repository.
 set -eu
 unset CDPATH # with it, cd would print
 
@@ -17,10 +17,11 @@ fail() {
     exit 1
 }
 
-# Links the file $1 to the place $2 of the tree.
-link() {
+# Copies the file $1 to the place $2 of the tree, with its time, by which cargo tells a changed file.
+place() {
     mkdir -p "$(dirname "$tree/$2")"
-    ln -s "$1" "$tree/$2" || fail "could not link $2; is it both in originals.txt and a stand-in?"
+    [ ! -e "$tree/$2" ] || fail "$2 is both in originals.txt and a stand-in."
+    cp -p "$1" "$tree/$2" || fail "could not copy $2."
 }
 
 command -v cargo >/dev/null || fail "cargo was not found. Install Rust (edition 2024, so 1.85 or newer)."
@@ -31,15 +32,15 @@ given=$(cd "$given" && pwd)
 crate="$given/crates/powerlink-rs/src"
 [ -d "$crate" ] || fail "$given has no crates/powerlink-rs/src. Set POWERLINK_RS to the folder that has it."
 
-echo "Linking the Rust source in $given and the stand-ins into target/compare/tree."
+echo "Copying the Rust source in $given and the stand-ins into target/compare/tree."
 rm -rf "$tree"
 mkdir -p "$tree"
 while read -r file; do
     [ -f "$crate/$file" ] || fail "$crate has no $file, which originals.txt lists. Is POWERLINK_RS the right folder?"
-    link "$crate/$file" "$file"
+    place "$crate/$file" "$file"
 done <"$here/originals.txt"
 while read -r file; do
-    link "$here/standins/powerlink-rs/$file" "$file"
+    place "$here/standins/powerlink-rs/$file" "$file"
 done < <(cd "$here/standins/powerlink-rs" && find . -name '*.rs' | cut -c 3-)
 
 # Cargo tells a changed file by its time only, and the files of another folder may be older than the last build.
