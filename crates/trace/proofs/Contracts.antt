@@ -1,5 +1,5 @@
 -- What Driven.antt of specs/ takes of each call on words is what its contract in src/ ensures, as Rattle reads it there (`Learnt`), and no more: the names that end in
--- ensures say by `refl` what is read, those that end in made that it makes a call of a list. For the calls over a run of records crates/lent/proofs/Links.antt says
+-- ensures say by `refl` what is read, those that end in made or begun that it makes a call of a list, or a start. For the calls over a run of records crates/lent/proofs/Links.antt says
 -- what is ensured.
 -- Assumes nothing.
 use Prim.Native.Nat.{ℕ}
