@@ -22,8 +22,9 @@ use Rattle.types.specs.declared.frame.error.types.NmtAction.{NmtAction}
 use Rattle.types.specs.declared.frame.error.types.NmtAction.TheVariants as action
 use Rattle.nmt.specs.declared.state_machine.IndexRange.{IndexRange}
 use Rattle.entries.specs.Entry.{entry_bytes}
-use Rattle.entries.specs.declared.status_response.FoundEntry.{FoundEntry}
-use Rattle.entries.specs.declared.status_response.FoundEntry.TheVariants as found
+use Rattle.std.specs.declared.option.Option.{Option}
+use Rattle.std.specs.declared.option.Option.TheVariants.{Some, None}
+use Rattle.entries.specs.declared.status_response.ErrorEntry.{ErrorEntry}
 use Rattle.head.specs.Words.{one}
 use Rattle.node.specs.Plain.{Answer, refused, taken, nmt_answer, dll_answer, error_answer, cycle_answer, hand_out_answer, tick_answer, range_answer, margin_answer}
 use Rattle.node.specs.declared.range.SocVerdict.{SocVerdict}
@@ -82,9 +83,9 @@ node_asked action.None = nothing
 node_asked action.ResetCommunication = nothing
 node_asked (action.ResetNode n) = n.0
 
-abbrev pub is_found : FoundEntry → ℕ
-is_found (found.Entry e) = 1
-is_found found.None = 0
+abbrev pub is_found : Option ErrorEntry → ℕ
+is_found (Some e) = 1
+is_found None = 0
 
 abbrev pub verdict_numbers : SocVerdict → List ℕ
 verdict_numbers verdict.Lost = 1 ∷ []
@@ -123,6 +124,6 @@ numbers_of (range_answer v) = laid 0 nothing nothing nothing (verdict_numbers v)
 numbers_of (margin_answer z) = laid 0 nothing nothing nothing (margin_numbers z) [] []
 
 -- the bytes of an entry; where there is none, 0
-abbrev pub bytes_of : FoundEntry → List ℕ
-bytes_of (found.Entry e) = entry_bytes e
-bytes_of found.None = replicate 20 0
+abbrev pub bytes_of : Option ErrorEntry → List ℕ
+bytes_of (Some e) = entry_bytes e
+bytes_of None = replicate 20 0

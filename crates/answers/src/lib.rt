@@ -12,14 +12,15 @@ ghost use Rattle.node.specs.InPlace.{said, nmt_said, dll_said, error_said, range
 ghost use Rattle.answers.specs.Numbers.{carries, action_number, node_asked, is_found, of_node, numbers_of, bytes_of};
 ghost use Rattle.answers.specs.Put.{error_put, errors_put, states_of, states_put, range_put, ranges_put, reset_put, verdict_put, margin_put};
 
-use entries::status_response::FoundEntry;
 use nmt::state_machine::{EnteredStates, IndexRange, ResetSequence, RestoredRanges};
-use node::calls::{CallAnswer, DllEventAnswer, ErrorAnswer, NmtEventAnswer};
-use node::range::{MarginAnswer, RangeAnswer, SocVerdict};
+use node::range::SocVerdict;
 use types::frame::error::types::{DllError, DllErrors, NmtAction};
 use types::nmt::states::NmtState;
 use types::refusals::Refusal;
 use types::types::NodeId;
+use node::calls::NmtTaken;
+use node::calls::ErrorTaken;
+use entries::status_response::ErrorEntry;
 
 pub type Numbers = [u64; 21];
 
@@ -206,27 +207,27 @@ fn one(x: bool) -> u64
 }
 
 // A call that answers nothing else.
-pub fn call(answer: CallAnswer, numbers: &mut Numbers)
+pub fn call(answer: Result<(), Refusal>, numbers: &mut Numbers)
     ensures { numbers.new ≡ numbers_of (said answer) }
 {
     match answer {
-        CallAnswer::Taken => return put_taken(numbers),
-        CallAnswer::Refused(refusal) => return declined(refusal, numbers),
+        Ok(()) => return put_taken(numbers),
+        Err(refusal) => return declined(refusal, numbers),
     }
 }
 
-pub fn nmt_event(answer: NmtEventAnswer, numbers: &mut Numbers)
+pub fn nmt_event(answer: Result<NmtTaken, Refusal>, numbers: &mut Numbers)
     ensures { numbers.new ≡ numbers_of (nmt_said answer) }
 {
     match answer {
-        NmtEventAnswer::Taken(taken) => {
+        Ok(taken) => {
             let errors = taken.errors;
             let reset = taken.reset;
             put_taken(numbers);
             put_errors(numbers, errors);
             return put_reset(numbers, reset);
         }
-        NmtEventAnswer::Refused(refusal) => return declined(refusal, numbers),
+        Err(refusal) => return declined(refusal, numbers),
     }
 }
 
@@ -239,20 +240,20 @@ pub fn logged(errors: DllErrors, numbers: &mut Numbers)
 }
 
 // The errors that a DLL event reports stand where those stand that a tick logs.
-pub fn dll_event(answer: DllEventAnswer, numbers: &mut Numbers)
+pub fn dll_event(answer: Result<DllErrors, Refusal>, numbers: &mut Numbers)
     ensures { numbers.new ≡ numbers_of (dll_said answer) }
 {
     match answer {
-        DllEventAnswer::Taken(errors) => return logged(errors, numbers),
-        DllEventAnswer::Refused(refusal) => return declined(refusal, numbers),
+        Ok(errors) => return logged(errors, numbers),
+        Err(refusal) => return declined(refusal, numbers),
     }
 }
 
-pub fn error(answer: ErrorAnswer, numbers: &mut Numbers)
+pub fn error(answer: Result<ErrorTaken, Refusal>, numbers: &mut Numbers)
     ensures { numbers.new ≡ numbers_of (error_said answer) }
 {
     match answer {
-        ErrorAnswer::Taken(taken) => {
+        Ok(taken) => {
             let action = taken.action;
             let logged = taken.logged;
             put_taken(numbers);
@@ -261,7 +262,7 @@ pub fn error(answer: ErrorAnswer, numbers: &mut Numbers)
             numbers[YES] = one(taken.signal);
             return put_errors(numbers, logged);
         }
-        ErrorAnswer::Refused(refusal) => return declined(refusal, numbers),
+        Err(refusal) => return declined(refusal, numbers),
     }
 }
 
@@ -274,15 +275,15 @@ pub fn cycle(cleared: bool, numbers: &mut Numbers)
 }
 
 // Whether there is an entry, whose bytes are written.
-pub fn found(entry: FoundEntry, bytes: &mut [u8; 20]) -> bool
+pub fn found(entry: Option<ErrorEntry>, bytes: &mut [u8; 20]) -> bool
     ensures { (one result ≡ is_found entry) × (bytes.new ≡ bytes_of entry) }
 {
     match entry {
-        FoundEntry::Entry(entry) => {
+        Some(entry) => {
             *bytes = entry.serialize();
             return true;
         }
-        FoundEntry::None => {
+        None => {
             *bytes = [0; 20];
             return false;
         }
@@ -290,7 +291,7 @@ pub fn found(entry: FoundEntry, bytes: &mut [u8; 20]) -> bool
 }
 
 // An entry that was handed out goes to the bytes.
-pub fn handed_out(entry: FoundEntry, numbers: &mut Numbers, bytes: &mut [u8; 20])
+pub fn handed_out(entry: Option<ErrorEntry>, numbers: &mut Numbers, bytes: &mut [u8; 20])
     ensures { (numbers.new ≡ numbers_of (hand_out_answer entry)) × (bytes.new ≡ bytes_of entry) }
 {
     put_taken(numbers);
@@ -318,15 +319,15 @@ fn put_verdict(numbers: &mut Numbers, verdict: SocVerdict)
 }
 
 // A clock that is known within a range.
-pub fn range(answer: RangeAnswer, numbers: &mut Numbers)
+pub fn range(answer: Result<SocVerdict, Refusal>, numbers: &mut Numbers)
     ensures { numbers.new ≡ numbers_of (range_said answer) }
 {
     match answer {
-        RangeAnswer::Taken(verdict) => {
+        Ok(verdict) => {
             put_taken(numbers);
             return put_verdict(numbers, verdict);
         }
-        RangeAnswer::Refused(refusal) => return declined(refusal, numbers),
+        Err(refusal) => return declined(refusal, numbers),
     }
 }
 
@@ -342,14 +343,14 @@ fn put_margin(numbers: &mut Numbers, margin: i64)
 }
 
 // The margin of one reading.
-pub fn margin(answer: MarginAnswer, numbers: &mut Numbers)
+pub fn margin(answer: Result<i64, Refusal>, numbers: &mut Numbers)
     ensures { numbers.new ≡ numbers_of (margin_said answer) }
 {
     match answer {
-        MarginAnswer::Taken(margin) => {
+        Ok(margin) => {
             put_taken(numbers);
             return put_margin(numbers, margin);
         }
-        MarginAnswer::Refused(refusal) => return declined(refusal, numbers),
+        Err(refusal) => return declined(refusal, numbers),
     }
 }

@@ -17,17 +17,17 @@ use Rattle.watched.specs.declared.nodes.WatchedNode.{WatchedNode}
 use Rattle.watched.specs.Watched.{is_watched, well_formed, no_node, watched_of}
 use Rattle.watched.specs.Nodes.{nodes_of}
 use Rattle.bitmap.specs.Bitmap.{is_set, bytes_of, ones_of, bitmap_said, bitmap_reply, bytes_after}
-use Rattle.bitmap.specs.declared.BitmapAnswer.{BitmapAnswer}
-use Rattle.bitmap.specs.declared.BitmapAnswer.TheVariants.{Taken, Refused}
+use Rattle.std.specs.declared.result.Result.{Result}
+use Rattle.std.specs.declared.result.Result.TheVariants.{Ok, Err}
 use Rattle.bitmap.proofs.Bitmaps.{bytes_long, bit_told, counted}
 use Rattle.bitmap.proofs.bitmap.Reads as bitmap
 
 -- what an answer says fixes it
-pub answer_fixed : (a b : BitmapAnswer) → bitmap_said a ≡ bitmap_said b → a ≡ b
-answer_fixed (Taken m) (Taken n) e = cc
-answer_fixed (Taken m) (Refused s) e = cc
-answer_fixed (Refused r) (Taken n) e = cc
-answer_fixed (Refused r) (Refused s) e = ap Refused (number_fixes (cc))
+pub answer_fixed : (a b : Result ℕ Refusal) → bitmap_said a ≡ bitmap_said b → a ≡ b
+answer_fixed (Ok m) (Ok n) e = cc
+answer_fixed (Ok m) (Err s) e = cc
+answer_fixed (Err r) (Ok n) e = cc
+answer_fixed (Err r) (Err s) e = ap Err (number_fixes (cc))
 
 module _ (ws : List WatchedNode) where
   taken_means : (n : ℕ) → Reply.gives n ≡ bitmap_reply ws → (well_formed ws ≡ true) × (n ≡ ones_of (bytes_of ws))
@@ -50,7 +50,7 @@ module _ (ws : List WatchedNode) where
 abbrev lent : List ℕ → ℕ → List WatchedNode
 lent ns k = watched_of (nodes_of ns) k
 
-left_written : (κs : _) (a : _) (n : ℕ) (x : _) → bitmap.Learnt κs a (Taken n) x → x.1.1.0.now ≡ bytes_of (lent a.0.now a.1.0)
+left_written : (κs : _) (a : _) (n : ℕ) (x : _) → bitmap.Learnt κs a (Ok n) x → x.1.1.0.now ≡ bytes_of (lent a.0.now a.1.0)
 unfolding bytes_after
 left_written κs a n x l =
     l.1
@@ -59,7 +59,7 @@ left_written κs a n x l =
 -- Of the numbers 0 to 255 the bits of exactly those nodes are set that are watched, whatever the bytes held before.
 pub every_bit :
     (κs : _) (a : _) (n : ℕ) (x : _) →
-    bitmap.Learnt κs a (Taken n) x →
+    bitmap.Learnt κs a (Ok n) x →
     (length x.1.1.0.now ≡ 32)
     × ((m : ℕ) → m ≤ 255 → is_set (get_or x.1.1.0.now (m / 8) 0) (m % 8) ≡ is_watched m (watched_of (nodes_of a.0.now) a.1.0))
 every_bit κs a n x l =
@@ -69,7 +69,7 @@ every_bit κs a n x l =
     )
 
 -- The number counted from the bits is the number of nodes watched.
-pub number_counted : (κs : _) (a : _) (n : ℕ) (x : _) → bitmap.Learnt κs a (Taken n) x → (n ≡ ones_of x.1.1.0.now) × (n ≡ a.1.0)
+pub number_counted : (κs : _) (a : _) (n : ℕ) (x : _) → bitmap.Learnt κs a (Ok n) x → (n ≡ ones_of x.1.1.0.now) × (n ≡ a.1.0)
 number_counted κs a n x l =
     let t = taken_means (lent a.0.now a.1.0) n l.0 in (
       t.1 ∙ ap ones_of (sym (left_written κs a n x l)),
@@ -79,7 +79,7 @@ number_counted κs a n x l =
 -- A call that is refused changes no byte, and is refused by number 3.
 pub refused_keeps :
     (κs : _) (a : _) (r : Refusal) (x : _) →
-    bitmap.Learnt κs a (Refused r) x →
+    bitmap.Learnt κs a (Err r) x →
     (refusal_number r ≡ 3) × (x.1.1.0.now ≡ a.1.1.0.now)
 unfolding bytes_after
 refused_keeps κs a r x l = (

@@ -8,8 +8,9 @@ use Rattle.entries.specs.Ring.{listed}
 use Rattle.entries.specs.Desk.{Reply, unless_turned_away}
 use Rattle.watched.specs.declared.nodes.WatchedNode.{WatchedNode}
 use Rattle.watched.specs.Watched.{is_watched, well_formed}
-use Rattle.bitmap.specs.declared.BitmapAnswer.{BitmapAnswer}
-use Rattle.bitmap.specs.declared.BitmapAnswer.TheVariants.{Taken, Refused}
+use Rattle.std.specs.declared.result.Result.{Result}
+use Rattle.std.specs.declared.result.Result.TheVariants.{Ok, Err}
+use Rattle.types.specs.declared.refusals.Refusal.{Refusal}
 
 -- the number that bits stand for, "lowest bit first"
 abbrev pub lowest_first : List Bool → ℕ
@@ -33,9 +34,9 @@ abbrev pub ones_of : List ℕ → ℕ
 ones_of [] = 0
 ones_of (b ∷ bs) = ones b + ones_of bs
 
-abbrev pub bitmap_said : BitmapAnswer → Reply ℕ
-bitmap_said (Taken n) = Reply.gives n
-bitmap_said (Refused r) = Reply.turned_away (refusal_number r)
+abbrev pub bitmap_said : Result ℕ Refusal → Reply ℕ
+bitmap_said (Ok n) = Reply.gives n
+bitmap_said (Err r) = Reply.turned_away (refusal_number r)
 
 -- number 3 as before, of the nodes that are lent
 unfoldable pub bitmap_reply : List WatchedNode → Reply ℕ

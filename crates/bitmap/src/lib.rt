@@ -11,13 +11,6 @@ ghost use Rattle.bitmap.specs.Bitmap.{bytes_of, ones_of, bitmap_said, bitmap_rep
 use types::refusals::Refusal;
 use watched::nodes::{NodeWords, well_formed};
 
-#[derive(Clone, Copy)]
-pub enum BitmapAnswer {
-    // How many nodes the bits say.
-    Taken(u32),
-    Refused(Refusal),
-}
-
 // A byte with the bit of a node set.
 fn with_node(byte: u8, node: u64) -> u8
     ensures { result ≡ bit_or byte (2 ^ (node % 8)) }
@@ -62,12 +55,12 @@ fn count_bits(bytes: &[u8; 32]) -> u32
 }
 
 // Writes the watched nodes as bits, and counts them there. Nodes that number 3 declines change no byte.
-pub fn bitmap(nodes: &NodeWords, count: usize, bytes: &mut [u8; 32]) -> BitmapAnswer
+pub fn bitmap(nodes: &NodeWords, count: usize, bytes: &mut [u8; 32]) -> Result<u32, Refusal>
     ensures { (bitmap_said result ≡ bitmap_reply (watched_of (nodes_of nodes.now) count)) × (bytes.new ≡ bytes_after (watched_of (nodes_of nodes.now) count) bytes.old) }
 {
     if !well_formed(nodes, count) {
-        return BitmapAnswer::Refused(Refusal::WatchedNodes);
+        return Err(Refusal::WatchedNodes);
     }
     set_bits(nodes, count, bytes);
-    BitmapAnswer::Taken(count_bits(bytes))
+    Ok(count_bits(bytes))
 }

@@ -19,13 +19,14 @@ use Rattle.entries.specs.Ring.{nth}
 use Rattle.entries.specs.Queue.{waiting}
 use Rattle.entries.specs.Desk.{Reply, write_reply, desk_after}
 use Rattle.entries.specs.declared.status_response.ErrorEntry.{ErrorEntry}
-use Rattle.entries.specs.declared.status_response.FoundEntry.{FoundEntry}
-use Rattle.entries.specs.declared.status_response.FoundEntry.TheVariants as found
+use Rattle.std.specs.declared.result.Result.{Result}
+use Rattle.std.specs.declared.option.Option.{Option}
+use Rattle.std.specs.declared.option.Option.TheVariants.{None}
+use Rattle.types.specs.declared.refusals.Refusal.{Refusal}
 use Rattle.head.specs.declared.state.Dictionary.{Dictionary}
 use Rattle.head.specs.Words.{queue_of, head_of}
 use Rattle.watched.specs.Watched.{Run}
 use Rattle.node.specs.declared.load.DictionaryUpdate.{DictionaryUpdate}
-use Rattle.node.specs.declared.calls.CallAnswer.{CallAnswer}
 use Rattle.node.specs.Plain.{Call, nmt_event, dll_event, error, cycle_complete, withdraw, hand_out, load, arm, range, margin, add, remove, Answer, refused, taken, nmt_answer, dll_answer, error_answer, cycle_answer, hand_out_answer, tick_answer, range_answer, margin_answer}
 use Rattle.node.specs.Run.{step}
 use Rattle.node.specs.Refines.{plain, Refines, left, history_update}
@@ -107,19 +108,19 @@ module _ {adds : Bool} (g : List ℕ) (r : Run) {n : ℕ} (node : n ≡ byte_of 
   call_remove h = rw (h, node)
 
 -- the entry that an answer hands out
-abbrev handed : Answer → FoundEntry
-handed (refused n) = found.None
-handed taken = found.None
-handed (nmt_answer es p) = found.None
-handed (dll_answer es) = found.None
-handed (error_answer a s es) = found.None
-handed (cycle_answer b) = found.None
+abbrev handed : Answer → Option ErrorEntry
+handed (refused n) = None
+handed taken = None
+handed (nmt_answer es p) = None
+handed (dll_answer es) = None
+handed (error_answer a s es) = None
+handed (cycle_answer b) = None
 handed (hand_out_answer f) = f
-handed (tick_answer es) = found.None
-handed (range_answer v) = found.None
-handed (margin_answer z) = found.None
+handed (tick_answer es) = None
+handed (range_answer v) = None
+handed (margin_answer z) = None
 
-pub handed_first : (ws q : List ℕ) {r : FoundEntry} → hand_out_answer r ≡ (step (plain (head_of ws) q []) hand_out).answer → r ≡ nth (waiting q (queue_of ws)) 0
+pub handed_first : (ws q : List ℕ) {r : Option ErrorEntry} → hand_out_answer r ≡ (step (plain (head_of ws) q []) hand_out).answer → r ≡ nth (waiting q (queue_of ws)) 0
 unfolding head_of
 handed_first ws q h = ap handed h
 
@@ -147,7 +148,7 @@ module _ (s : List ℕ) {s' ns : List ℕ} {at₁ at₂ : ℕ} {e₁ e₂ : Erro
   wrote w p e h =
       (w.1 ∙ (λ i. desk_after s (p i) (e i)), h ∙ ap write_numbers (w.0 ∙ (λ i. write_reply s (p i) (e i))))
 
-module _ {ws vs ns ws' vs' : List ℕ} {k : ℕ} {named : Bool} {g : List ℕ} {a : CallAnswer} where
+module _ {ws vs ns ws' vs' : List ℕ} {k : ℕ} {named : Bool} {g : List ℕ} {a : Result (Unit {0}) Refusal} where
   pub starts :
       {n t c : ℕ} {f : FeatureFlags} {o : Dictionary} {ts : Thresholds} →
       n ≡ byte_of (at g 0) →

@@ -7,14 +7,14 @@ use Rattle.types.specs.Flags.{flags}
 use Rattle.types.specs.States.{state_number, read_state}
 use Rattle.types.specs.Events.{command_number, read_command}
 use Rattle.types.specs.Kinds.{CodeAnswer, kind_number, refused_by, kind_behind}
-use Rattle.types.specs.declared.nmt.states.NmtStateRead.{NmtStateRead}
-use Rattle.types.specs.declared.nmt.states.NmtStateRead.TheVariants as state-read
-use Rattle.types.specs.declared.nmt.events.NmtStateCommandRead.{NmtStateCommandRead}
-use Rattle.types.specs.declared.nmt.events.NmtStateCommandRead.TheVariants as command-read
+use Rattle.std.specs.declared.result.Result.{Result}
+use Rattle.std.specs.declared.result.Result.TheVariants.{Ok, Err}
+use Rattle.types.specs.declared.nmt.states.NmtState.{NmtState}
+use Rattle.types.specs.declared.refusals.Refusal.{Refusal}
+use Rattle.types.specs.declared.nmt.events.NmtStateCommand.{NmtStateCommand}
 use Rattle.entries.specs.Desk.{Reply}
 use Rattle.head.specs.Words.{head_of}
 use Rattle.watched.specs.Watched.{Run}
-use Rattle.node.specs.declared.calls.CallAnswer.{CallAnswer}
 use Rattle.node.specs.Plain.{Call, nmt_event, dll_event, error, cycle_complete, withdraw, load, arm, range, margin, add, remove, refused, taken}
 use Rattle.node.specs.Run.{step}
 use Rattle.node.specs.Refines.{plain, history_update}
@@ -49,7 +49,7 @@ pub record Makes (ws q m : List ℕ) (c : Call) (ns ws' q' m' : List ℕ) (l : R
 
 -- Of a start with the numbers g: what start ensures, of the answer whose numbers were written.
 pub record Starts (ws vs : List ℕ) (k : ℕ) (named : Bool) (g ns ws' vs' : List ℕ) : Type 0 where
-  pub answer : CallAnswer
+  pub answer : Result (Unit {0}) Refusal
   pub started :
       StartedIn ws vs k (byte_of (at g 0)) (flags (word_of (at g 1))) (word_of (at g 2)) (at g 3) (dictionary_of g) (thresholds_of named g) answer ws' vs'
   pub numbers : ns ≡ numbers_of (said answer)
@@ -58,13 +58,13 @@ pub record Starts (ws vs : List ℕ) (k : ℕ) (named : Bool) (g ns ws' vs' : Li
 abbrev pub read_numbers : ℕ → List ℕ
 read_numbers n = set (numbers_of taken) 4 n
 
-abbrev pub state_numbers : NmtStateRead → List ℕ
-state_numbers (state-read.Taken s) = read_numbers (state_number s)
-state_numbers (state-read.Refused r) = numbers_of (refused (refusal_number r))
+abbrev pub state_numbers : Result NmtState Refusal → List ℕ
+state_numbers (Ok s) = read_numbers (state_number s)
+state_numbers (Err r) = numbers_of (refused (refusal_number r))
 
-abbrev pub command_numbers : NmtStateCommandRead → List ℕ
-command_numbers (command-read.Taken c) = read_numbers (command_number c)
-command_numbers (command-read.Refused r) = numbers_of (refused (refusal_number r))
+abbrev pub command_numbers : Result NmtStateCommand Refusal → List ℕ
+command_numbers (Ok c) = read_numbers (command_number c)
+command_numbers (Err r) = numbers_of (refused (refusal_number r))
 
 abbrev pub kind_numbers : CodeAnswer → List ℕ
 kind_numbers (kind_number n) = read_numbers n

@@ -8,14 +8,8 @@ use Rattle.entries.specs.declared.status_response.ErrorEntry.{ErrorEntry}
 use Rattle.counters.specs.Counters.{same_for_all}
 use Rattle.counters.specs.declared.counters.Thresholds.{Thresholds}
 use Rattle.head.specs.declared.state.Dictionary.{Dictionary}
-use Rattle.head.specs.declared.state.ObjectValue.{ObjectValue}
-use Rattle.head.specs.declared.state.ObjectValue.TheVariants.{Unsigned32, Missing}
-use Rattle.node.specs.declared.load.ByteUpdate.{ByteUpdate}
-use Rattle.node.specs.declared.load.ByteUpdate.TheVariants as byte
-use Rattle.node.specs.declared.load.CounterUpdate.{CounterUpdate}
-use Rattle.node.specs.declared.load.CounterUpdate.TheVariants as counter
-use Rattle.node.specs.declared.load.ObjectUpdate.{ObjectUpdate}
-use Rattle.node.specs.declared.load.ObjectUpdate.TheVariants as object
+use Rattle.std.specs.declared.option.Option.{Option}
+use Rattle.std.specs.declared.option.Option.TheVariants.{Some, None}
 use Rattle.node.specs.declared.load.DictionaryUpdate.{DictionaryUpdate}
 use Rattle.answers.specs.Numbers.{nothing}
 use Rattle.patterns.specs.Patterns.{kept}
@@ -34,8 +28,8 @@ abbrev pub word_of : ℕ → ℕ
 word_of n = n % 4294967296
 
 -- `-` is a missing value
-abbrev pub object_of : ℕ → ObjectValue
-object_of n = pick (eqb n nothing) Missing (Unsigned32 (word_of n))
+abbrev pub object_of : ℕ → Option ℕ
+object_of n = pick (eqb n nothing) None (Some (word_of n))
 
 -- the values of a start, from the fifth number on
 abbrev pub dictionary_of : List ℕ → Dictionary
@@ -67,14 +61,14 @@ named_thresholds ns =
 abbrev pub thresholds_of : Bool → List ℕ → Thresholds
 thresholds_of named ns = pick named (named_thresholds ns) (same_for_all 15)
 
-abbrev pub byte_update : ℕ → ByteUpdate
-byte_update n = pick (eqb n kept) byte.Keep (byte.Set (byte_of n))
+abbrev pub byte_update : ℕ → Option ℕ
+byte_update n = pick (eqb n kept) None (Some (byte_of n))
 
-abbrev pub counter_update : ℕ → CounterUpdate
-counter_update n = pick (eqb n kept) counter.Keep (counter.Set (word_of n))
+abbrev pub counter_update : ℕ → Option ℕ
+counter_update n = pick (eqb n kept) None (Some (word_of n))
 
-abbrev pub object_update : ℕ → ObjectUpdate
-object_update n = pick (eqb n kept) object.Keep (object.Set (object_of n))
+abbrev pub object_update : ℕ → Option (Option ℕ)
+object_update n = pick (eqb n kept) None (Some (object_of n))
 
 -- the values of a load, from the first number on
 abbrev pub updates_of : List ℕ → DictionaryUpdate

@@ -20,15 +20,13 @@ ghost use Rattle.calls.specs.Calls.{head_call, load_call, change_call, Makes, St
 mod values;
 
 use answers::Numbers;
-use entries::desk::{ErrorEntryWrite, write_at};
+use entries::desk::write_at;
 use head::state::Head;
-use node::calls::CallAnswer;
 use patterns::{Given, KEPT};
-use tick::tick::TickAnswer;
-use types::frame::error::kinds::{DllErrorKind, DllErrorKindRead};
-use types::nmt::events::{NmtStateCommand, NmtStateCommandRead};
+use types::frame::error::kinds::DllErrorKind;
+use types::nmt::events::NmtStateCommand;
 use types::nmt::flags::FeatureFlags;
-use types::nmt::states::{NmtState, NmtStateRead};
+use types::nmt::states::NmtState;
 use values::{byte, dictionary, entry_of, number, thresholds, updates, word};
 use watched::nodes::NodeWords;
 
@@ -162,8 +160,8 @@ pub fn tick(
     ensures { Makes head.old queue.old history.old (Call.tick time (run (nodes_of nodes.old) count)) answer.new head.new queue.new history.new (run (nodes_of nodes.new) count) }
 {
     match tick::tick::process_tick(head, queue, history, nodes, count, time) {
-        TickAnswer::Taken(errors) => return answers::logged(errors, answer),
-        TickAnswer::Refused(refusal) => return answers::declined(refusal, answer),
+        Ok(errors) => return answers::logged(errors, answer),
+        Err(refusal) => return answers::declined(refusal, answer),
     }
 }
 
@@ -190,7 +188,7 @@ pub fn load(
     let size = number(given, 7);
     let to = cut(size, bytes.len());
     node::load::load(head, history, updates(given), size != KEPT, &bytes[0..to]);
-    answers::call(CallAnswer::Taken, answer)
+    answers::call(Ok(()), answer)
 }
 
 // A node is added, or removed; `count` is how many are watched.
@@ -225,7 +223,7 @@ pub fn hand_out(head: &mut Head, queue: &[u8; 640], answer: &mut Numbers, bytes:
 fn put_read(n: u8, answer: &mut Numbers)
     ensures { answer.new ≡ read_numbers n }
 {
-    answers::call(CallAnswer::Taken, answer);
+    answers::call(Ok(()), answer);
     answer[4] = n as u64;
 }
 
@@ -233,8 +231,8 @@ fn read_state(n: u64, answer: &mut Numbers)
     ensures { answer.new ≡ state_numbers (read_state n) }
 {
     match NmtState::try_from(n) {
-        NmtStateRead::Taken(state) => return put_read(state.as_u8(), answer),
-        NmtStateRead::Refused(refusal) => return answers::declined(refusal, answer),
+        Ok(state) => return put_read(state.as_u8(), answer),
+        Err(refusal) => return answers::declined(refusal, answer),
     }
 }
 
@@ -242,8 +240,8 @@ fn read_command(n: u64, answer: &mut Numbers)
     ensures { answer.new ≡ command_numbers (read_command n) }
 {
     match NmtStateCommand::try_from(n) {
-        NmtStateCommandRead::Taken(command) => return put_read(command.as_u8(), answer),
-        NmtStateCommandRead::Refused(refusal) => return answers::declined(refusal, answer),
+        Ok(command) => return put_read(command.as_u8(), answer),
+        Err(refusal) => return answers::declined(refusal, answer),
     }
 }
 
@@ -252,8 +250,8 @@ fn read_kind(code: u64, answer: &mut Numbers)
     ensures { answer.new ≡ kind_numbers (kind_behind code) }
 {
     match DllErrorKind::from_error_code(code) {
-        DllErrorKindRead::Taken(kind) => return put_read(kind.place(), answer),
-        DllErrorKindRead::Refused(refusal) => return answers::declined(refusal, answer),
+        Ok(kind) => return put_read(kind.place(), answer),
+        Err(refusal) => return answers::declined(refusal, answer),
     }
 }
 
@@ -275,7 +273,7 @@ pub fn entry_write(desk: &mut [u8], given: Given, answer: &mut Numbers)
     ensures { (desk.new ≡ desk_after desk.old (at given 0) (entry_of given)) × (answer.new ≡ write_numbers (write_reply desk.old (at given 0) (entry_of given))) }
 {
     match write_at(desk, number(given, 0), entry_of(given)) {
-        ErrorEntryWrite::Taken => return answers::call(CallAnswer::Taken, answer),
-        ErrorEntryWrite::Refused(refusal) => return answers::declined(refusal, answer),
+        Ok(()) => return answers::call(Ok(()), answer),
+        Err(refusal) => return answers::declined(refusal, answer),
     }
 }

@@ -6,8 +6,8 @@ ghost use Rattle.entries.specs.Entry.{mode_of};
 use answers::NOTHING;
 use counters::counters::Thresholds;
 use entries::status_response::{EntryType, ErrorEntry, ErrorEntryMode};
-use head::state::{Dictionary, ObjectValue};
-use node::load::{ByteUpdate, CounterUpdate, DictionaryUpdate, ObjectUpdate};
+use head::state::Dictionary;
+use node::load::DictionaryUpdate;
 use patterns::{Given, KEPT};
 use types::common::NetTime;
 
@@ -39,13 +39,13 @@ pub(crate) fn word(n: u64) -> u32
     (n % 4294967296) as u32
 }
 
-fn object(n: u64) -> ObjectValue
+fn object(n: u64) -> Option<u32>
     ensures { result ≡ object_of n }
 {
     if n == NOTHING {
-        return ObjectValue::Missing;
+        return None;
     }
-    ObjectValue::Unsigned32(word(n))
+    Some(word(n))
 }
 
 // The dictionary values of a start.
@@ -90,31 +90,31 @@ pub(crate) fn thresholds(named: bool, given: Given) -> Thresholds
     Thresholds::same_for_all(15)
 }
 
-fn byte_update(n: u64) -> ByteUpdate
+fn byte_update(n: u64) -> Option<u8>
     ensures { result ≡ byte_update n }
 {
     if n == KEPT {
-        return ByteUpdate::Keep;
+        return None;
     }
-    ByteUpdate::Set(byte(n))
+    Some(byte(n))
 }
 
-fn counter_update(n: u64) -> CounterUpdate
+fn counter_update(n: u64) -> Option<u32>
     ensures { result ≡ counter_update n }
 {
     if n == KEPT {
-        return CounterUpdate::Keep;
+        return None;
     }
-    CounterUpdate::Set(word(n))
+    Some(word(n))
 }
 
-fn object_update(n: u64) -> ObjectUpdate
+fn object_update(n: u64) -> Option<Option<u32>>
     ensures { result ≡ object_update n }
 {
     if n == KEPT {
-        return ObjectUpdate::Keep;
+        return None;
     }
-    ObjectUpdate::Set(object(n))
+    Some(object(n))
 }
 
 // What a load names.

@@ -15,7 +15,7 @@ use nmt::table::{chosen, state_at};
 use node::calls::{nmt_event, withdraw};
 use reach::Line;
 use std::io;
-use types::nmt::events::{NmtEvent, NmtEventRead};
+use types::nmt::events::NmtEvent;
 use types::nmt::flags::FeatureFlags;
 use types::nmt::states::NmtState;
 use types::types::NodeId;
@@ -69,8 +69,8 @@ fn event_at(i: usize) -> NmtEvent
     ensures { result ≡ event_at i }
 {
     match NmtEvent::try_from(i as u64) {
-        NmtEventRead::Taken(event) => event,
-        NmtEventRead::Refused(_) => NmtEvent::StartNode,
+        Ok(event) => event,
+        Err(_) => NmtEvent::StartNode,
     }
 }
 

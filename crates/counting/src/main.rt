@@ -8,7 +8,7 @@ ghost use Rattle.counting.specs.Shown.{levels_of, counts_of, crossings_of};
 use counters::counters::{CnErrorCounters, HandledError, Thresholds};
 use forms::output::Output;
 use std::io;
-use types::frame::error::types::{DllError, DllErrorRead, DllErrors, NmtAction};
+use types::frame::error::types::{DllError, DllErrors, NmtAction};
 use types::types::NodeId;
 
 fn say(out: &mut Output, text: &[u8]) {
@@ -167,8 +167,8 @@ fn print_call(out: &mut Output, counters: CnErrorCounters, number: u64) -> CnErr
     // Kind 18, UnexpectedEventInState, carries a state and an event, others a node or nothing.
     let carried = if number == 18 { 0x6D } else { 17 };
     match DllError::try_from(number, carried, 2) {
-        DllErrorRead::Taken(error) => print_error(out, counters, error),
-        DllErrorRead::Refused(_) => print_cycle(out, counters),
+        Ok(error) => print_error(out, counters, error),
+        Err(_) => print_cycle(out, counters),
     }
 }
 

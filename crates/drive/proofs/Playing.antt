@@ -14,8 +14,8 @@ use Rattle.watched.specs.Watched.{run}
 use Rattle.node.specs.Plain.{Call}
 use Rattle.node.specs.Run.{Said}
 use Rattle.watched.specs.Nodes.{nodes_of}
-use Rattle.node.specs.declared.calls.CallAnswer.{CallAnswer}
-use Rattle.node.specs.declared.calls.CallAnswer.TheVariants as answer
+use Rattle.std.specs.declared.result.Result.{Result}
+use Rattle.std.specs.declared.result.Result.TheVariants.{Ok, Err}
 use Rattle.start.specs.Started.{StartedIn}
 use Rattle.drive.specs.declared.Row.{Row}
 use Rattle.drive.specs.declared.Counts.{Counts}
@@ -141,26 +141,26 @@ module _ (script bytes : List ℕ) (k₀ : ℕ) (x : Lent) (n : ℕ) where
       }
 
 -- by what start answered
-module _ {k n t c : ℕ} {f : FeatureFlags} {o : Dictionary} {ts : Thresholds} {a : CallAnswer} (script bytes : List ℕ) where
+module _ {k n t c : ℕ} {f : FeatureFlags} {o : Dictionary} {ts : Thresholds} {a : Result (Unit {0}) Refusal} (script bytes : List ℕ) where
   pub ran :
       {ws ns q m out ws₁ ns₁ ws' ns' q' m' out' : List ℕ} →
       StartedIn ws ns k n f t c o ts a ws₁ ns₁ →
-      a ≡ answer.Taken →
+      a ≡ (Ok tt) →
       PlayedAll script bytes k (lent ws₁ ns₁ q m out) (lent ws' ns' q' m' out') →
-      Replayed k n f t c o ts script bytes answer.Taken (lent ws ns q m out) (lent ws' ns' q' m' out')
+      Replayed k n f t c o ts script bytes (Ok tt) (lent ws ns q m out) (lent ws' ns' q' m' out')
   ran {ws} {ns} {ws₁ = ws₁} {ns₁ = ns₁} s e p =
       record {
         words = ws₁;
         nodes = ns₁;
-        started = subst (λ (y : CallAnswer). StartedIn ws ns k n f t c o ts y ws₁ ns₁) e s;
+        started = subst (λ (y : Result (Unit {0}) Refusal). StartedIn ws ns k n f t c o ts y ws₁ ns₁) e s;
         rows = p;
       }
 
   pub declined :
       {ws ns ws' ns' q m out : List ℕ} {r : Refusal} →
       StartedIn ws ns k n f t c o ts a ws' ns' →
-      a ≡ answer.Refused r →
-      Replayed k n f t c o ts script bytes (answer.Refused r) (lent ws ns q m out) (lent ws' ns' q m out)
+      a ≡ Err r →
+      Replayed k n f t c o ts script bytes (Err r) (lent ws ns q m out) (lent ws' ns' q m out)
   declined {ws} {ns} {ws'} {ns'} {q} {m} {out} {r} s e =
-      let d : StartedIn ws ns k n f t c o ts (answer.Refused r) ws' ns' = subst (λ (y : CallAnswer). StartedIn ws ns k n f t c o ts y ws' ns') e s in
+      let d : StartedIn ws ns k n f t c o ts (Err r) ws' ns' = subst (λ (y : Result (Unit {0}) Refusal). StartedIn ws ns k n f t c o ts y ws' ns') e s in
       (d, ap₂ (λ (w v : List ℕ). lent w v q m out) d.on.words d.nodes)

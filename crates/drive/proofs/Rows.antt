@@ -5,9 +5,7 @@ use mathlib.Core.Path.{◌≡◌, refl}
 use mathlib.Core.Bool.{true}
 use mathlib.Core.List.{List, [], ◌∷◌}
 use Rattle.node.specs.declared.load.DictionaryUpdate.{DictionaryUpdate}
-use Rattle.node.specs.declared.load.ByteUpdate.TheVariants as byte
-use Rattle.node.specs.declared.load.CounterUpdate.TheVariants as counter
-use Rattle.node.specs.declared.load.ObjectUpdate.TheVariants as object
+use Rattle.std.specs.declared.option.Option.TheVariants.{None}
 use Rattle.watched.specs.Watched.{Run}
 use Rattle.node.specs.Plain.{error, heard, load, add, remove}
 use Rattle.node.specs.Refines.{history_update}
@@ -24,13 +22,13 @@ loads from many s = 7 ∷ 0 ∷ 0 ∷ 0 ∷ 0 ∷ 0 ∷ 0 ∷ 0 ∷ 1 ∷ from �
 abbrev keeps : DictionaryUpdate
 keeps =
     record {
-      error_register = byte.Keep;
-      cycle_time = object.Keep;
-      tolerance = object.Keep;
-      counter_1 = counter.Keep;
-      counter_2 = counter.Keep;
-      counter_3 = counter.Keep;
-      counter_5 = counter.Keep;
+      error_register = None;
+      cycle_time = None;
+      tolerance = None;
+      counter_1 = None;
+      counter_2 = None;
+      counter_3 = None;
+      counter_5 = None;
     }
 
 module _ (l : Run) (bytes : List ℕ) where

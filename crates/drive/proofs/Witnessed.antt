@@ -13,8 +13,8 @@ use Rattle.node.specs.Run.{Said}
 use Rattle.start.specs.Started.{start_of}
 use Rattle.head.specs.Words.{head_of}
 use Rattle.watched.specs.Nodes.{nodes_of}
-use Rattle.node.specs.declared.calls.CallAnswer.{CallAnswer}
-use Rattle.node.specs.declared.calls.CallAnswer.TheVariants as answer
+use Rattle.std.specs.declared.result.Result.{Result}
+use Rattle.std.specs.declared.result.Result.TheVariants.{Ok, Err}
 use Rattle.trace.specs.Claim.{Claim}
 use Rattle.trace.specs.Driven.{Began, Driven, stop}
 use Rattle.drive.specs.Script.{Played, Lent, lent, Ran, Replayed}
@@ -36,11 +36,11 @@ pub ran_claims :
     Claim (start_of n f t c o ts (run (nodes_of x.nodes) k)) r.rows.calls r.rows.says (head_of x'.head) x'.queue x'.history
 ran_claims {k} {n} {t} {c} {f} {o} {ts} {x = x} r =
     demand_3
-    (Began.start n f t c o ts answer.Taken r.started)
+    (Began.start n f t c o ts (Ok tt) r.started)
     (played_driven r.rows.played)
 
 -- κs: the lifetimes; a: the arguments; o: what is returned; x: what is lent, as it is left
-module _ (κs : _) (a : _) (o : CallAnswer) (x : _) (e : drive-reads.Learnt κs a o x) where
+module _ (κs : _) (a : _) (o : Result (Unit {0}) Refusal) (x : _) (e : drive-reads.Learnt κs a o x) where
   -- what start was given
   abbrev pub given : Start
   given =
@@ -54,21 +54,21 @@ module _ (κs : _) (a : _) (o : CallAnswer) (x : _) (e : drive-reads.Learnt κs 
   after = lent x.0.now x.1.0.now x.1.1.1.0.now x.1.1.1.1.0.now x.1.1.1.1.1.1.1.1.1.1.1.1.1.0.now
 
   -- what `drive` says of its arguments where it answers r
-  abbrev Says : CallAnswer → Type 0
+  abbrev Says : Result (Unit {0}) Refusal → Type 0
   Says r =
       Replayed a.1.1.0 a.1.1.1.1.1.0 a.1.1.1.1.1.1.0 a.1.1.1.1.1.1.1.0 a.1.1.1.1.1.1.1.1.0
       a.1.1.1.1.1.1.1.1.1.0 a.1.1.1.1.1.1.1.1.1.1.0 a.1.1.1.1.1.1.1.1.1.1.1.0.now a.1.1.1.1.1.1.1.1.1.1.1.1.0.now r before after
 
   -- THE WITNESS: the rows of the script that ran, and the claim of the calls that they were
   pub record Witnessed : Type 0 where
-    pub ran : Says answer.Taken
+    pub ran : Says (Ok tt)
     pub claim : Claim given ran.rows.calls ran.rows.says (head_of after.head) after.queue after.history
 
-  pub drive_witnesses : o ≡ answer.Taken → Witnessed
+  pub drive_witnesses : o ≡ (Ok tt) → Witnessed
   drive_witnesses t = let r = subst Says t e in record { ran = r; claim = ran_claims r }
 
   -- a start that is declined: nothing was written
-  pub drive_declines : (r : Refusal) → o ≡ answer.Refused r → after ≡ before
+  pub drive_declines : (r : Refusal) → o ≡ Err r → after ≡ before
   drive_declines r t = (subst Says t e).1
 
 pub asks_nothing : (κs : _) (a : _) → drive-reads.Asked κs a

@@ -5,21 +5,17 @@ use Rattle.types.specs.Pick.{pick}
 use Rattle.types.specs.declared.nmt.flags.FeatureFlags.{FeatureFlags}
 use Rattle.counters.specs.declared.counters.Thresholds.{Thresholds}
 use Rattle.head.specs.declared.state.Dictionary.{Dictionary}
-use Rattle.head.specs.declared.state.ObjectValue.TheVariants.{Unsigned32, Missing}
-use Rattle.node.specs.declared.load.ByteUpdate.{ByteUpdate}
-use Rattle.node.specs.declared.load.ByteUpdate.TheVariants as byte
-use Rattle.node.specs.declared.load.CounterUpdate.{CounterUpdate}
-use Rattle.node.specs.declared.load.CounterUpdate.TheVariants as counter
-use Rattle.node.specs.declared.load.ObjectUpdate.{ObjectUpdate}
-use Rattle.node.specs.declared.load.ObjectUpdate.TheVariants as object
+use Rattle.std.specs.declared.result.Result.{Result}
+use Rattle.std.specs.declared.option.Option.{Option}
+use Rattle.std.specs.declared.result.Result.TheVariants.{Ok, Err}
+use Rattle.std.specs.declared.option.Option.TheVariants.{Some, None}
+use Rattle.types.specs.declared.refusals.Refusal.{Refusal}
 use Rattle.node.specs.declared.load.DictionaryUpdate.{DictionaryUpdate}
 use Rattle.watched.specs.Watched.{Run, run}
 use Rattle.node.specs.Plain.{Call, nmt_event, dll_event, error, cycle_complete, withdraw, heard, hand_out, load, arm, tick, range, margin, add, remove, Answer, refused, taken, nmt_answer, dll_answer, error_answer, cycle_answer, hand_out_answer, tick_answer, range_answer, margin_answer}
 use Rattle.node.specs.Run.{Said}
 use Rattle.node.specs.Refines.{history_update}
 use Rattle.watched.specs.Nodes.{nodes_of}
-use Rattle.node.specs.declared.calls.CallAnswer.{CallAnswer}
-use Rattle.node.specs.declared.calls.CallAnswer.TheVariants as answer
 use Rattle.start.specs.Started.{StartedIn}
 use Rattle.drive.specs.declared.Row.{Row}
 use Rattle.drive.specs.declared.Counts.{Counts}
@@ -33,15 +29,15 @@ abbrev pub word_of : ℕ → ℕ
 word_of n = pick (leb n 4294967295) n 0
 
 -- a value that a load names, one above its number; 0 where it leaves it; for cycle and tolerance, 1 is missing and a value is two above
-abbrev pub byte_update : ℕ → ByteUpdate
-byte_update n = pick (eqb n 0) byte.Keep (byte.Set (byte_of (n - 1)))
+abbrev pub byte_update : ℕ → Option ℕ
+byte_update n = pick (eqb n 0) None (Some (byte_of (n - 1)))
 
-abbrev pub counter_update : ℕ → CounterUpdate
-counter_update n = pick (eqb n 0) counter.Keep (counter.Set (word_of (n - 1)))
+abbrev pub counter_update : ℕ → Option ℕ
+counter_update n = pick (eqb n 0) None (Some (word_of (n - 1)))
 
-abbrev pub object_update : ℕ → ObjectUpdate
+abbrev pub object_update : ℕ → Option (Option ℕ)
 object_update n =
-    pick (eqb n 0) object.Keep (pick (eqb n 1) (object.Set Missing) (object.Set (Unsigned32 (word_of (n - 2)))))
+    pick (eqb n 0) None (pick (eqb n 1) (Some None) (Some (Some (word_of (n - 2)))))
 
 unfoldable pub values_of : Row → DictionaryUpdate
 values_of r =
@@ -176,11 +172,11 @@ pub record PlayedAll (script bytes : List ℕ) (k : ℕ) (x x' : Lent) : Type 0 
 pub record Ran (k n : ℕ) (f : FeatureFlags) (t c : ℕ) (o : Dictionary) (ts : Thresholds) (script bytes : List ℕ) (x x' : Lent) : Type 0 where
   pub words : List ℕ
   pub nodes : List ℕ
-  pub started : StartedIn x.head x.nodes k n f t c o ts answer.Taken words nodes
+  pub started : StartedIn x.head x.nodes k n f t c o ts (Ok tt) words nodes
   pub rows : PlayedAll script bytes k (lent words nodes x.queue x.history x.out) x'
 
 -- What `drive` leaves: of a start that is taken, that; of one that is declined, its number, and all as it was lent.
-abbrev pub Replayed : ℕ → ℕ → FeatureFlags → ℕ → ℕ → Dictionary → Thresholds → List ℕ → List ℕ → CallAnswer → Lent → Lent → Type 0
-Replayed k n f t c o ts script bytes answer.Taken x x' = Ran k n f t c o ts script bytes x x'
-Replayed k n f t c o ts script bytes (answer.Refused r) x x' =
-    StartedIn x.head x.nodes k n f t c o ts (answer.Refused r) x'.head x'.nodes × (x' ≡ x)
+abbrev pub Replayed : ℕ → ℕ → FeatureFlags → ℕ → ℕ → Dictionary → Thresholds → List ℕ → List ℕ → Result (Unit {0}) Refusal → Lent → Lent → Type 0
+Replayed k n f t c o ts script bytes (Ok _) x x' = Ran k n f t c o ts script bytes x x'
+Replayed k n f t c o ts script bytes (Err r) x x' =
+    StartedIn x.head x.nodes k n f t c o ts (Err r) x'.head x'.nodes × (x' ≡ x)

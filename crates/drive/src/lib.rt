@@ -11,19 +11,17 @@ ghost use Rattle.node.specs.InPlace.{said};
 ghost use Rattle.drive.specs.Script.{byte_of, word_of, byte_update, counter_update, object_update, values_of, call_of, lent_by, row_at, number_of, Turned, Plays, lent, PlayedAll, Replayed};
 
 use counters::counters::Thresholds;
-use head::state::{Dictionary, Head, ObjectValue};
-use node::calls::{
-    CallAnswer, DllEventAnswer, ErrorAnswer, NmtEventAnswer, arm, dll_event, hand_out,
-    handle_error, nmt_event, on_cycle_complete, withdraw,
-};
+use head::state::{Dictionary, Head};
+use node::calls::{arm, dll_event, hand_out, handle_error, nmt_event, on_cycle_complete, withdraw};
 use node::heard::heard;
-use node::load::{ByteUpdate, CounterUpdate, DictionaryUpdate, ObjectUpdate, load};
-use node::range::{MarginAnswer, RangeAnswer, soc_margin, soc_range};
+use node::load::{DictionaryUpdate, load};
+use node::range::{soc_margin, soc_range};
 use partners::{add, remove};
 use start::start::start;
-use tick::tick::{TickAnswer, process_tick};
+use tick::tick::process_tick;
 use types::nmt::flags::FeatureFlags;
 use watched::nodes::NodeWords;
+use types::refusals::Refusal;
 
 // A row of a script: which call, and its arguments; of tag 10, a watched node that is lent next.
 #[derive(Clone, Copy)]
@@ -67,34 +65,34 @@ fn word_of(n: u64) -> u32
     0
 }
 
-fn byte_update(n: u64) -> ByteUpdate
+fn byte_update(n: u64) -> Option<u8>
     ensures { result ≡ byte_update n }
 {
     if n == 0 {
-        return ByteUpdate::Keep;
+        return None;
     }
-    ByteUpdate::Set(byte_of(n - 1))
+    Some(byte_of(n - 1))
 }
 
-fn counter_update(n: u64) -> CounterUpdate
+fn counter_update(n: u64) -> Option<u32>
     ensures { result ≡ counter_update n }
 {
     if n == 0 {
-        return CounterUpdate::Keep;
+        return None;
     }
-    CounterUpdate::Set(word_of(n - 1))
+    Some(word_of(n - 1))
 }
 
-fn object_update(n: u64) -> ObjectUpdate
+fn object_update(n: u64) -> Option<Option<u32>>
     ensures { result ≡ object_update n }
 {
     if n == 0 {
-        return ObjectUpdate::Keep;
+        return None;
     }
     if n == 1 {
-        return ObjectUpdate::Set(ObjectValue::Missing);
+        return Some(None);
     }
-    ObjectUpdate::Set(ObjectValue::Unsigned32(word_of(n - 2)))
+    Some(Some(word_of(n - 2)))
 }
 
 // The values that a load's row names.
@@ -134,10 +132,10 @@ fn nmt_turn(head: &mut Head, event: u64) -> u64
     ensures { (q m ns : List ℕ) (k : ℕ) → Turned head.old q m ns k (Call.nmt_event event) result head.new q m ns k }
 {
     match nmt_event(head, event) {
-        NmtEventAnswer::Taken(_) => {
+        Ok(_) => {
             return 0;
         }
-        NmtEventAnswer::Refused(refusal) => {
+        Err(refusal) => {
             return refusal.number() as u64;
         }
     }
@@ -148,10 +146,10 @@ fn dll_turn(head: &mut Head, event: u64, expect_preq: bool) -> u64
     ensures { (q m ns : List ℕ) (k : ℕ) → Turned head.old q m ns k (Call.dll_event event expect_preq) result head.new q m ns k }
 {
     match dll_event(head, event, expect_preq) {
-        DllEventAnswer::Taken(_) => {
+        Ok(_) => {
             return 0;
         }
-        DllEventAnswer::Refused(refusal) => {
+        Err(refusal) => {
             return refusal.number() as u64;
         }
     }
@@ -162,10 +160,10 @@ fn error_turn(head: &mut Head, kind: u64, a: u8, b: u8) -> u64
     ensures { (q m ns : List ℕ) (k : ℕ) → Turned head.old q m ns k (Call.error kind a b) result head.new q m ns k }
 {
     match handle_error(head, kind, a, b) {
-        ErrorAnswer::Taken(_) => {
+        Ok(_) => {
             return 0;
         }
-        ErrorAnswer::Refused(refusal) => {
+        Err(refusal) => {
             return refusal.number() as u64;
         }
     }
@@ -179,14 +177,14 @@ fn cycle_turn(head: &mut Head) -> u64
     0
 }
 
-fn number(answer: CallAnswer) -> u64
+fn number(answer: Result<(), Refusal>) -> u64
     ensures { result ≡ number_of (said answer) }
 {
     match answer {
-        CallAnswer::Taken => {
+        Ok(()) => {
             return 0;
         }
-        CallAnswer::Refused(refusal) => {
+        Err(refusal) => {
             return refusal.number() as u64;
         }
     }
@@ -211,10 +209,10 @@ fn range_turn(head: &Head, earliest: u64, latest: u64) -> u64
     ensures { (q m ns : List ℕ) (k : ℕ) → Turned head.now q m ns k (Call.range earliest latest) result head.now q m ns k }
 {
     match soc_range(head, earliest, latest) {
-        RangeAnswer::Taken(_) => {
+        Ok(_) => {
             return 0;
         }
-        RangeAnswer::Refused(refusal) => {
+        Err(refusal) => {
             return refusal.number() as u64;
         }
     }
@@ -225,10 +223,10 @@ fn margin_turn(head: &Head, time: u64) -> u64
     ensures { (q m ns : List ℕ) (k : ℕ) → Turned head.now q m ns k (Call.margin time) result head.now q m ns k }
 {
     match soc_margin(head, time) {
-        MarginAnswer::Taken(_) => {
+        Ok(_) => {
             return 0;
         }
-        MarginAnswer::Refused(refusal) => {
+        Err(refusal) => {
             return refusal.number() as u64;
         }
     }
@@ -298,10 +296,10 @@ fn tick_turn(
         head.new queue.new history.new nodes.new count }
 {
     match process_tick(head, queue, history, nodes, count, time) {
-        TickAnswer::Taken(_) => {
+        Ok(_) => {
             return 0;
         }
-        TickAnswer::Refused(refusal) => {
+        Err(refusal) => {
             return refusal.number() as u64;
         }
     }
@@ -492,7 +490,7 @@ pub fn drive(
     script: &[u64],
     bytes: &[u8],
     out: &mut [u64],
-) -> CallAnswer
+) -> Result<(), Refusal>
     ensures { Replayed count node feature_flags basic_ethernet_timeout queue_capacity od thresholds script.now bytes.now result
         (lent head.old nodes.old queue.old history.old out.old)
         (lent head.new nodes.new queue.new history.new out.new) }
@@ -508,12 +506,12 @@ pub fn drive(
         od,
         thresholds,
     ) {
-        CallAnswer::Taken => {
+        Ok(()) => {
             play_all(head, nodes, count, queue, history, script, bytes, out);
-            return CallAnswer::Taken;
+            return Ok(());
         }
-        CallAnswer::Refused(refusal) => {
-            return CallAnswer::Refused(refusal);
+        Err(refusal) => {
+            return Err(refusal);
         }
     }
 }

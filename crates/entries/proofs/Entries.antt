@@ -15,7 +15,7 @@ use Rattle.types.specs.declared.frame.error.types.DllError.{DllError}
 use Rattle.types.specs.declared.frame.error.types.DllError.TheVariants.{LossOfLink, BadPhysicalMode, MacBuffer, Crc, Collision, InvalidFormat, LossOfSoc, LossOfSoa, LossOfPreq, LossOfPres, LossOfStatusRes, CycleTimeExceeded, LatePres, SoCJitter, MsWaitSoc, MultipleMn, AddressConflict, MevAsndTimeout, UnexpectedEventInState, PdoMapVersion, PdoPayloadShort, HeartbeatTimeout}
 use Rattle.entries.specs.declared.status_response.ErrorEntryMode.{ErrorEntryMode}
 use Rattle.entries.specs.declared.status_response.ErrorEntryMode.TheVariants.{Terminator, ErrorActive, ErrorCleared, EventOccurred}
-use Rattle.entries.specs.declared.status_response.ErrorEntryModeRead.TheVariants as mode
+use Rattle.std.specs.declared.result.Result.TheVariants.{Ok, Err}
 use Rattle.entries.specs.declared.status_response.EntryType.{EntryType}
 use Rattle.entries.specs.declared.status_response.ErrorEntry.{ErrorEntry}
 use Rattle.entries.specs.Entry.{mode_number, modes, read_mode, mode_of, bit, type_number, type_of, bytes_of, number_in, Bytes, FitsBytes, entry_bytes, entry_in, crossing_entry}
@@ -60,11 +60,11 @@ mode_of_lem : (n : ℕ) → n < 4 → mode_number (get_or modes n Terminator) �
 mode_of_lem = below_four (λ n. mode_number (get_or modes n Terminator) ≡ n) refl refl refl refl
 
 -- the reading of a mode's number
-pub mode_below : (n : ℕ) → n < 4 → mode.Taken (mode_of n) ≡ read_mode n
+pub mode_below : (n : ℕ) → n < 4 → Ok (mode_of n) ≡ read_mode n
 unfolding mode_of read_mode
-mode_below = below_four (λ n. mode.Taken (mode_of n) ≡ read_mode n) refl refl refl refl
+mode_below = below_four (λ n. Ok (mode_of n) ≡ read_mode n) refl refl refl refl
 
-pub mode_above : (n : ℕ) → 4 ≤ n → mode.Refused UnknownNumber ≡ read_mode n
+pub mode_above : (n : ℕ) → 4 ≤ n → Err UnknownNumber ≡ read_mode n
 unfolding read_mode
 mode_above n h =
     rw (ne_eqb n 0 (λ e. omega arith), ne_eqb n 1 (λ e. omega arith), ne_eqb n 2 (λ e. omega arith), ne_eqb n 3 (λ e. omega arith))

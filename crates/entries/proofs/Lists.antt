@@ -12,7 +12,7 @@ use lib.Seq.{length-take-le, get_or-append-add, get_or-drop}
 use borrow.Author.Tests.{lt-ltb, le-ltb}
 use Rattle.types.specs.Pick.{pick}
 use Rattle.entries.specs.declared.status_response.ErrorEntry.{ErrorEntry}
-use Rattle.entries.specs.declared.status_response.FoundEntry.TheVariants.{Entry}
+use Rattle.std.specs.declared.option.Option.TheVariants.{Some}
 use Rattle.entries.specs.declared.emergency_queue.EmergencyQueue.{EmergencyQueue}
 use Rattle.entries.specs.declared.error_history.ErrorHistory.{ErrorHistory}
 use Rattle.entries.specs.Entry.{FitsBytes}
@@ -117,7 +117,7 @@ module _ (m : List ℕ) (h : ErrorHistory) (e : ErrorEntry) (long : length m ≡
   joined_long = put_long 254 m long (place_before h) (omega arith) e
 
 -- the place before the newest has, in a full history, the oldest entry: the 254th of the list
-pub oldest_there : (m : List ℕ) (h : ErrorHistory) → 254 ≤ h.count → nth (history m h) 253 ≡ Entry (entry_at m (place_before h))
+pub oldest_there : (m : List ℕ) (h : ErrorHistory) → 254 ≤ h.count → nth (history m h) 253 ≡ Some (entry_at m (place_before h))
 unfolding history
 oldest_there m h full =
     let all : min h.count 254 ≡ 254 = omega arith in

@@ -13,7 +13,7 @@ use lib.ListN.{length, get_or, take, drop, take-append-drop, length-drop}
 use lib.Seq.{drop-drop, drop-append-le, length-take-le}
 use borrow.Author.Tests.{ltb-true, ltb-false}
 use Rattle.entries.specs.declared.status_response.ErrorEntry.{ErrorEntry}
-use Rattle.entries.specs.declared.status_response.FoundEntry.TheVariants.{Entry, None}
+use Rattle.std.specs.declared.option.Option.TheVariants.{Some, None}
 use Rattle.entries.specs.Entry.{FitsBytes, entry_bytes, entry_in}
 use Rattle.entries.specs.Ring.{written, entry_at, put_at, listed, ring, nth}
 use Rattle.entries.proofs.Written.{kept_behind, written_long, byte_before, byte_behind}
@@ -52,7 +52,7 @@ listed_long f zero = refl
 listed_long f (suc n) = ap suc (listed_long (λ j. f (suc j)) n)
 
 -- the entry at an index
-pub nth_in : (f : ℕ → ErrorEntry) (n k : ℕ) → k < n → nth (listed f n) k ≡ Entry (f k)
+pub nth_in : (f : ℕ → ErrorEntry) (n k : ℕ) → k < n → nth (listed f n) k ≡ Some (f k)
 unfolding listed nth
 nth_in f zero k h = absurd (omega arith)
 nth_in f (suc n) zero h = refl

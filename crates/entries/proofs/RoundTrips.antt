@@ -14,10 +14,8 @@ use Rattle.types.specs.Pick.{pick}
 use Rattle.types.proofs.Refused.{number_fixes}
 use Rattle.types.specs.declared.refusals.Refusal.{Refusal}
 use Rattle.entries.specs.declared.status_response.ErrorEntry.{ErrorEntry}
-use Rattle.entries.specs.declared.desk.ErrorEntryWrite.{ErrorEntryWrite}
-use Rattle.entries.specs.declared.desk.ErrorEntryWrite.TheVariants as write
-use Rattle.entries.specs.declared.desk.ErrorEntryRead.{ErrorEntryRead}
-use Rattle.entries.specs.declared.desk.ErrorEntryRead.TheVariants as read
+use Rattle.std.specs.declared.result.Result.{Result}
+use Rattle.std.specs.declared.result.Result.TheVariants.{Ok, Err}
 use Rattle.entries.specs.Entry.{Bytes, FitsBytes, entry_bytes, entry_in}
 use Rattle.entries.specs.Ring.{written}
 use Rattle.entries.specs.Desk.{Reply, write_said, read_said, room_at, write_reply, unless_turned_away, desk_after, read_reply}
@@ -45,17 +43,17 @@ given other (Reply.gives a) = a
 apart : {A B : Type 0} {r s : Reply A} → r ≡ s → declines r ≡ true → declines s ≡ false → B
 apart e p q = absurd (true≢false (sym p ∙ ap declines e ∙ q))
 
-pub write_fixed : (a b : ErrorEntryWrite) → write_said a ≡ write_said b → a ≡ b
-write_fixed write.Taken write.Taken e = refl
-write_fixed write.Taken (write.Refused s) e = apart (sym e) refl refl
-write_fixed (write.Refused r) write.Taken e = apart e refl refl
-write_fixed (write.Refused r) (write.Refused s) e = ap write.Refused (number_fixes (ap number_of e))
+pub write_fixed : (a b : Result (Unit {0}) Refusal) → write_said a ≡ write_said b → a ≡ b
+write_fixed (Ok _) (Ok _) e = refl
+write_fixed (Ok _) (Err s) e = apart (sym e) refl refl
+write_fixed (Err r) (Ok _) e = apart e refl refl
+write_fixed (Err r) (Err s) e = ap Err (number_fixes (ap number_of e))
 
-pub read_fixed : (a b : ErrorEntryRead) → read_said a ≡ read_said b → a ≡ b
-read_fixed (read.Taken d) (read.Taken e) p = ap read.Taken (ap (given d) p)
-read_fixed (read.Taken d) (read.Refused s) p = apart (sym p) refl refl
-read_fixed (read.Refused r) (read.Taken e) p = apart p refl refl
-read_fixed (read.Refused r) (read.Refused s) p = ap read.Refused (number_fixes (ap number_of p))
+pub read_fixed : (a b : Result ErrorEntry Refusal) → read_said a ≡ read_said b → a ≡ b
+read_fixed (Ok d) (Ok e) p = ap Ok (ap (given d) p)
+read_fixed (Ok d) (Err s) p = apart (sym p) refl refl
+read_fixed (Err r) (Ok e) p = apart p refl refl
+read_fixed (Err r) (Err s) p = ap Err (number_fixes (ap number_of p))
 
 -- of the definitions: a buffer, a place that has room, an entry that fits
 module _ (s : List ℕ) (at : ℕ) (room : at + 20 ≤ length s) where
@@ -79,18 +77,18 @@ module _ (s : List ℕ) (at : ℕ) (room : at + 20 ≤ length s) where
 
 -- An entry whose numbers are within their widths, with a profile up to 4095, written at a place where 20 bytes are left and read there, is itself.
 pub written_read :
-    (κs : _) (a : _) (w : ErrorEntryWrite) (x : _) →
+    (κs : _) (a : _) (w : Result (Unit {0}) Refusal) (x : _) →
     write-at.Learnt κs a w x →
-    (κs' : _) (b : _) (o : ErrorEntryRead) (y : _) →
+    (κs' : _) (b : _) (o : Result ErrorEntry Refusal) (y : _) →
     read_at.Learnt κs' b o y →
     b.0.now ≡ x.0.now →
     b.1.0 ≡ a.1.0 →
     a.1.0 + 20 ≤ length a.0.now →
     FitsBytes a.1.1.0 →
-    (w ≡ write.Taken) × (o ≡ read.Taken a.1.1.0)
+    (w ≡ (Ok tt)) × (o ≡ Ok a.1.1.0)
 written_read κs a w x l κs' b o y m same place room f = (
-  write_fixed w write.Taken (l.0 ∙ sym (taken_there a.0.now a.1.0 room a.1.1.0 f).0),
-  read_fixed o (read.Taken a.1.1.0)
+  write_fixed w (Ok tt) (l.0 ∙ sym (taken_there a.0.now a.1.0 room a.1.1.0 f).0),
+  read_fixed o (Ok a.1.1.0)
       (m ∙ ap (λ (s : List ℕ). read_reply s b.1.0) (same ∙ l.1) ∙ ap (read_reply (desk_after a.0.now a.1.0 a.1.1.0)) place
       ∙ after_read a.0.now a.1.0 room a.1.1.0 f),
 )
@@ -111,19 +109,19 @@ read_there s at e g = by (room_at s at) refl g
 -- What was read at a place, written there again, changes nothing, whatever the bytes.
 pub read_written :
     (κs : _) (a : _) (e : ErrorEntry) (x : _) →
-    read_at.Learnt κs a (read.Taken e) x →
-    (κs' : _) (b : _) (w : ErrorEntryWrite) (y : _) →
+    read_at.Learnt κs a (Ok e) x →
+    (κs' : _) (b : _) (w : Result (Unit {0}) Refusal) (y : _) →
     write-at.Learnt κs' b w y →
     b.0.now ≡ a.0.now →
     b.1.0 ≡ a.1.0 →
     b.1.1.0 ≡ e →
     Bytes a.0.now →
-    (w ≡ write.Taken) × (y.0.now ≡ a.0.now)
+    (w ≡ (Ok tt)) × (y.0.now ≡ a.0.now)
 read_written κs a e x l κs' b w y m same place entry bytes =
     again a.0.now a.1.0 e b.0.now b.1.0 b.1.1.0 w y.0.now l m.0 m.1 same place entry bytes
   where
     again :
-        (s : List ℕ) (at : ℕ) (e : ErrorEntry) (s₁ : List ℕ) (at₁ : ℕ) (e₁ : ErrorEntry) (w : ErrorEntryWrite) (s' : List ℕ) →
+        (s : List ℕ) (at : ℕ) (e : ErrorEntry) (s₁ : List ℕ) (at₁ : ℕ) (e₁ : ErrorEntry) (w : Result (Unit {0}) Refusal) (s' : List ℕ) →
         Reply.gives e ≡ read_reply s at →
         write_said w ≡ write_reply s₁ at₁ e₁ →
         s' ≡ desk_after s₁ at₁ e₁ →
@@ -131,18 +129,18 @@ read_written κs a e x l κs' b w y m same place entry bytes =
         at₁ ≡ at →
         e₁ ≡ e →
         Bytes s →
-        (w ≡ write.Taken) × (s' ≡ s)
+        (w ≡ (Ok tt)) × (s' ≡ s)
     again s at e s₁ at₁ e₁ w s' l m₀ m₁ same place entry bytes =
         let r = read_there s at e l in
         let is : e₁ ≡ entry_in (drop at s) = entry ∙ r.1 in
         let f : FitsBytes (entry_in (drop at s)) = entry_in_fits (drop at s) (later s bytes at) in
         let t = taken_there s at r.0 (entry_in (drop at s)) f in (
-          write_fixed w write.Taken (rw (same, place, is) at m₀ ∙ sym t.0),
+          write_fixed w (Ok tt) (rw (same, place, is) at m₀ ∙ sym t.0),
           rw (same, place, is) at m₁ ∙ sym t.1 ∙ write_back s at r.0 bytes,
         )
 
 -- A write that is refused changes no byte.
-pub refused_keeps : (κs : _) (a : _) (r : Refusal) (x : _) → write-at.Learnt κs a (write.Refused r) x → x.0.now ≡ a.0.now
+pub refused_keeps : (κs : _) (a : _) (r : Refusal) (x : _) → write-at.Learnt κs a (Err r) x → x.0.now ≡ a.0.now
 unfolding desk_after
 refused_keeps κs a r x l =
     l.1 ∙ ap (λ (p : Reply Unit). unless_turned_away p a.0.now (written a.0.now a.1.0 (entry_bytes a.1.1.0))) (sym l.0)
@@ -177,7 +175,7 @@ others s at e = by (room_at s at) (leb e.entry_type.profile 4095) refl refl
         some (leb-true (at + 20) (length s) t) (wrote s at e t u refl).1
 
 pub others_kept :
-    (κs : _) (a : _) (w : ErrorEntryWrite) (x : _) → write-at.Learnt κs a w x → OthersKept a.0.now a.1.0 x.0.now
+    (κs : _) (a : _) (w : Result (Unit {0}) Refusal) (x : _) → write-at.Learnt κs a w x → OthersKept a.0.now a.1.0 x.0.now
 others_kept κs a w x l = subst (OthersKept a.0.now a.1.0) (sym l.1) (others a.0.now a.1.0 a.1.1.0)
 
 -- 20 bytes as such: any are read as an entry, which is written as them

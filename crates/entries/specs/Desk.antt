@@ -6,23 +6,22 @@ use Rattle.types.specs.Refusals.{refusal_number}
 use Rattle.entries.specs.Entry.{entry_bytes, entry_in}
 use Rattle.entries.specs.Ring.{written}
 use Rattle.entries.specs.declared.status_response.ErrorEntry.{ErrorEntry}
-use Rattle.entries.specs.declared.desk.ErrorEntryWrite.{ErrorEntryWrite}
-use Rattle.entries.specs.declared.desk.ErrorEntryWrite.TheVariants as write
-use Rattle.entries.specs.declared.desk.ErrorEntryRead.{ErrorEntryRead}
-use Rattle.entries.specs.declared.desk.ErrorEntryRead.TheVariants as read
+use Rattle.std.specs.declared.result.Result.{Result}
+use Rattle.std.specs.declared.result.Result.TheVariants.{Ok, Err}
+use Rattle.types.specs.declared.refusals.Refusal.{Refusal}
 
 -- An answer in the document's words: turned away with a number, or taken, with what it gives.
 pub data Reply (A : Type 0) : Type 0 where
   turned_away : ℕ → Reply A
   gives : A → Reply A
 
-abbrev pub write_said : ErrorEntryWrite → Reply Unit
-write_said write.Taken = Reply.gives tt
-write_said (write.Refused r) = Reply.turned_away (refusal_number r)
+abbrev pub write_said : Result (Unit {0}) Refusal → Reply Unit
+write_said (Ok _) = Reply.gives tt
+write_said (Err r) = Reply.turned_away (refusal_number r)
 
-abbrev pub read_said : ErrorEntryRead → Reply ErrorEntry
-read_said (read.Taken e) = Reply.gives e
-read_said (read.Refused r) = Reply.turned_away (refusal_number r)
+abbrev pub read_said : Result ErrorEntry Refusal → Reply ErrorEntry
+read_said (Ok e) = Reply.gives e
+read_said (Err r) = Reply.turned_away (refusal_number r)
 
 -- s has 20 bytes from a place on, and the place is not past the end
 abbrev pub room_at : List ℕ → ℕ → Bool

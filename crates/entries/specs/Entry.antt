@@ -8,8 +8,9 @@ use Rattle.types.specs.declared.refusals.Refusal.TheVariants.{UnknownNumber}
 use Rattle.types.specs.declared.frame.error.types.DllError.{DllError}
 use Rattle.entries.specs.declared.status_response.ErrorEntryMode.{ErrorEntryMode}
 use Rattle.entries.specs.declared.status_response.ErrorEntryMode.TheVariants.{Terminator, ErrorActive, ErrorCleared, EventOccurred}
-use Rattle.entries.specs.declared.status_response.ErrorEntryModeRead.{ErrorEntryModeRead}
-use Rattle.entries.specs.declared.status_response.ErrorEntryModeRead.TheVariants as mode
+use Rattle.std.specs.declared.result.Result.{Result}
+use Rattle.std.specs.declared.result.Result.TheVariants.{Ok, Err}
+use Rattle.types.specs.declared.refusals.Refusal.{Refusal}
 use Rattle.entries.specs.declared.status_response.EntryType.{EntryType}
 use Rattle.entries.specs.declared.status_response.ErrorEntry.{ErrorEntry}
 
@@ -23,8 +24,8 @@ mode_number EventOccurred = 3
 abbrev pub modes : List ErrorEntryMode
 modes = Terminator ∷ ErrorActive ∷ ErrorCleared ∷ EventOccurred ∷ []
 
-unfoldable pub read_mode : ℕ → ErrorEntryModeRead
-read_mode n = read_by mode_number mode.Taken (mode.Refused UnknownNumber) modes n
+unfoldable pub read_mode : ℕ → Result ErrorEntryMode Refusal
+read_mode n = read_by mode_number Ok (Err UnknownNumber) modes n
 
 -- the mode that the lowest two bits of n name
 unfoldable pub mode_of : ℕ → ErrorEntryMode

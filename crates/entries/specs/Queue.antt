@@ -4,7 +4,7 @@ use Rattle.std.specs.Prelude.{ℕ, ◌+◌, ◌-◌, ◌%◌, min, Bool, true, f
 use Rattle.types.specs.Pick.{pick}
 use Rattle.entries.specs.Ring.{entry_at, put_at, ring}
 use Rattle.entries.specs.declared.status_response.ErrorEntry.{ErrorEntry}
-use Rattle.entries.specs.declared.status_response.FoundEntry.TheVariants.{Entry, None}
+use Rattle.std.specs.declared.option.Option.TheVariants.{Some, None}
 use Rattle.entries.specs.declared.emergency_queue.EmergencyQueue.{EmergencyQueue}
 use Rattle.entries.specs.declared.emergency_queue.Pushed.{Pushed}
 use Rattle.entries.specs.declared.emergency_queue.HandedOut.{HandedOut}
@@ -43,6 +43,6 @@ handed_out m q =
     pick (ltb 0 (length_of q))
     (record {
       queue = queue ((q.oldest + 1) % 32) (length_of q - 1) q.capacity;
-      entry = Entry (entry_at m (q.oldest % 32));
+      entry = Some (entry_at m (q.oldest % 32));
     })
     (record { queue = q; entry = None })

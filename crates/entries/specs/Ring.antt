@@ -3,8 +3,8 @@
 use Rattle.std.specs.Prelude.{ℕ, zero, suc, ◌+◌, ◌*◌, ◌%◌, List, [], ◌∷◌, ◌++◌, length, take, drop}
 use Rattle.entries.specs.Entry.{entry_bytes, entry_in}
 use Rattle.entries.specs.declared.status_response.ErrorEntry.{ErrorEntry}
-use Rattle.entries.specs.declared.status_response.FoundEntry.{FoundEntry}
-use Rattle.entries.specs.declared.status_response.FoundEntry.TheVariants.{Entry, None}
+use Rattle.std.specs.declared.option.Option.{Option}
+use Rattle.std.specs.declared.option.Option.TheVariants.{Some, None}
 
 -- s with the bytes b from a place on, and all others as they were
 unfoldable pub written : List ℕ → ℕ → List ℕ → List ℕ
@@ -27,9 +27,9 @@ abbrev pub ring : ℕ → List ℕ → ℕ → ℕ → List ErrorEntry
 ring p m i n = listed (λ j. entry_at m ((i + j) % p)) n
 
 -- the entry at an index of a list, and all but the first
-unfoldable pub nth : List ErrorEntry → ℕ → FoundEntry
+unfoldable pub nth : List ErrorEntry → ℕ → Option ErrorEntry
 nth [] k = None
-nth (e ∷ l) zero = Entry e
+nth (e ∷ l) zero = Some e
 nth (e ∷ l) (suc k) = nth l k
 
 abbrev pub rest : List ErrorEntry → List ErrorEntry

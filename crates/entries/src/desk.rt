@@ -7,18 +7,6 @@ use crate::place;
 use crate::status_response::ErrorEntry;
 use types::refusals::Refusal;
 
-#[derive(Clone, Copy)]
-pub enum ErrorEntryWrite {
-    Taken,
-    Refused(Refusal),
-}
-
-#[derive(Clone, Copy)]
-pub enum ErrorEntryRead {
-    Taken(ErrorEntry),
-    Refused(Refusal),
-}
-
 // Whether 20 bytes are there from a place on. By subtraction, since the place plus 20 may pass 2^64.
 fn has_room(length: usize, place: u64) -> bool
     ensures { result ≡ leb (place + 20) length }
@@ -30,27 +18,27 @@ fn has_room(length: usize, place: u64) -> bool
 }
 
 // Writes an entry at a place: the part from there on is lent on to the writer. What is refused changes no byte.
-pub fn write_at(buffer: &mut [u8], place: u64, entry: ErrorEntry) -> ErrorEntryWrite
+pub fn write_at(buffer: &mut [u8], place: u64, entry: ErrorEntry) -> Result<(), Refusal>
     ensures { (write_said result ≡ write_reply buffer.old place entry) × (buffer.new ≡ desk_after buffer.old place entry) }
 {
     let room = has_room(buffer.len(), place);
     let small = entry.entry_type.profile <= 4095;
     if !room {
-        return ErrorEntryWrite::Refused(Refusal::BufferTooShort);
+        return Err(Refusal::BufferTooShort);
     }
     if !small {
-        return ErrorEntryWrite::Refused(Refusal::ProfileLimit);
+        return Err(Refusal::ProfileLimit);
     }
     place::put_entry(buffer, place as usize, entry);
-    ErrorEntryWrite::Taken
+    Ok(())
 }
 
 // The entry at a place.
-pub fn read_at(buffer: &[u8], place: u64) -> ErrorEntryRead
+pub fn read_at(buffer: &[u8], place: u64) -> Result<ErrorEntry, Refusal>
     ensures { read_said result ≡ read_reply buffer.now place }
 {
     if !has_room(buffer.len(), place) {
-        return ErrorEntryRead::Refused(Refusal::BufferTooShort);
+        return Err(Refusal::BufferTooShort);
     }
-    ErrorEntryRead::Taken(place::read_entry(buffer, place as usize))
+    Ok(place::read_entry(buffer, place as usize))
 }

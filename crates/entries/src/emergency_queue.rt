@@ -4,7 +4,7 @@ ghost use Rattle.entries.specs.Ring.{nth};
 ghost use Rattle.entries.specs.Queue.{queue, waiting, pushed, pushed_bytes, handed_out};
 
 use crate::place;
-use crate::status_response::{ErrorEntry, FoundEntry};
+use crate::status_response::ErrorEntry;
 
 // Where the entries stand: the place of the oldest, how many wait, and how many may. Every value is a queue: a place
 // is read modulo 32, and a number above 32 as 32.
@@ -24,7 +24,7 @@ pub struct Pushed {
 #[derive(Clone, Copy)]
 pub struct HandedOut {
     pub queue: EmergencyQueue,
-    pub entry: FoundEntry,
+    pub entry: Option<ErrorEntry>,
 }
 
 impl EmergencyQueue {
@@ -77,18 +77,18 @@ impl EmergencyQueue {
             };
             HandedOut {
                 queue,
-                entry: FoundEntry::Entry(entry),
+                entry: Some(entry),
             }
         } else {
             HandedOut {
                 queue: self,
-                entry: FoundEntry::None,
+                entry: None,
             }
         }
     }
 
     // The entry that waits at an index, the oldest at 0.
-    pub fn get(self, memory: &[u8; 640], index: usize) -> FoundEntry
+    pub fn get(self, memory: &[u8; 640], index: usize) -> Option<ErrorEntry>
         ensures { result ≡ nth (waiting memory.now self) index }
     {
         place::ring_entry(memory, 32, self.oldest, self.length, index)

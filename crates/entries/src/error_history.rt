@@ -4,7 +4,7 @@ ghost use Rattle.entries.specs.Ring.{nth};
 ghost use Rattle.entries.specs.History.{error_history, history, place_before, joined, joined_bytes, loaded, loaded_bytes};
 
 use crate::place;
-use crate::status_response::{ErrorEntry, FoundEntry};
+use crate::status_response::ErrorEntry;
 
 // Where the entries stand: the place of the newest, and how many there are. Every value is a history: a place is read
 // modulo 254, and a count above 254 as 254.
@@ -38,7 +38,7 @@ impl ErrorHistory {
     }
 
     // The entry at an index, the newest at 0.
-    pub fn get(self, memory: &[u8; 5080], index: usize) -> FoundEntry
+    pub fn get(self, memory: &[u8; 5080], index: usize) -> Option<ErrorEntry>
         ensures { result ≡ nth (history memory.now self) index }
     {
         place::ring_entry(memory, 254, self.newest, self.count, index)

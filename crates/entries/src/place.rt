@@ -3,7 +3,7 @@ ghost use Rattle.std.specs.Prelude.{◌≡◌, ◌++◌, ◌+◌, ◌*◌, ◌^�
 ghost use Rattle.entries.specs.Entry.{bytes_of, number_in, entry_bytes, entry_in};
 ghost use Rattle.entries.specs.Ring.{written, ring, nth};
 
-use crate::status_response::{EntryType, ErrorEntry, FoundEntry};
+use crate::status_response::{EntryType, ErrorEntry};
 use types::common::NetTime;
 
 pub(crate) fn at_most(x: usize, top: usize) -> usize
@@ -84,15 +84,21 @@ pub(crate) fn read_entry(s: &[u8], at: usize) -> ErrorEntry
 }
 
 // The entry at an index of a ring of so many places, from the place `first` on, of which at most `count` are filled.
-pub(crate) fn ring_entry(s: &[u8], places: usize, first: u8, count: u8, index: usize) -> FoundEntry
+pub(crate) fn ring_entry(
+    s: &[u8],
+    places: usize,
+    first: u8,
+    count: u8,
+    index: usize,
+) -> Option<ErrorEntry>
     requires { (20 * places ≤ length s.now) × (0 < places) }
     ensures { result ≡ nth (ring places s.now first (min count places)) index }
 {
     if index < at_most(count as usize, places) {
         let at = (first as usize + index) % places;
-        FoundEntry::Entry(read_entry(s, 20 * at))
+        Some(read_entry(s, 20 * at))
     } else {
-        FoundEntry::None
+        None
     }
 }
 

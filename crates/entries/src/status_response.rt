@@ -15,12 +15,6 @@ pub enum ErrorEntryMode {
     EventOccurred,
 }
 
-#[derive(Clone, Copy)]
-pub enum ErrorEntryModeRead {
-    Taken(ErrorEntryMode),
-    Refused(Refusal),
-}
-
 impl ErrorEntryMode {
     pub fn as_u16(self) -> u16
         ensures { result ≡ mode_number self }
@@ -33,13 +27,13 @@ impl ErrorEntryMode {
         }
     }
 
-    pub fn try_from(value: u8) -> ErrorEntryModeRead
+    pub fn try_from(value: u8) -> Result<ErrorEntryMode, Refusal>
         ensures { result ≡ read_mode value }
     {
         if value < 4 {
-            ErrorEntryModeRead::Taken(ErrorEntryMode::from_bits(value as u16))
+            Ok(ErrorEntryMode::from_bits(value as u16))
         } else {
-            ErrorEntryModeRead::Refused(Refusal::UnknownNumber)
+            Err(Refusal::UnknownNumber)
         }
     }
 
@@ -104,13 +98,6 @@ pub struct ErrorEntry {
     pub error_code: u16,
     pub timestamp: NetTime,
     pub additional_information: u64,
-}
-
-// An entry, or none.
-#[derive(Clone, Copy)]
-pub enum FoundEntry {
-    Entry(ErrorEntry),
-    None,
 }
 
 impl ErrorEntry {

@@ -6,9 +6,8 @@ ghost use Rattle.std.specs.Prelude.{◌≡◌};
 ghost use Rattle.entry_bytes.specs.Patterns.{drawn, last, filled, numbered};
 
 use entries::desk;
-use entries::desk::ErrorEntryRead;
 use entries::error_history::{ErrorHistory, write_error_to_history};
-use entries::status_response::{EntryType, ErrorEntry, ErrorEntryMode, FoundEntry};
+use entries::status_response::{EntryType, ErrorEntry, ErrorEntryMode};
 use forms::output::Output;
 use std::io;
 use types::common::NetTime;
@@ -77,7 +76,7 @@ fn say_entry(out: &mut Output, entry: ErrorEntry) {
 
 fn print_entry(out: &mut Output, pattern: &[u8]) {
     match desk::read_at(pattern, 0) {
-        ErrorEntryRead::Taken(entry) => {
+        Ok(entry) => {
             say(out, b"(entry ");
             say_bytes(out, pattern);
             say_entry(out, entry);
@@ -85,7 +84,7 @@ fn print_entry(out: &mut Output, pattern: &[u8]) {
             say_bytes(out, &entry.serialize());
             say(out, b"))\n");
         }
-        ErrorEntryRead::Refused(_) => say(out, b"(entry short)\n"),
+        Err(_) => say(out, b"(entry short)\n"),
     }
 }
 
@@ -125,8 +124,8 @@ fn print_read(out: &mut Output, buffer: &[u8], place: u64) {
     say(out, b"(read ");
     say_number(out, place);
     match desk::read_at(buffer, place) {
-        ErrorEntryRead::Taken(entry) => say_entry(out, entry),
-        ErrorEntryRead::Refused(_) => say(out, b" short"),
+        Ok(entry) => say_entry(out, entry),
+        Err(_) => say(out, b" short"),
     }
     say(out, b")\n");
 }
@@ -162,13 +161,13 @@ fn numbered_entry(number: u16) -> ErrorEntry
     }
 }
 
-fn say_code(out: &mut Output, found: FoundEntry) {
+fn say_code(out: &mut Output, found: Option<ErrorEntry>) {
     match found {
-        FoundEntry::Entry(entry) => {
+        Some(entry) => {
             say(out, b" ");
             say_number(out, entry.error_code as u64);
         }
-        FoundEntry::None => say(out, b" none"),
+        None => say(out, b" none"),
     }
 }
 

@@ -8,14 +8,14 @@ use Rattle.types.specs.Pick.{pick}
 use Rattle.types.specs.Events.{read_event}
 use Rattle.types.specs.CsEvents.{read_cs_event}
 use Rattle.types.specs.Errors.{read_error}
-use Rattle.types.specs.declared.nmt.events.NmtEventRead.{NmtEventRead}
-use Rattle.types.specs.declared.nmt.events.NmtEventRead.TheVariants as event
-use Rattle.types.specs.declared.frame.cs_state_machine.DllCsEventRead.{DllCsEventRead}
-use Rattle.types.specs.declared.frame.cs_state_machine.DllCsEventRead.TheVariants as cs-event
-use Rattle.types.specs.declared.frame.error.types.DllErrorRead.{DllErrorRead}
-use Rattle.types.specs.declared.frame.error.types.DllErrorRead.TheVariants as error_read
+use Rattle.std.specs.declared.result.Result.{Result}
+use Rattle.std.specs.declared.result.Result.TheVariants.{Ok, Err}
+use Rattle.types.specs.declared.nmt.events.NmtEvent.{NmtEvent}
+use Rattle.types.specs.declared.refusals.Refusal.{Refusal}
+use Rattle.types.specs.declared.frame.cs_state_machine.DllCsEvent.{DllCsEvent}
+use Rattle.types.specs.declared.frame.error.types.DllError.{DllError}
+use Rattle.types.specs.declared.frame.error.types.DllErrors.{DllErrors}
 use Rattle.head.specs.Words.{head_of}
-use Rattle.node.specs.declared.calls.CallAnswer.{CallAnswer}
 use Rattle.node.specs.Plain.{Plain, Call, Answer, taken, cycle_answer, Step}
 use Rattle.node.specs.Steps.{Test, tried, with_nmt, no_run, answers, leaves, declines, nmt_step, dll_step, error_step, withdrawn, withdraw_tests, heard_tests}
 use Rattle.watched.specs.Watched.{heard_at, Run, run, changing}
@@ -25,7 +25,6 @@ use Rattle.node.specs.Run.{step}
 use Rattle.node.specs.Refines.{plain, SamePlaces, rings, joins_all, left, Refines}
 use Rattle.node.specs.InPlace.{InPlace, said}
 use Rattle.tick.specs.TickIn.{TickedIn, tick_said}
-use Rattle.tick.specs.declared.tick.TickAnswer.{TickAnswer}
 use Rattle.examples.specs.Same.{Exactly}
 use Rattle.examples.specs.Shown.{Came}
 use Rattle.examples.proofs.Exact.{exact_by, exact_and}
@@ -34,23 +33,23 @@ use Rattle.examples.proofs.Exact.{exact_by, exact_and}
 pub nmt_uncrossed : (n : ℕ) (p : Plain) → (step p (Call.nmt_event n)).crossings ≡ []
 nmt_uncrossed n p = by (read_event n)
   where
-    by : (r : NmtEventRead) → (nmt_step p r).crossings ≡ []
-    by (event.Taken e) = refl
-    by (event.Refused r) = refl
+    by : (r : Result NmtEvent Refusal) → (nmt_step p r).crossings ≡ []
+    by (Ok e) = refl
+    by (Err r) = refl
 
 pub dll_uncrossed : (n : ℕ) (b : Bool) (p : Plain) → (step p (Call.dll_event n b)).crossings ≡ []
 dll_uncrossed n b p = by (read_cs_event n)
   where
-    by : (r : DllCsEventRead) → (dll_step p b r).crossings ≡ []
-    by (cs-event.Taken e) = refl
-    by (cs-event.Refused r) = refl
+    by : (r : Result DllCsEvent Refusal) → (dll_step p b r).crossings ≡ []
+    by (Ok e) = refl
+    by (Err r) = refl
 
 pub error_uncrossed : (k a b : ℕ) (p : Plain) → (step p (Call.error k a b)).crossings ≡ []
 error_uncrossed k a b p = by (read_error k a b)
   where
-    by : (r : DllErrorRead) → (error_step p r).crossings ≡ []
-    by (error_read.Taken e) = refl
-    by (error_read.Refused r) = refl
+    by : (r : Result DllError Refusal) → (error_step p r).crossings ≡ []
+    by (Ok e) = refl
+    by (Err r) = refl
 
 tried_uncrossed :
     (ts : List (Test ℕ)) (f : ℕ → Step) (s : Step) → ((r : ℕ) → (f r).crossings ≡ []) → s.crossings ≡ [] → (tried ts f s).crossings ≡ []
@@ -95,7 +94,7 @@ module _ (ws ws' stated : List ℕ) (a b : Answer) {x y : Bool} (s : Exactly x (
 
   -- a tick
   pub came_tick :
-      (q m ns : List ℕ) (k t : ℕ) (r : TickAnswer) (q' m' ns' : List ℕ) →
+      (q m ns : List ℕ) (k t : ℕ) (r : Result DllErrors Refusal) (q' m' ns' : List ℕ) →
       a ≡ tick_said r →
       TickedIn ws q m ns k t r ws' q' m' ns' →
       Came ws q m (Call.tick t (run (nodes_of ns) k)) b stated ws' q' m' (run (nodes_of ns') k) (x && y)
@@ -104,7 +103,7 @@ module _ (ws ws' stated : List ℕ) (a b : Answer) {x y : Bool} (s : Exactly x (
 
 -- heard is lent a run too
 pub came_heard :
-    (ws ws' stated : List ℕ) (b : Answer) (ns : List ℕ) (k n t : ℕ) (r : CallAnswer) (ns' : List ℕ) {x y : Bool} →
+    (ws ws' stated : List ℕ) (b : Answer) (ns : List ℕ) (k n t : ℕ) (r : Result (Unit {0}) Refusal) (ns' : List ℕ) {x y : Bool} →
     Exactly x (said r ≡ b) →
     Exactly y (head_of ws' ≡ head_of stated) →
     Heard ws ns k n t r ws' ns' →

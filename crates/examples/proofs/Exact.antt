@@ -16,10 +16,8 @@ use Rattle.counters.specs.declared.counters.ThresholdCounter.{ThresholdCounter}
 use Rattle.counters.specs.declared.counters.CnErrorCounters.{CnErrorCounters}
 use Rattle.entries.specs.declared.emergency_queue.EmergencyQueue.{EmergencyQueue}
 use Rattle.entries.specs.declared.error_history.ErrorHistory.{ErrorHistory}
-use Rattle.head.specs.declared.state.Deadline.{Deadline}
-use Rattle.head.specs.declared.state.Deadline.TheVariants.{At, Nothing}
-use Rattle.head.specs.declared.state.ObjectValue.{ObjectValue}
-use Rattle.head.specs.declared.state.ObjectValue.TheVariants.{Unsigned32, Missing}
+use Rattle.std.specs.declared.option.Option.{Option}
+use Rattle.std.specs.declared.option.Option.TheVariants.{Some, None}
 use Rattle.head.specs.declared.state.SocWatch.{SocWatch}
 use Rattle.head.specs.declared.state.Dictionary.{Dictionary}
 use Rattle.head.specs.Places as at
@@ -99,11 +97,11 @@ exact_errors x y =
     })
     (λ e. (((((((ap (λ z. z.collision) e, ap (λ z. z.loss_of_soc) e), ap (λ z. z.loss_of_soa) e), ap (λ z. z.loss_of_preq) e), ap (λ z. z.soc_jitter) e), ap (λ z. z.crc_errors) e), ap (λ z. z.heartbeat_timeout) e), ap (λ z. z.loss_of_link_cumulative) e))
 
-exact_deadline : (x y : Deadline) → Exactly (same_deadline x y) (x ≡ y)
-exact_deadline (At t) (At u) = exact_by (exact_number t u) (ap At) (λ e. cc)
-exact_deadline (At t) Nothing = record { says = λ e. no e; holds = λ e. cc }
-exact_deadline Nothing (At u) = record { says = λ e. no e; holds = λ e. cc }
-exact_deadline Nothing Nothing = record { says = λ e. refl; holds = λ e. refl }
+exact_deadline : (x y : Option ℕ) → Exactly (same_deadline x y) (x ≡ y)
+exact_deadline (Some t) (Some u) = exact_by (exact_number t u) (ap Some) (λ e. cc)
+exact_deadline (Some t) None = record { says = λ e. no e; holds = λ e. cc }
+exact_deadline None (Some u) = record { says = λ e. no e; holds = λ e. cc }
+exact_deadline None None = record { says = λ e. refl; holds = λ e. refl }
 
 exact_soc : (x y : SocWatch) → Exactly (same_soc x y) (x ≡ y)
 exact_soc x y =
@@ -117,11 +115,11 @@ exact_soc x y =
     })
     (λ e. (((ap (λ z. z.last_soc_reception_time_us) e, ap (λ z. z.soc_timeout_check_active) e), ap (λ z. z.next_tick_us) e), ap (λ z. z.error_status_changed) e))
 
-exact_object : (x y : ObjectValue) → Exactly (same_object x y) (x ≡ y)
-exact_object (Unsigned32 n) (Unsigned32 m) = exact_by (exact_number n m) (ap Unsigned32) (λ e. cc)
-exact_object (Unsigned32 n) Missing = record { says = λ e. no e; holds = λ e. cc }
-exact_object Missing (Unsigned32 m) = record { says = λ e. no e; holds = λ e. cc }
-exact_object Missing Missing = record { says = λ e. refl; holds = λ e. refl }
+exact_object : (x y : Option ℕ) → Exactly (same_object x y) (x ≡ y)
+exact_object (Some n) (Some m) = exact_by (exact_number n m) (ap Some) (λ e. cc)
+exact_object (Some n) None = record { says = λ e. no e; holds = λ e. cc }
+exact_object None (Some m) = record { says = λ e. no e; holds = λ e. cc }
+exact_object None None = record { says = λ e. refl; holds = λ e. refl }
 
 exact_od : (x y : Dictionary) → Exactly (same_od x y) (x ≡ y)
 exact_od x y =

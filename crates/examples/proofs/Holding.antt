@@ -10,7 +10,7 @@ use Rattle.entries.specs.Ring.{nth}
 use Rattle.entries.specs.declared.status_response.ErrorEntry.{ErrorEntry}
 use Rattle.entries.specs.declared.status_response.ErrorEntryMode.{ErrorEntryMode}
 use Rattle.entries.specs.declared.status_response.ErrorEntryMode.TheVariants.{Terminator, ErrorActive, ErrorCleared, EventOccurred}
-use Rattle.entries.specs.declared.status_response.FoundEntry.TheVariants as found
+use Rattle.std.specs.declared.option.Option.TheVariants.{Some, None}
 use Rattle.examples.specs.Same.{Exactly}
 use Rattle.examples.specs.Said.{entry_of}
 use Rattle.examples.proofs.Exact.{exact_number, exact_by, exact_and}
@@ -60,22 +60,22 @@ exact_entry x code s n =
     })
     (λ e. (((((((ap (λ z. z.entry_type.is_status_entry) e, ap (λ z. z.entry_type.send_to_queue) e), ap (λ z. z.entry_type.mode) e), ap (λ z. z.entry_type.profile) e), ap (λ z. z.error_code) e), ap (λ z. z.timestamp.seconds) e), ap (λ z. z.timestamp.nanoseconds) e), ap (λ z. z.additional_information) e))
 
-pub exact_found : (x y : ErrorEntry) {r : Bool} → Exactly r (x ≡ y) → Exactly r (found.Entry x ≡ found.Entry y)
-exact_found x y e = exact_by e (ap found.Entry) (λ h. cc)
+pub exact_found : (x y : ErrorEntry) {r : Bool} → Exactly r (x ≡ y) → Exactly r (◌≡◌ {A = Option ErrorEntry} (Some x) (Some y))
+exact_found x y e = exact_by e (ap Some) (λ h. cc)
 
-pub not_found : (x : ErrorEntry) → Exactly false (found.None ≡ found.Entry x)
+pub not_found : (x : ErrorEntry) → Exactly false (None ≡ Some x)
 not_found x = never (λ e. clash (cc))
 
-pub not_none : (x : ErrorEntry) → Exactly false (found.Entry x ≡ found.None)
+pub not_none : (x : ErrorEntry) → Exactly false (Some x ≡ None)
 not_none x = never (λ e. clash (cc))
 
 pub exact_only :
     (l : List ErrorEntry) (e : ErrorEntry) {x y : Bool} →
-    Exactly x (nth l 0 ≡ found.Entry e) →
-    Exactly y (nth l 1 ≡ found.None) →
+    Exactly x (nth l 0 ≡ Some e) →
+    Exactly y (nth l 1 ≡ None) →
     Exactly (x && y) (l ≡ e ∷ [])
 unfolding nth
 exact_only [] e x y = exact_by (exact_and x y) (λ h. let h₀ = h.0 in absurd (clash (cc))) (λ h. absurd (clash (cc)))
 exact_only (a ∷ []) e x y =
-    exact_by (exact_and x y) (λ h. let h₀ = h.0 in let f : a ≡ e = cc in ap (λ (z : ErrorEntry). z ∷ []) f) (λ h. let f : a ≡ e = cc in (ap found.Entry f, refl))
+    exact_by (exact_and x y) (λ h. let h₀ = h.0 in let f : a ≡ e = cc in ap (λ (z : ErrorEntry). z ∷ []) f) (λ h. let f : a ≡ e = cc in (ap Some f, refl))
 exact_only (a ∷ b ∷ l) e x y = exact_by (exact_and x y) (λ h. let h₁ = h.1 in absurd (clash (cc))) (λ h. absurd (clash (cc)))

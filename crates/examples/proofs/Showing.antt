@@ -14,8 +14,9 @@ use Rattle.entries.specs.declared.emergency_queue.EmergencyQueue.{EmergencyQueue
 use Rattle.entries.specs.declared.error_history.ErrorHistory.{ErrorHistory}
 use Rattle.head.specs.declared.state.Dictionary.{Dictionary}
 use Rattle.head.specs.Words.{errors_of, queue_of, history_of, head_of}
-use Rattle.node.specs.declared.calls.CallAnswer.{CallAnswer}
-use Rattle.node.specs.declared.calls.CallAnswer.TheVariants as answer
+use Rattle.std.specs.declared.result.Result.{Result}
+use Rattle.std.specs.declared.result.Result.TheVariants.{Ok, Err}
+use Rattle.types.specs.declared.refusals.Refusal.{Refusal}
 use Rattle.node.specs.Plain.{Plain, Call, Answer, taken, Step, begins}
 use Rattle.node.specs.Steps.{fresh, started}
 use Rattle.watched.specs.Watched.{well_formed, Run, run}
@@ -129,12 +130,12 @@ module _ (ws q m : List ℕ) (p : Plain) (e : plain (head_of ws) q m ≡ p) wher
 
 -- the fresh head of the first example
 begun_with :
-    (ws ns : List ℕ) (od : Dictionary) (a : CallAnswer) (ws' ns' : List ℕ) →
+    (ws ns : List ℕ) (od : Dictionary) (a : Result (Unit {0}) Refusal) (ws' ns' : List ℕ) →
     od ≡ values 0 0 0 0 0 →
     StartedIn ws ns 0 1 (flags 0) 5 1 od (same_for_all 15) a ws' ns' →
     (said a ≡ taken) × ((q m : List ℕ) → Along ws' q m sw_reset.before sw_reset.calls sw_reset.after)
 unfolding started fresh well_formed nodes_of listed thresholds_fit
-begun_with ws ns od answer.Taken ws' ns' e s = (
+begun_with ws ns od (Ok _) ws' ns' e s = (
   refl,
   λ q m.
       record {
@@ -147,10 +148,10 @@ begun_with ws ns od answer.Taken ws' ns' e s = (
   where
     same_begun : {p p' : Plain} → begins p ≡ begins p' → p ≡ p'
     same_begun e = cc
-begun_with ws ns od (answer.Refused r) ws' ns' e s = absurd (let b = s.on.begins.begun [] [] in clash (cc))
+begun_with ws ns od (Err r) ws' ns' e s = absurd (let b = s.on.begins.begun [] [] in clash (cc))
 
 pub begun :
-    (ws ns : List ℕ) (od : Dictionary) (ts : Thresholds) (a : CallAnswer) (ws' ns' : List ℕ) →
+    (ws ns : List ℕ) (od : Dictionary) (ts : Thresholds) (a : Result (Unit {0}) Refusal) (ws' ns' : List ℕ) →
     od ≡ values 0 0 0 0 0 →
     ts ≡ same_for_all 15 →
     StartedIn ws ns 0 1 (flags 0) 5 1 od ts a ws' ns' →

@@ -1,6 +1,6 @@
 -- When two parts of a head are the same: the tests that the program makes, part by part, as numbers and flags.
 -- Assumes nothing.
-use Rattle.std.specs.Prelude.{◌≡◌, Bool, true, false, ◌&&◌, eqb}
+use Rattle.std.specs.Prelude.{ℕ, ◌≡◌, Bool, true, false, ◌&&◌, eqb}
 use Rattle.std.specs.Bool.{beq}
 use Rattle.types.specs.States.{state_number}
 use Rattle.nmt.specs.declared.cn_state_machine.CnNmtStateMachine.{CnNmtStateMachine}
@@ -10,10 +10,8 @@ use Rattle.counters.specs.declared.counters.ThresholdCounter.{ThresholdCounter}
 use Rattle.counters.specs.declared.counters.CnErrorCounters.{CnErrorCounters}
 use Rattle.entries.specs.declared.emergency_queue.EmergencyQueue.{EmergencyQueue}
 use Rattle.entries.specs.declared.error_history.ErrorHistory.{ErrorHistory}
-use Rattle.head.specs.declared.state.Deadline.{Deadline}
-use Rattle.head.specs.declared.state.Deadline.TheVariants.{At, Nothing}
-use Rattle.head.specs.declared.state.ObjectValue.{ObjectValue}
-use Rattle.head.specs.declared.state.ObjectValue.TheVariants.{Unsigned32, Missing}
+use Rattle.std.specs.declared.option.Option.{Option}
+use Rattle.std.specs.declared.option.Option.TheVariants.{Some, None}
 use Rattle.head.specs.declared.state.SocWatch.{SocWatch}
 use Rattle.head.specs.declared.state.Dictionary.{Dictionary}
 use Rattle.watched.specs.declared.nodes.WatchedNode.{WatchedNode}
@@ -53,11 +51,11 @@ same_errors x y =
     && same_counter x.heartbeat_timeout y.heartbeat_timeout
     && eqb x.loss_of_link_cumulative y.loss_of_link_cumulative
 
-abbrev pub same_deadline : Deadline → Deadline → Bool
-same_deadline (At t) (At u) = eqb t u
-same_deadline (At t) Nothing = false
-same_deadline Nothing (At u) = false
-same_deadline Nothing Nothing = true
+abbrev pub same_deadline : Option ℕ → Option ℕ → Bool
+same_deadline (Some t) (Some u) = eqb t u
+same_deadline (Some t) None = false
+same_deadline None (Some u) = false
+same_deadline None None = true
 
 abbrev pub same_soc : SocWatch → SocWatch → Bool
 same_soc x y =
@@ -66,11 +64,11 @@ same_soc x y =
     && same_deadline x.next_tick_us y.next_tick_us
     && beq x.error_status_changed y.error_status_changed
 
-abbrev pub same_object : ObjectValue → ObjectValue → Bool
-same_object (Unsigned32 n) (Unsigned32 m) = eqb n m
-same_object (Unsigned32 n) Missing = false
-same_object Missing (Unsigned32 m) = false
-same_object Missing Missing = true
+abbrev pub same_object : Option ℕ → Option ℕ → Bool
+same_object (Some n) (Some m) = eqb n m
+same_object (Some n) None = false
+same_object None (Some m) = false
+same_object None None = true
 
 abbrev pub same_od : Dictionary → Dictionary → Bool
 same_od x y =

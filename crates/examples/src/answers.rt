@@ -10,9 +10,8 @@ ghost use Rattle.examples.specs.Same.{Exactly};
 ghost use Rattle.examples.specs.Said.{stated_errors, passed_of, nmt_stated, dll_stated, action_stated, logged_stated, error_stated, tick_stated};
 
 use nmt::state_machine::{EnteredStates, IndexRange, ResetSequence, RestoredRanges};
-use node::calls::{CallAnswer, DllEventAnswer, ErrorAnswer, NmtEventAnswer};
-use tick::tick::TickAnswer;
 use types::frame::error::types::{DllError, DllErrors, NmtAction};
+use types::refusals::Refusal;
 
 // The errors that an example states.
 #[derive(Clone, Copy)]
@@ -121,25 +120,25 @@ fn passes(reset: ResetSequence, whole: bool) -> bool
     entered_are(entered, whole) & restored_are(restored, whole)
 }
 
-pub fn nmt_says(answer: NmtEventAnswer, stated: Stated, whole: bool) -> bool
+pub fn nmt_says(answer: Result<NmtTaken, Refusal>, stated: Stated, whole: bool) -> bool
     ensures { Exactly result (nmt_said answer ≡ nmt_stated stated whole) }
 {
     match answer {
-        NmtEventAnswer::Taken(taken) => {
+        Ok(taken) => {
             let errors = taken.errors;
             let reset = taken.reset;
             are(errors, stated) & passes(reset, whole)
         }
-        NmtEventAnswer::Refused(_) => false,
+        Err(_) => false,
     }
 }
 
-pub fn dll_says(answer: DllEventAnswer, stated: Stated) -> bool
+pub fn dll_says(answer: Result<DllErrors, Refusal>, stated: Stated) -> bool
     ensures { Exactly result (dll_said answer ≡ dll_stated stated) }
 {
     match answer {
-        DllEventAnswer::Taken(errors) => are(errors, stated),
-        DllEventAnswer::Refused(_) => false,
+        Ok(errors) => are(errors, stated),
+        Err(_) => false,
     }
 }
 
@@ -163,33 +162,33 @@ fn logged_of(crosses: bool) -> Stated
 }
 
 // Of a loss that crosses, or of one that does not.
-pub fn error_says(answer: ErrorAnswer, crosses: bool) -> bool
+pub fn error_says(answer: Result<ErrorTaken, Refusal>, crosses: bool) -> bool
     ensures { Exactly result (error_said answer ≡ error_stated crosses) }
 {
     match answer {
-        ErrorAnswer::Taken(taken) => {
+        Ok(taken) => {
             let action = taken.action;
             let logged = taken.logged;
             asks(action, crosses) & (taken.signal == crosses) & are(logged, logged_of(crosses))
         }
-        ErrorAnswer::Refused(_) => false,
+        Err(_) => false,
     }
 }
 
-pub fn tick_says(answer: TickAnswer, stated: Stated) -> bool
+pub fn tick_says(answer: Result<DllErrors, Refusal>, stated: Stated) -> bool
     ensures { Exactly result (tick_said answer ≡ tick_stated stated) }
 {
     match answer {
-        TickAnswer::Taken(errors) => are(errors, stated),
-        TickAnswer::Refused(_) => false,
+        Ok(errors) => are(errors, stated),
+        Err(_) => false,
     }
 }
 
-pub fn is_taken(answer: CallAnswer) -> bool
+pub fn is_taken(answer: Result<(), Refusal>) -> bool
     ensures { Exactly result (said answer ≡ taken) }
 {
     match answer {
-        CallAnswer::Taken => true,
-        CallAnswer::Refused(_) => false,
+        Ok(()) => true,
+        Err(_) => false,
     }
 }

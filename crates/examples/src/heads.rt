@@ -20,7 +20,7 @@ use head::parts::{
     clear, set_capacity, set_counter, set_dll, set_earliest, set_history, set_identity, set_nmt,
     set_od, set_queue, set_soc, set_thresholds,
 };
-use head::state::{Deadline, Dictionary, Head, ObjectValue, SocWatch};
+use head::state::{Dictionary, Head, SocWatch};
 use nmt::cn_state_machine::CnNmtStateMachine;
 use types::nmt::flags::FeatureFlags;
 use types::nmt::states::NmtState;
@@ -39,8 +39,8 @@ pub fn values(
 {
     Dictionary {
         error_register,
-        cycle_time: ObjectValue::Unsigned32(1000),
-        tolerance: ObjectValue::Unsigned32(100000),
+        cycle_time: Some(1000),
+        tolerance: Some(100000),
         counter_1,
         counter_2,
         counter_3,
@@ -109,11 +109,11 @@ pub fn awaiting(head: &mut Head, earliest: u64, beats: u32, beat: u32)
     let od = values(0, 0, 0, 0, 0);
     write(head, NmtState::NmtOperational, false, true, od);
     set_counter(head, CounterKind::HeartbeatTimeout, counter(beats, 0, beat));
-    set_earliest(head, Deadline::At(earliest));
+    set_earliest(head, Some(earliest));
 }
 
 // WaitSoc, with the last SoC at 10,000.
-fn write_cycle(head: &mut Head, check: bool, next_tick_us: Deadline, changed: bool)
+fn write_cycle(head: &mut Head, check: bool, next_tick_us: Option<u64>, changed: bool)
     ensures { head.new ≡ soc_written (set head.old at.dll 1) (soc_watch 10000 check next_tick_us changed) }
 {
     set_dll(
@@ -139,7 +139,7 @@ pub fn cycling(head: &mut Head, deadline: u64, level: u32, lost: u32)
 {
     let od = values(0, lost, 0, 0, 0);
     write(head, NmtState::NmtOperational, false, true, od);
-    write_cycle(head, true, Deadline::At(deadline), false);
+    write_cycle(head, true, Some(deadline), false);
     set_counter(head, CounterKind::LossOfSoc, counter(lost, 0, level));
 }
 
@@ -149,7 +149,7 @@ pub fn crossed(head: &mut Head)
 {
     let od = values(1, 2, 1, 0, 1);
     write(head, NmtState::NmtPreOperational1, false, true, od);
-    write_cycle(head, false, Deadline::Nothing, true);
+    write_cycle(head, false, None, true);
     set_counter(head, CounterKind::LossOfSoc, counter(2, 1, 0));
     set_queue(
         head,

@@ -2,12 +2,12 @@
 ghost use Rattle.std.specs.Prelude.{◌≡◌, [], ◌∷◌};
 ghost use Rattle.entries.specs.Queue.{waiting};
 ghost use Rattle.entries.specs.History.{history};
-ghost use Rattle.entries.specs.declared.status_response.FoundEntry.TheVariants as a-found;
+ghost use Rattle.std.specs.declared.option.Option.TheVariants.{Some, None};
 ghost use Rattle.head.specs.Words.{queue_of, history_of};
 ghost use Rattle.examples.specs.Same.{Exactly};
 ghost use Rattle.examples.specs.Said.{entry_of};
 
-use entries::status_response::{ErrorEntry, FoundEntry};
+use entries::status_response::ErrorEntry;
 use head::parts::{history_of, queue_of};
 use head::state::Head;
 
@@ -27,21 +27,21 @@ fn is_entry(entry: ErrorEntry, code: u16, seconds: u32, nanoseconds: u32) -> boo
         & (entry.additional_information == 0)
 }
 
-fn is_found(found: FoundEntry, code: u16, seconds: u32, nanoseconds: u32) -> bool
-    ensures { Exactly result (found ≡ a-found.Entry (entry_of code seconds nanoseconds)) }
+fn is_found(found: Option<ErrorEntry>, code: u16, seconds: u32, nanoseconds: u32) -> bool
+    ensures { Exactly result (found ≡ Some (entry_of code seconds nanoseconds)) }
 {
     match found {
-        FoundEntry::Entry(entry) => is_entry(entry, code, seconds, nanoseconds),
-        FoundEntry::None => false,
+        Some(entry) => is_entry(entry, code, seconds, nanoseconds),
+        None => false,
     }
 }
 
-fn is_none(found: FoundEntry) -> bool
-    ensures { Exactly result (found ≡ a-found.None) }
+fn is_none(found: Option<ErrorEntry>) -> bool
+    ensures { Exactly result (found ≡ None) }
 {
     match found {
-        FoundEntry::Entry(_) => false,
-        FoundEntry::None => true,
+        Some(_) => false,
+        None => true,
     }
 }
 

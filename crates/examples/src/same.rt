@@ -6,7 +6,7 @@ ghost use Rattle.examples.specs.Same.{Exactly, same_nmt, same_dll, same_counter,
 
 use counters::counters::ThresholdCounter;
 use head::parts::{dll_of, earliest_of, errors_of, history_of, nmt_of, od_of, queue_of, soc_of};
-use head::state::{Deadline, Head, ObjectValue};
+use head::state::Head;
 
 fn same_nmt(a: &Head, b: &Head) -> bool
     ensures { result ≡ same_nmt (nmt_of a.now) (nmt_of b.now) }
@@ -57,17 +57,17 @@ fn same_errors(a: &Head, b: &Head) -> bool
         & (x.loss_of_link_cumulative == y.loss_of_link_cumulative)
 }
 
-fn same_deadline(x: Deadline, y: Deadline) -> bool
+fn same_deadline(x: Option<u64>, y: Option<u64>) -> bool
     ensures { result ≡ same_deadline x y }
 {
     match x {
-        Deadline::At(t) => match y {
-            Deadline::At(u) => t == u,
-            Deadline::Nothing => false,
+        Some(t) => match y {
+            Some(u) => t == u,
+            None => false,
         },
-        Deadline::Nothing => match y {
-            Deadline::At(_) => false,
-            Deadline::Nothing => true,
+        None => match y {
+            Some(_) => false,
+            None => true,
         },
     }
 }
@@ -85,17 +85,17 @@ fn same_soc(a: &Head, b: &Head) -> bool
         & (x.error_status_changed == y.error_status_changed)
 }
 
-fn same_object(x: ObjectValue, y: ObjectValue) -> bool
+fn same_object(x: Option<u32>, y: Option<u32>) -> bool
     ensures { result ≡ same_object x y }
 {
     match x {
-        ObjectValue::Unsigned32(n) => match y {
-            ObjectValue::Unsigned32(m) => n == m,
-            ObjectValue::Missing => false,
+        Some(n) => match y {
+            Some(m) => n == m,
+            None => false,
         },
-        ObjectValue::Missing => match y {
-            ObjectValue::Unsigned32(_) => false,
-            ObjectValue::Missing => true,
+        None => match y {
+            Some(_) => false,
+            None => true,
         },
     }
 }

@@ -18,14 +18,12 @@ use Rattle.entries.specs.Queue.{queue}
 use Rattle.entries.specs.declared.emergency_queue.EmergencyQueue.{EmergencyQueue}
 use Rattle.entries.specs.History.{error_history}
 use Rattle.entries.specs.declared.error_history.ErrorHistory.{ErrorHistory}
-use Rattle.head.specs.declared.state.Deadline.{Deadline}
-use Rattle.head.specs.declared.state.ObjectValue.{ObjectValue}
-use Rattle.head.specs.declared.state.ObjectValue.TheVariants.{Unsigned32, Missing}
+use Rattle.std.specs.declared.option.Option.{Option}
+use Rattle.std.specs.declared.option.Option.TheVariants.{Some, None}
 use Rattle.head.specs.declared.state.Object.{Object}
 use Rattle.head.specs.declared.state.Object.TheVariants.{CycleTime, Tolerance}
 use Rattle.head.specs.declared.state.Statistic.{Statistic}
 use Rattle.head.specs.declared.state.Statistic.TheVariants.{Counter1, Counter2, Counter3, Counter5}
-use Rattle.head.specs.declared.state.Deadline.TheVariants.{At, Nothing}
 use Rattle.head.specs.Head.{forgetting, Head, soc_watch, with_register, with_object, with_statistic, head_with_nmt, head_with_dll, head_with_errors, head_with_soc, head_with_values, head_with_od, head_with_queue, head_with_earliest}
 use Rattle.head.specs.Places as at
 use Rattle.head.specs.Words.{word, yes, one, time_of, state_of, nmt_of, dll_state, counter_at, errors_of, deadline_of, head_of}
@@ -83,7 +81,7 @@ SocRead l h c g d a b ws =
 abbrev NoDeadlineRead : ℕ → ℕ → ℕ → ℕ → List ℕ → Type 0
 NoDeadlineRead l h c g ws =
     head_of (set (set (set (set (set ws at.last_soc l) (at.last_soc + 1) h) at.check c) at.changed g) at.due 0)
-    ≡ head_with_soc (head_of ws) (soc_watch (time_of l h) (yes c) Nothing (yes g))
+    ≡ head_with_soc (head_of ws) (soc_watch (time_of l h) (yes c) None (yes g))
 
 abbrev QueueRead : ℕ → ℕ → List ℕ → Type 0
 QueueRead o n ws =
@@ -92,7 +90,7 @@ QueueRead o n ws =
 abbrev RegisterRead : ℕ → List ℕ → Type 0
 RegisterRead n ws = head_of (set ws at.register n) ≡ head_with_od (head_of ws) (with_register (n % 256) (head_of ws).od)
 
-abbrev ObjectRead : Object → ObjectValue → List ℕ → Type 0
+abbrev ObjectRead : Object → Option ℕ → List ℕ → Type 0
 ObjectRead o v ws = head_of (object_written ws (at.object o) v) ≡ head_with_od (head_of ws) (with_object o v (head_of ws).od)
 
 abbrev StatisticRead : Statistic → ℕ → List ℕ → Type 0
@@ -107,7 +105,7 @@ EarliestRead d a b ws =
     head_of (set (set (set ws at.awaited d) at.earliest a) (at.earliest + 1) b) ≡ head_with_earliest (head_of ws) (deadline_of (yes d) (time_of a b))
 
 abbrev NoEarliestRead : List ℕ → Type 0
-NoEarliestRead ws = head_of (set ws at.awaited 0) ≡ head_with_earliest (head_of ws) Nothing
+NoEarliestRead ws = head_of (set ws at.awaited 0) ≡ head_with_earliest (head_of ws) None
 
 -- the watch with its status changed, and the register and counter 5 replaced
 abbrev pub with_signal : Head → ℕ → ℕ → Head
@@ -194,12 +192,12 @@ module _ (ws : List ℕ) (long : length ws ≡ 60) where
   no_deadline_read l h c g = whole (NoDeadlineRead l h c g) ws long refl
 
   -- any watch
-  pub soc_written_lem : (l : ℕ) (on : Bool) (d : Deadline) (changed : Bool) → head_of (soc_written ws (soc_watch l on d changed)) ≡ head_with_soc (head_of ws) (soc_watch l on d changed)
-  soc_written_lem l on (At t) changed =
+  pub soc_written_lem : (l : ℕ) (on : Bool) (d : Option ℕ) (changed : Bool) → head_of (soc_written ws (soc_watch l on d changed)) ≡ head_with_soc (head_of ws) (soc_watch l on d changed)
+  soc_written_lem l on (Some t) changed =
       soc_read _ _ _ _ 1 _ _
-      ∙ (λ i. head_with_soc (head_of ws) (soc_watch (time_back l i) (yes_one on i) (At (time_back t i)) (yes_one changed i)))
-  soc_written_lem l on Nothing changed =
-      no_deadline_read _ _ _ _ ∙ (λ i. head_with_soc (head_of ws) (soc_watch (time_back l i) (yes_one on i) Nothing (yes_one changed i)))
+      ∙ (λ i. head_with_soc (head_of ws) (soc_watch (time_back l i) (yes_one on i) (Some (time_back t i)) (yes_one changed i)))
+  soc_written_lem l on None changed =
+      no_deadline_read _ _ _ _ ∙ (λ i. head_with_soc (head_of ws) (soc_watch (time_back l i) (yes_one on i) None (yes_one changed i)))
 
   pub forgotten_written_lem : head_of (forgotten_written ws) ≡ forgetting (head_of ws)
   unfolding head_of
@@ -238,12 +236,12 @@ module _ (ws : List ℕ) (long : length ws ≡ 60) where
       let e : n % 256 ≡ n = omega arith in
       register_read n ∙ ap (λ (n : ℕ). head_with_od (head_of ws) (with_register n (head_of ws).od)) e
 
-  pub object_written_lem : (o : Object) (v : ObjectValue) → ObjectRead o v ws
+  pub object_written_lem : (o : Object) (v : Option ℕ) → ObjectRead o v ws
   unfolding head_of
-  object_written_lem CycleTime (Unsigned32 n) = whole (ObjectRead CycleTime (Unsigned32 n)) ws long refl
-  object_written_lem CycleTime Missing = whole (ObjectRead CycleTime Missing) ws long refl
-  object_written_lem Tolerance (Unsigned32 n) = whole (ObjectRead Tolerance (Unsigned32 n)) ws long refl
-  object_written_lem Tolerance Missing = whole (ObjectRead Tolerance Missing) ws long refl
+  object_written_lem CycleTime (Some n) = whole (ObjectRead CycleTime (Some n)) ws long refl
+  object_written_lem CycleTime None = whole (ObjectRead CycleTime None) ws long refl
+  object_written_lem Tolerance (Some n) = whole (ObjectRead Tolerance (Some n)) ws long refl
+  object_written_lem Tolerance None = whole (ObjectRead Tolerance None) ws long refl
 
   pub statistic_written : (s : Statistic) (n : ℕ) → StatisticRead s n ws
   unfolding head_of
@@ -271,6 +269,6 @@ module _ (ws : List ℕ) (long : length ws ≡ 60) where
   unfolding head_of
   no_earliest_read = whole NoEarliestRead ws long refl
 
-  pub earliest_written_lem : (d : Deadline) → head_of (earliest_written ws d) ≡ head_with_earliest (head_of ws) d
-  earliest_written_lem (At t) = earliest_read 1 _ _ ∙ (λ i. head_with_earliest (head_of ws) (At (time_back t i)))
-  earliest_written_lem Nothing = no_earliest_read
+  pub earliest_written_lem : (d : Option ℕ) → head_of (earliest_written ws d) ≡ head_with_earliest (head_of ws) d
+  earliest_written_lem (Some t) = earliest_read 1 _ _ ∙ (λ i. head_with_earliest (head_of ws) (Some (time_back t i)))
+  earliest_written_lem None = no_earliest_read

@@ -7,9 +7,8 @@ use Rattle.dll.specs.declared.cs_state_machine.DllCsState.TheVariants.{NonCyclic
 use Rattle.counters.specs.declared.counters.CnErrorCounters.{CnErrorCounters}
 use Rattle.entries.specs.declared.emergency_queue.EmergencyQueue.{EmergencyQueue}
 use Rattle.entries.specs.declared.error_history.ErrorHistory.{ErrorHistory}
-use Rattle.head.specs.declared.state.Deadline.{Deadline}
-use Rattle.head.specs.declared.state.Deadline.TheVariants.{Nothing}
-use Rattle.head.specs.declared.state.ObjectValue.{ObjectValue}
+use Rattle.std.specs.declared.option.Option.{Option}
+use Rattle.std.specs.declared.option.Option.TheVariants.{None}
 use Rattle.head.specs.declared.state.Object.{Object}
 use Rattle.head.specs.declared.state.Object.TheVariants.{CycleTime, Tolerance}
 use Rattle.head.specs.declared.state.Statistic.{Statistic}
@@ -27,9 +26,9 @@ pub record Head : Type 0 where
   pub queue : EmergencyQueue
   pub history : ErrorHistory
   -- "The head shows the earliest moment at which a watched node would be late" (document 02, No. 1)
-  pub earliest : Deadline
+  pub earliest : Option ℕ
 
-abbrev pub soc_watch : ℕ → Bool → Deadline → Bool → SocWatch
+abbrev pub soc_watch : ℕ → Bool → Option ℕ → Bool → SocWatch
 soc_watch t on d changed =
     record {
       last_soc_reception_time_us = t;
@@ -38,7 +37,7 @@ soc_watch t on d changed =
       error_status_changed = changed;
     }
 
-abbrev pub dictionary : ℕ → ObjectValue → ObjectValue → ℕ → ℕ → ℕ → ℕ → Dictionary
+abbrev pub dictionary : ℕ → Option ℕ → Option ℕ → ℕ → ℕ → ℕ → ℕ → Dictionary
 dictionary r x y a b c d =
     record {
       error_register = r;
@@ -51,7 +50,7 @@ dictionary r x y a b c d =
     }
 
 -- a value of the dictionary, and the dictionary with it replaced
-abbrev pub object_in : Object → Dictionary → ObjectValue
+abbrev pub object_in : Object → Dictionary → Option ℕ
 object_in CycleTime o = o.cycle_time
 object_in Tolerance o = o.tolerance
 
@@ -65,7 +64,7 @@ abbrev pub with_register : ℕ → Dictionary → Dictionary
 with_register r o =
     dictionary r o.cycle_time o.tolerance o.counter_1 o.counter_2 o.counter_3 o.counter_5
 
-abbrev pub with_object : Object → ObjectValue → Dictionary → Dictionary
+abbrev pub with_object : Object → Option ℕ → Dictionary → Dictionary
 with_object CycleTime v o =
     dictionary o.error_register v o.tolerance o.counter_1 o.counter_2 o.counter_3 o.counter_5
 with_object Tolerance v o =
@@ -81,12 +80,12 @@ with_statistic Counter3 n o =
 with_statistic Counter5 n o =
     dictionary o.error_register o.cycle_time o.tolerance o.counter_1 o.counter_2 o.counter_3 n
 
-abbrev pub of_parts : CnNmtStateMachine → DllCsStateMachine → CnErrorCounters → SocWatch → Dictionary → EmergencyQueue → ErrorHistory → Deadline → Head
+abbrev pub of_parts : CnNmtStateMachine → DllCsStateMachine → CnErrorCounters → SocWatch → Dictionary → EmergencyQueue → ErrorHistory → Option ℕ → Head
 of_parts n d e s o q h x = record { nmt = n; dll = d; errors = e; soc = s; od = o; queue = q; history = h; earliest = x }
 
 -- what a reset forgets of the watch: the deadline and the check
 abbrev pub forgotten : SocWatch → SocWatch
-forgotten s = soc_watch s.last_soc_reception_time_us false Nothing s.error_status_changed
+forgotten s = soc_watch s.last_soc_reception_time_us false None s.error_status_changed
 
 -- the head with one of its parts replaced
 module _ (h : Head) where
@@ -115,5 +114,5 @@ module _ (h : Head) where
   abbrev pub head_with_queue : EmergencyQueue → Head
   head_with_queue q = of_parts h.nmt h.dll h.errors h.soc h.od q h.history h.earliest
 
-  abbrev pub head_with_earliest : Deadline → Head
+  abbrev pub head_with_earliest : Option ℕ → Head
   head_with_earliest d = of_parts h.nmt h.dll h.errors h.soc h.od h.queue h.history d

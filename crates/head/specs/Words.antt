@@ -8,8 +8,11 @@ use Rattle.types.specs.Types as Types
 use Rattle.types.specs.Flags as Flags
 use Rattle.types.specs.declared.nmt.states.NmtState.{NmtState}
 use Rattle.types.specs.declared.nmt.states.NmtState.TheVariants.{NmtGsOff}
-use Rattle.types.specs.declared.nmt.states.NmtStateRead.{NmtStateRead}
-use Rattle.types.specs.declared.nmt.states.NmtStateRead.TheVariants as state-read
+use Rattle.std.specs.declared.result.Result.{Result}
+use Rattle.std.specs.declared.option.Option.{Option}
+use Rattle.std.specs.declared.result.Result.TheVariants.{Ok, Err}
+use Rattle.std.specs.declared.option.Option.TheVariants.{Some, None}
+use Rattle.types.specs.declared.refusals.Refusal.{Refusal}
 use Rattle.nmt.specs.declared.cn_state_machine.CnNmtStateMachine.{CnNmtStateMachine}
 use Rattle.dll.specs.Dll.{cs_state_number}
 use Rattle.dll.specs.declared.cs_state_machine.DllCsState.{DllCsState}
@@ -22,10 +25,6 @@ use Rattle.entries.specs.Queue.{queue}
 use Rattle.entries.specs.History.{error_history}
 use Rattle.entries.specs.declared.emergency_queue.EmergencyQueue.{EmergencyQueue}
 use Rattle.entries.specs.declared.error_history.ErrorHistory.{ErrorHistory}
-use Rattle.head.specs.declared.state.Deadline.{Deadline}
-use Rattle.head.specs.declared.state.Deadline.TheVariants.{At, Nothing}
-use Rattle.head.specs.declared.state.ObjectValue.{ObjectValue}
-use Rattle.head.specs.declared.state.ObjectValue.TheVariants.{Unsigned32, Missing}
 use Rattle.head.specs.declared.state.SocWatch.{SocWatch}
 use Rattle.head.specs.declared.state.Dictionary.{Dictionary}
 use Rattle.head.specs.Head.{Head}
@@ -49,9 +48,9 @@ time_of low high = low + 4294967296 * high
 abbrev pub time_at : List ℕ → ℕ → ℕ
 time_at ws i = time_of (word ws i) (word ws (i + 1))
 
-abbrev pub state_read : NmtStateRead → NmtState
-state_read (state-read.Taken s) = s
-state_read (state-read.Refused r) = NmtGsOff
+abbrev pub state_read : Result NmtState Refusal → NmtState
+state_read (Ok s) = s
+state_read (Err r) = NmtGsOff
 
 abbrev pub state_of : ℕ → NmtState
 state_of n = state_read (read_state n)
@@ -76,9 +75,9 @@ counter_at ws i = counter_of (word ws i) (word ws (i + 1)) (word ws (i + 2)) (wo
 abbrev pub errors_of : List ℕ → CnErrorCounters
 errors_of ws = by_kind (λ (k : CounterKind). counter_at ws (at.counter k)) (word ws at.links)
 
-abbrev pub deadline_of : Bool → ℕ → Deadline
-deadline_of true t = At t
-deadline_of false t = Nothing
+abbrev pub deadline_of : Bool → ℕ → Option ℕ
+deadline_of true t = Some t
+deadline_of false t = None
 
 abbrev pub soc_of : List ℕ → SocWatch
 soc_of ws =
@@ -86,11 +85,11 @@ soc_of ws =
     (deadline_of (yes (word ws at.due)) (time_at ws at.deadline))
     (yes (word ws at.changed))
 
-abbrev pub object_of : Bool → ℕ → ObjectValue
-object_of true n = Unsigned32 n
-object_of false n = Missing
+abbrev pub object_of : Bool → ℕ → Option ℕ
+object_of true n = Some n
+object_of false n = None
 
-abbrev pub object_at : List ℕ → ℕ → ObjectValue
+abbrev pub object_at : List ℕ → ℕ → Option ℕ
 object_at ws i = object_of (yes (word ws i)) (word ws (i + 1))
 
 abbrev pub od_of : List ℕ → Dictionary
@@ -111,7 +110,7 @@ queue_of ws = queue (word ws at.oldest % 256) (word ws at.queued % 256) (word ws
 abbrev pub history_of : List ℕ → ErrorHistory
 history_of ws = error_history (word ws at.newest % 256) (word ws at.count % 256)
 
-abbrev pub earliest_of : List ℕ → Deadline
+abbrev pub earliest_of : List ℕ → Option ℕ
 earliest_of ws = deadline_of (yes (word ws at.awaited)) (time_at ws at.earliest)
 
 unfoldable pub head_of : List ℕ → Head

@@ -12,10 +12,8 @@ use Rattle.counters.specs.declared.counters.ThresholdCounter.{ThresholdCounter}
 use Rattle.counters.specs.declared.counters.CnErrorCounters.{CnErrorCounters}
 use Rattle.entries.specs.declared.emergency_queue.EmergencyQueue.{EmergencyQueue}
 use Rattle.entries.specs.declared.error_history.ErrorHistory.{ErrorHistory}
-use Rattle.head.specs.declared.state.Deadline.{Deadline}
-use Rattle.head.specs.declared.state.Deadline.TheVariants.{At, Nothing}
-use Rattle.head.specs.declared.state.ObjectValue.{ObjectValue}
-use Rattle.head.specs.declared.state.ObjectValue.TheVariants.{Unsigned32, Missing}
+use Rattle.std.specs.declared.option.Option.{Option}
+use Rattle.std.specs.declared.option.Option.TheVariants.{Some, None}
 use Rattle.head.specs.declared.state.Dictionary.{Dictionary}
 use Rattle.head.specs.declared.state.SocWatch.{SocWatch}
 use Rattle.head.specs.Places as at
@@ -45,13 +43,13 @@ abbrev pub time_written : List ℕ → ℕ → ℕ → List ℕ
 time_written ws i t = slice_set (slice_set ws i (t % 4294967296)) (i + 1) (t / 4294967296)
 
 -- where there is no moment, its time stays as it was
-abbrev pub deadline_written : List ℕ → Deadline → List ℕ
-deadline_written ws (At t) = time_written (slice_set ws at.due 1) at.deadline t
-deadline_written ws Nothing = slice_set ws at.due 0
+abbrev pub deadline_written : List ℕ → Option ℕ → List ℕ
+deadline_written ws (Some t) = time_written (slice_set ws at.due 1) at.deadline t
+deadline_written ws None = slice_set ws at.due 0
 
-abbrev pub earliest_written : List ℕ → Deadline → List ℕ
-earliest_written ws (At t) = time_written (slice_set ws at.awaited 1) at.earliest t
-earliest_written ws Nothing = slice_set ws at.awaited 0
+abbrev pub earliest_written : List ℕ → Option ℕ → List ℕ
+earliest_written ws (Some t) = time_written (slice_set ws at.awaited 1) at.earliest t
+earliest_written ws None = slice_set ws at.awaited 0
 
 abbrev pub soc_written : List ℕ → SocWatch → List ℕ
 soc_written ws s =
@@ -62,7 +60,7 @@ soc_written ws s =
 
 -- what a reset forgets: no deadline, the check off, the DLL machine at NonCyclic
 abbrev pub forgotten_written : List ℕ → List ℕ
-forgotten_written ws = slice_set (slice_set (deadline_written ws Nothing) at.check 0) at.dll (cs_state_number NonCyclic)
+forgotten_written ws = slice_set (slice_set (deadline_written ws None) at.check 0) at.dll (cs_state_number NonCyclic)
 
 -- the capacity stays
 abbrev pub queue_written : List ℕ → EmergencyQueue → List ℕ
@@ -85,9 +83,9 @@ thresholds_written ws s =
     (threshold_written s LossOfSoa (threshold_written s LossOfSoc (threshold_written s Collision ws))))))
 
 -- where there is no value, its word stays as it was
-abbrev pub object_written : List ℕ → ℕ → ObjectValue → List ℕ
-object_written ws i (Unsigned32 n) = slice_set (slice_set ws i 1) (i + 1) n
-object_written ws i Missing = slice_set ws i 0
+abbrev pub object_written : List ℕ → ℕ → Option ℕ → List ℕ
+object_written ws i (Some n) = slice_set (slice_set ws i 1) (i + 1) n
+object_written ws i None = slice_set ws i 0
 
 abbrev pub od_written : List ℕ → Dictionary → List ℕ
 od_written ws o =

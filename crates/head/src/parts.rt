@@ -5,14 +5,14 @@ ghost use Rattle.head.specs.Places as at;
 ghost use Rattle.head.specs.Words.{word, yes, one, time_of, state_of, nmt_of, dll_state, counter_at, errors_of, deadline_of, soc_of, object_of, od_of, queue_of, history_of, earliest_of};
 ghost use Rattle.head.specs.Written.{forgotten_written, nmt_written, counter_written, levels_written, deadline_written, earliest_written, soc_written, queue_written, history_written, identity_written, thresholds_written, object_written, od_written};
 
-use crate::state::{Deadline, Dictionary, Head, Object, ObjectValue, SocWatch, Statistic};
+use crate::state::{Dictionary, Head, Object, SocWatch, Statistic};
 use counters::counters::{CnErrorCounters, CounterKind, ThresholdCounter};
 use dll::cs_state_machine::{DllCsState, DllCsStateMachine};
 use entries::emergency_queue::EmergencyQueue;
 use entries::error_history::ErrorHistory;
 use nmt::cn_state_machine::CnNmtStateMachine;
 use types::nmt::flags::FeatureFlags;
-use types::nmt::states::{NmtState, NmtStateRead};
+use types::nmt::states::NmtState;
 use types::types::NodeId;
 
 // The NMT machine.
@@ -135,8 +135,8 @@ fn state_of(word: u32) -> NmtState
     ensures { result ≡ state_of word }
 {
     match NmtState::try_from(word as u64) {
-        NmtStateRead::Taken(state) => state,
-        NmtStateRead::Refused(_) => NmtState::NmtGsOff,
+        Ok(state) => state,
+        Err(_) => NmtState::NmtGsOff,
     }
 }
 
@@ -280,13 +280,13 @@ pub fn set_levels(head: &mut Head, errors: CnErrorCounters)
     head[HEARTBEAT_TIMEOUT + 1] = errors.heartbeat_timeout.threshold_cnt;
 }
 
-fn deadline_of(due: bool, time: u64) -> Deadline
+fn deadline_of(due: bool, time: u64) -> Option<u64>
     ensures { result ≡ deadline_of due time }
 {
     if due {
-        return Deadline::At(time);
+        return Some(time);
     }
-    Deadline::Nothing
+    None
 }
 
 pub fn soc_of(head: &Head) -> SocWatch
@@ -304,17 +304,17 @@ pub fn soc_of(head: &Head) -> SocWatch
 }
 
 // Where there is no deadline, its time stays as it was.
-pub fn set_deadline(head: &mut Head, deadline: Deadline)
+pub fn set_deadline(head: &mut Head, deadline: Option<u64>)
     ensures { head.new ≡ deadline_written head.old deadline }
 {
     match deadline {
-        Deadline::At(time) => {
+        Some(time) => {
             head[DUE] = 1;
             head[DEADLINE] = low(time);
             head[DEADLINE_HIGH] = high(time);
             return;
         }
-        Deadline::Nothing => {
+        None => {
             head[DUE] = 0;
             return;
         }
@@ -333,13 +333,13 @@ pub fn set_soc(head: &mut Head, soc: SocWatch)
     set_deadline(head, deadline);
 }
 
-fn object_of(there: bool, value: u32) -> ObjectValue
+fn object_of(there: bool, value: u32) -> Option<u32>
     ensures { result ≡ object_of there value }
 {
     if there {
-        return ObjectValue::Unsigned32(value);
+        return Some(value);
     }
-    ObjectValue::Missing
+    None
 }
 
 pub fn od_of(head: &Head) -> Dictionary
@@ -411,7 +411,7 @@ pub fn set_history(head: &mut Head, history: ErrorHistory)
 }
 
 // The deadline, opened by its caller.
-pub fn deadline_at(head: &Head) -> Deadline
+pub fn deadline_at(head: &Head) -> Option<u64>
     ensures { result ≡ (soc_of head.now).next_tick_us }
 {
     deadline_of(head[DUE] != 0, time_of(head[DEADLINE], head[DEADLINE_HIGH]))
@@ -430,7 +430,7 @@ pub fn check_off(head: &mut Head)
 }
 
 // The earliest moment at which a watched node would be late.
-pub fn earliest_of(head: &Head) -> Deadline
+pub fn earliest_of(head: &Head) -> Option<u64>
     ensures { result ≡ earliest_of head.now }
 {
     deadline_of(
@@ -440,17 +440,17 @@ pub fn earliest_of(head: &Head) -> Deadline
 }
 
 // Where there is no moment, its time stays as it was.
-pub fn set_earliest(head: &mut Head, earliest: Deadline)
+pub fn set_earliest(head: &mut Head, earliest: Option<u64>)
     ensures { head.new ≡ earliest_written head.old earliest }
 {
     match earliest {
-        Deadline::At(time) => {
+        Some(time) => {
             head[AWAITED] = 1;
             head[EARLIEST] = low(time);
             head[EARLIEST_HIGH] = high(time);
             return;
         }
-        Deadline::Nothing => {
+        None => {
             head[AWAITED] = 0;
         }
     }
@@ -509,17 +509,17 @@ fn object_place(object: Object) -> usize
 }
 
 // Where there is no value, its word stays as it was.
-pub fn set_object(head: &mut Head, object: Object, value: ObjectValue)
+pub fn set_object(head: &mut Head, object: Object, value: Option<u32>)
     ensures { head.new ≡ object_written head.old (at.object object) value }
 {
     let place = object_place(object);
     match value {
-        ObjectValue::Unsigned32(n) => {
+        Some(n) => {
             head[place] = 1;
             head[place + 1] = n;
             return;
         }
-        ObjectValue::Missing => {
+        None => {
             head[place] = 0;
             return;
         }

@@ -3,26 +3,12 @@
 // The words of a head; specs/Places.antt says which is what.
 pub type Head = [u32; 60];
 
-// A moment in microseconds, or nothing.
-#[derive(Clone, Copy)]
-pub enum Deadline {
-    At(u64),
-    Nothing,
-}
-
-// A 32-bit value of the dictionary, or that the object is missing.
-#[derive(Clone, Copy)]
-pub enum ObjectValue {
-    Unsigned32(u32),
-    Missing,
-}
-
 // The watch over the cycle.
 #[derive(Clone, Copy)]
 pub struct SocWatch {
     pub last_soc_reception_time_us: u64,
     pub soc_timeout_check_active: bool,
-    pub next_tick_us: Deadline,
+    pub next_tick_us: Option<u64>,
     pub error_status_changed: bool,
 }
 
@@ -32,9 +18,9 @@ pub struct Dictionary {
     // 0x1001
     pub error_register: u8,
     // 0x1006, in microseconds
-    pub cycle_time: ObjectValue,
+    pub cycle_time: Option<u32>,
     // 0x1C14, in nanoseconds
-    pub tolerance: ObjectValue,
+    pub tolerance: Option<u32>,
     // 0x1102, counters 1, 2, 3 and 5
     pub counter_1: u32,
     pub counter_2: u32,

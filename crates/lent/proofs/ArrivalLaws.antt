@@ -19,8 +19,8 @@ use Rattle.watched.specs.declared.nodes.WatchedNode.{WatchedNode}
 use Rattle.watched.specs.Watched.{all_of, fits, well_formed, no_node, watched_node, is_watched, heard_at, place_of, watched_of, Run, run, watching, well_lent}
 use Rattle.watched.specs.Nodes.{rising, never, soonest}
 use Rattle.watched.proofs.Lists.{rising_all, watched_nowhere}
-use Rattle.node.specs.declared.calls.CallAnswer.{CallAnswer}
-use Rattle.node.specs.declared.calls.CallAnswer.TheVariants as answer
+use Rattle.std.specs.declared.result.Result.{Result}
+use Rattle.std.specs.declared.result.Result.TheVariants.{Ok, Err}
 use Rattle.node.specs.Steps.{earliest, removed}
 use Rattle.node.specs.InPlace.{unless_refused, moment_of}
 use Rattle.node.proofs.Moments.{all_fit, heard_fits, moment_of_lem}
@@ -238,16 +238,16 @@ module _ (a : Closing) (w : WatchedNode) where
   closes_one e v g l h = (λ i. record { node = g i; closing = closing_of true (h i) a.number a.node w }) ∙ sym (ap closes_by e)
 
 -- the calls, by what their tests say
-module _ (ws : List ℕ) (long : length ws ≡ 60) (k n : ℕ) (s : Surveyed) (f : Bool) (p : f ≡ passes s) (c : CallAnswer) (ws' : List ℕ) (w : ws' ≡ unless_refused c ws (earliest_written ws (moment_of s.found.soonest))) where
+module _ (ws : List ℕ) (long : length ws ≡ 60) (k n : ℕ) (s : Surveyed) (f : Bool) (p : f ≡ passes s) (c : Result (Unit {0}) Refusal) (ws' : List ℕ) (w : ws' ≡ unless_refused c ws (earliest_written ws (moment_of s.found.soonest))) where
   abbrev y : Setting
   y = Heard n 0
 
   -- what stays of a declined call, and what is written by one that is taken
-  unwritten : (x : Refusal) → c ≡ answer.Refused x → ws' ≡ ws
-  unwritten x g = w ∙ ap (λ (c : CallAnswer). unless_refused c ws (earliest_written ws (moment_of s.found.soonest))) g
+  unwritten : (x : Refusal) → c ≡ Err x → ws' ≡ ws
+  unwritten x g = w ∙ ap (λ (c : Result (Unit {0}) Refusal). unless_refused c ws (earliest_written ws (moment_of s.found.soonest))) g
 
-  written : c ≡ answer.Taken → ws' ≡ earliest_written ws (moment_of s.found.soonest)
-  written g = w ∙ ap (λ (c : CallAnswer). unless_refused c ws (earliest_written ws (moment_of s.found.soonest))) g
+  written : c ≡ (Ok tt) → ws' ≡ earliest_written ws (moment_of s.found.soonest)
+  written g = w ∙ ap (λ (c : Result (Unit {0}) Refusal). unless_refused c ws (earliest_written ws (moment_of s.found.soonest))) g
 
   module _ (vs : List WatchedNode) (z : s ≡ surveyed (for_partner k n) vs) where
     abbrev r : Run
@@ -291,21 +291,21 @@ module _ (ws : List ℕ) (long : length ws ≡ 60) (k n : ℕ) (s : Surveyed) (f
 
   -- add
   module _ (o : ℕ) (v : Bool) (a : v ≡ is_node n) (e : c ≡ add_answer v f o s.found.watched k) where
-    pub add_room : c ≡ answer.Taken → k < 32
+    pub add_room : c ≡ (Ok tt) → k < 32
     add_room g = ltb-true k 32 (Adding.add_passed v f o s.found.watched k (sym g ∙ e)).4
 
-    pub add_declined : (x : Refusal) → c ≡ answer.Refused x → (u : WatchedNode) → Adds ws k n o s (record { answer = answer.Refused x; carrying = carrying_of false 0 u }) ws' k
+    pub add_declined : (x : Refusal) → c ≡ Err x → (u : WatchedNode) → Adds ws k n o s (record { answer = Err x; carrying = carrying_of false 0 u }) ws' k
     add_declined x g u vs z =
-        subst (λ (l : List WatchedNode). AddedOn ws (run vs k) n o (answer.Refused x) ws' (run l k)) (sym (carry_off 0 u vs))
-        (subst (λ (l : List ℕ). AddedOn ws (run vs k) n o (answer.Refused x) l (run vs k)) (sym (unwritten x g)) (by f refl))
+        subst (λ (l : List WatchedNode). AddedOn ws (run vs k) n o (Err x) ws' (run l k)) (sym (carry_off 0 u vs))
+        (subst (λ (l : List ℕ). AddedOn ws (run vs k) n o (Err x) l (run vs k)) (sym (unwritten x g)) (by f refl))
       where
-        by : (b : Bool) → f ≡ b → AddedOn ws (run vs k) n o (answer.Refused x) ws (run vs k)
+        by : (b : Bool) → f ≡ b → AddedOn ws (run vs k) n o (Err x) ws (run vs k)
         by true h = Adding.add_declined ws (run vs k) n o v a f s.found.watched (lent vs z) (among vs z h) x (sym g ∙ e)
         by false h =
-            Adding.add_unformed ws (run vs k) n o v a (sym (lent vs z) ∙ h) s.found.watched k (answer.Refused x)
+            Adding.add_unformed ws (run vs k) n o v a (sym (lent vs z) ∙ h) s.found.watched k (Err x)
             (sym g ∙ e ∙ ap (λ (f : Bool). add_answer v f o s.found.watched k) h)
 
-    pub add_taken : c ≡ answer.Taken → Adds ws k n o s (record { answer = answer.Taken; carrying = carrying_of true k (watched_node n o 0) }) ws' (k + 1)
+    pub add_taken : c ≡ (Ok tt) → Adds ws k n o s (record { answer = (Ok tt); carrying = carrying_of true k (watched_node n o 0) }) ws' (k + 1)
     add_taken g vs z =
         let q = Adding.add_passed v f o s.found.watched k (sym g ∙ e) in
         let h : f ≡ true = q.1 in
@@ -317,19 +317,19 @@ module _ (ws : List ℕ) (long : length ws ≡ 60) (k n : ℕ) (s : Surveyed) (f
   -- removal
   module _ (e : c ≡ remove_answer f s.found.watched) where
     pub remove_declined :
-        (x : Refusal) → c ≡ answer.Refused x → (u : WatchedNode) → Removes ws k n s (record { answer = answer.Refused x; closing = closing_of false 0 0 n u }) ws' k
+        (x : Refusal) → c ≡ Err x → (u : WatchedNode) → Removes ws k n s (record { answer = Err x; closing = closing_of false 0 0 n u }) ws' k
     remove_declined x g u vs z =
-        subst (λ (l : List WatchedNode). RemovedOn ws (run vs k) n (answer.Refused x) ws' (run l k)) (sym (close_off 0 n u 0 vs))
-        (subst (λ (l : List ℕ). RemovedOn ws (run vs k) n (answer.Refused x) l (run vs k)) (sym (unwritten x g)) (by f refl))
+        subst (λ (l : List WatchedNode). RemovedOn ws (run vs k) n (Err x) ws' (run l k)) (sym (close_off 0 n u 0 vs))
+        (subst (λ (l : List ℕ). RemovedOn ws (run vs k) n (Err x) l (run vs k)) (sym (unwritten x g)) (by f refl))
       where
-        by : (b : Bool) → f ≡ b → RemovedOn ws (run vs k) n (answer.Refused x) ws (run vs k)
+        by : (b : Bool) → f ≡ b → RemovedOn ws (run vs k) n (Err x) ws (run vs k)
         by true h = Removing.remove_declined ws (run vs k) n f s.found.watched (lent vs z) (among vs z h) x (sym g ∙ e)
         by false h =
-            Removing.remove_unformed ws (run vs k) n (sym (lent vs z) ∙ h) s.found.watched (answer.Refused x)
+            Removing.remove_unformed ws (run vs k) n (sym (lent vs z) ∙ h) s.found.watched (Err x)
             (sym g ∙ e ∙ ap (λ (f : Bool). remove_answer f s.found.watched) h)
 
     pub remove_taken :
-        c ≡ answer.Taken → (u : WatchedNode) (k' : ℕ) → k' ≡ k - 1 → Removes ws k n s (record { answer = answer.Taken; closing = closing_of true 32 k n u }) ws' k'
+        c ≡ (Ok tt) → (u : WatchedNode) (k' : ℕ) → k' ≡ k - 1 → Removes ws k n s (record { answer = (Ok tt); closing = closing_of true 32 k n u }) ws' k'
     remove_taken g u k' less vs z =
         let q = Removing.remove_passed f s.found.watched (sym g ∙ e) in
         let h : f ≡ true = q.0 in

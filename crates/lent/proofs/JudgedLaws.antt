@@ -12,15 +12,15 @@ use Rattle.types.specs.declared.refusals.Refusal.TheVariants.{WatchedNodes, Time
 use Rattle.types.specs.declared.nmt.flags.FeatureFlags.{FeatureFlags}
 use Rattle.counters.specs.Counters.{new_counter}
 use Rattle.counters.specs.declared.counters.Thresholds.{Thresholds}
-use Rattle.head.specs.declared.state.Deadline.{Deadline}
+use Rattle.std.specs.declared.result.Result.{Result}
+use Rattle.std.specs.declared.option.Option.{Option}
+use Rattle.std.specs.declared.result.Result.TheVariants.{Ok, Err}
 use Rattle.head.specs.declared.state.Dictionary.{Dictionary}
 use Rattle.head.specs.Words.{nmt_of, head_of}
 use Rattle.head.specs.Written.{earliest_written}
 use Rattle.watched.specs.declared.nodes.WatchedNode.{WatchedNode}
 use Rattle.watched.specs.Watched.{in_time, all_of, fits, well_formed, is_watched, heard_at, watched_of, Run, run, watching, well_lent, changing, first}
 use Rattle.watched.proofs.Lists.{each_nodes, heard_nodes}
-use Rattle.node.specs.declared.calls.CallAnswer.{CallAnswer}
-use Rattle.node.specs.declared.calls.CallAnswer.TheVariants as answer
 use Rattle.node.specs.Plain.{heard}
 use Rattle.node.specs.Steps.{earliest}
 use Rattle.node.specs.Tick.{checks_heartbeats, looked, tick_taken}
@@ -35,7 +35,6 @@ use Rattle.start.specs.Started.{start_left, StartedOn, BeginsBy}
 use Rattle.heartbeats.specs.declared.dealt.Dealt.{Dealt}
 use Rattle.heartbeats.specs.PartsIn.{TicksIn}
 use Rattle.heartbeats.proofs.Beatings.{all_looked_fit}
-use Rattle.tick.specs.declared.tick.TickAnswer.TheVariants as tick-answer
 use Rattle.tick.specs.TickWords.{tick_words}
 use Rattle.tick.specs.TickIn.{TickedOn}
 use Rattle.tick.proofs.Tickings.{run_unformed, run_late, run_before, run_accepted}
@@ -54,7 +53,7 @@ left_as : {k : ℕ} (l l' : List WatchedNode) → l ≡ l' → run l k ≡ run l
 left_as {k} l l' e = ap (λ (l : List WatchedNode). run l k) e
 
 -- heard, by what its tests say
-module _ (ws : List ℕ) (long : length ws ≡ 60) (k n t : ℕ) (s : Surveyed) (f : Bool) (p : f ≡ passes s) (a : CallAnswer) (e : a ≡ heard_answer f t s.found.watched) (ws' : List ℕ) (w : ws' ≡ unless_refused a ws (earliest_written ws (moment_of s.found.soonest))) where
+module _ (ws : List ℕ) (long : length ws ≡ 60) (k n t : ℕ) (s : Surveyed) (f : Bool) (p : f ≡ passes s) (a : Result (Unit {0}) Refusal) (e : a ≡ heard_answer f t s.found.watched) (ws' : List ℕ) (w : ws' ≡ unless_refused a ws (earliest_written ws (moment_of s.found.soonest))) where
   module _ (vs : List WatchedNode) (z : s ≡ surveyed (for_heard k n t) vs) where
     abbrev r : Run
     r = run vs k
@@ -66,10 +65,10 @@ module _ (ws : List ℕ) (long : length ws ≡ 60) (k n t : ℕ) (s : Surveyed) 
     lent = seen_lent k n 0 y (new_counter 0) vs s z
 
     -- declined: no word is written, and no place
-    none : (x : Refusal) → a ≡ answer.Refused x → HeardOn ws r n t (answer.Refused x) ws r → HeardOn ws r n t (answer.Refused x) ws' (run (settled_all settles_nothing vs) k)
+    none : (x : Refusal) → a ≡ Err x → HeardOn ws r n t (Err x) ws r → HeardOn ws r n t (Err x) ws' (run (settled_all settles_nothing vs) k)
     none x g h =
-        subst (λ (l : List WatchedNode). HeardOn ws r n t (answer.Refused x) ws' (run l k)) (sym (set_none vs))
-        (subst (λ (l : List ℕ). HeardOn ws r n t (answer.Refused x) l r) (sym (w ∙ ap (λ (a : CallAnswer). unless_refused a ws (earliest_written ws (moment_of s.found.soonest))) g)) h)
+        subst (λ (l : List WatchedNode). HeardOn ws r n t (Err x) ws' (run l k)) (sym (set_none vs))
+        (subst (λ (l : List ℕ). HeardOn ws r n t (Err x) l r) (sym (w ∙ ap (λ (a : Result (Unit {0}) Refusal). unless_refused a ws (earliest_written ws (moment_of s.found.soonest))) g)) h)
 
     module _ (pass : f ≡ true) where
       passed : passes s ≡ true
@@ -81,7 +80,7 @@ module _ (ws : List ℕ) (long : length ws ≡ 60) (k n t : ℕ) (s : Surveyed) 
       formed : well_formed (watched_of vs k) ≡ true
       formed = seen_formed k n 0 y (new_counter 0) vs s z passed
 
-      taken : a ≡ answer.Taken → HeardOn ws r n t answer.Taken ws' (run (settled_all (settling_of k y) vs) k)
+      taken : a ≡ (Ok tt) → HeardOn ws r n t (Ok tt) ws' (run (settled_all (settling_of k y) vs) k)
       taken g =
           let q : f ≡ well_lent r = p ∙ lent in
           let i : in_time t ≡ true = (taken_passed ws r n t f s.found.watched q among (sym g ∙ e)).1 in
@@ -97,7 +96,7 @@ module _ (ws : List ℕ) (long : length ws ≡ 60) (k n t : ℕ) (s : Surveyed) 
           seen_moment k n 0 y (new_counter 0) vs s z passed (heard_at n t (watched_of vs k)) set (heard_fits n t (watched_of vs k) i (all_fit (watched_of vs k) formed))
           ∙ ap earliest (sym watched) in
           heard_taken ws r n t f s.found.watched q among (sym g ∙ e) long _ (left_as _ _ left) (moment_of s.found.soonest) moment ws'
-          (w ∙ ap (λ (a : CallAnswer). unless_refused a ws (earliest_written ws (moment_of s.found.soonest))) g)
+          (w ∙ ap (λ (a : Result (Unit {0}) Refusal). unless_refused a ws (earliest_written ws (moment_of s.found.soonest))) g)
 
     abbrev Leaves : Done → Type 0
     Leaves d = HeardOn ws r n t d.answer ws' (run (settled_all d.settling vs) k)
@@ -105,37 +104,37 @@ module _ (ws : List ℕ) (long : length ws ≡ 60) (k n t : ℕ) (s : Surveyed) 
     heard_left : Leaves (done_by a k y)
     heard_left = by f refl a refl
       where
-        by : (b : Bool) → f ≡ b → (c : CallAnswer) → a ≡ c → Leaves (done_by c k y)
-        by true x answer.Taken g = taken x g
-        by true x (answer.Refused u) g = none u g (heard_declined ws r n t f s.found.watched (p ∙ lent) (among x) u (sym g ∙ e))
+        by : (b : Bool) → f ≡ b → (c : Result (Unit {0}) Refusal) → a ≡ c → Leaves (done_by c k y)
+        by true x (Ok _) g = taken x g
+        by true x (Err u) g = none u g (heard_declined ws r n t f s.found.watched (p ∙ lent) (among x) u (sym g ∙ e))
         by false x c g =
-            let h : c ≡ answer.Refused WatchedNodes = sym g ∙ e ∙ ap (λ (f : Bool). heard_answer f t s.found.watched) x in
-            subst (λ (c : CallAnswer). Leaves (done_by c k y)) (sym h)
+            let h : c ≡ Err WatchedNodes = sym g ∙ e ∙ ap (λ (f : Bool). heard_answer f t s.found.watched) x in
+            subst (λ (c : Result (Unit {0}) Refusal). Leaves (done_by c k y)) (sym h)
             (none WatchedNodes (g ∙ h) (run_declined ws (heard n t r) r WatchedNodes (λ p₀. rw (sym lent ∙ sym p ∙ x))))
 
   pub heard_done : (r : Done) → r ≡ done_by a k (Heard n t) → Hears ws k n t s r ws'
   heard_done r d vs z = subst (Leaves vs z) (sym d) (heard_left vs z)
 
 -- start, by what its tests say
-module _ (ws : List ℕ) (k n : ℕ) (f : FeatureFlags) (t c : ℕ) (o : Dictionary) (ts : Thresholds) (s : Surveyed) (formed : Bool) (p : formed ≡ passes s) (a : CallAnswer) (ws' : List ℕ) (b : BeginsBy ws n f t c o ts formed a ws') where
-  unheard_by : (vs : List WatchedNode) (b : CallAnswer) → run (settled_all (done_by b k Unheard).settling vs) k ≡ start_left b (run vs k)
-  unheard_by vs answer.Taken = left_as _ _ (set_first k Unheard (settling_of k Unheard) vs refl refl)
-  unheard_by vs (answer.Refused r) = left_as _ _ (set_none vs)
+module _ (ws : List ℕ) (k n : ℕ) (f : FeatureFlags) (t c : ℕ) (o : Dictionary) (ts : Thresholds) (s : Surveyed) (formed : Bool) (p : formed ≡ passes s) (a : Result (Unit {0}) Refusal) (ws' : List ℕ) (b : BeginsBy ws n f t c o ts formed a ws') where
+  unheard_by : (vs : List WatchedNode) (b : Result (Unit {0}) Refusal) → run (settled_all (done_by b k Unheard).settling vs) k ≡ start_left b (run vs k)
+  unheard_by vs (Ok _) = left_as _ _ (set_first k Unheard (settling_of k Unheard) vs refl refl)
+  unheard_by vs (Err r) = left_as _ _ (set_none vs)
 
-  done_answer : (a : CallAnswer) → (done_by a k Unheard).answer ≡ a
-  done_answer answer.Taken = refl
-  done_answer (answer.Refused r) = refl
+  done_answer : (a : Result (Unit {0}) Refusal) → (done_by a k Unheard).answer ≡ a
+  done_answer (Ok _) = refl
+  done_answer (Err r) = refl
 
   pub start_done : (r : Done) → r ≡ done_by a k Unheard → Starts ws k n f t c o ts s r ws'
   start_done r d vs z =
       rw d
-      (subst (λ (b : CallAnswer). StartedOn ws (run vs k) n f t c o ts b ws' (run (settled_all (done_by a k Unheard).settling vs) k)) (sym (done_answer a))
+      (subst (λ (b : Result (Unit {0}) Refusal). StartedOn ws (run vs k) n f t c o ts b ws' (run (settled_all (done_by a k Unheard).settling vs) k)) (sym (done_answer a))
       (b.on (run vs k) (p ∙ seen_lent k 0 0 Unheard (new_counter 0) vs s z) _ (unheard_by vs a)))
 
 -- the tick: numbers 3, 5 and 6, and what is taken
 module _ (ws q m : List ℕ) (k t : ℕ) (s : Surveyed) (r : TickDone) where
   abbrev no_tick : Refusal → TickDone
-  no_tick x = record { answer = tick-answer.Refused x; settling = settles_nothing }
+  no_tick x = record { answer = Err x; settling = settles_nothing }
 
   abbrev Y : Setting
   Y = tick_sets ws t
@@ -144,9 +143,9 @@ module _ (ws q m : List ℕ) (k t : ℕ) (s : Surveyed) (r : TickDone) where
   C = checks_heartbeats (nmt_of ws).current_state
 
   tick_declined :
-      (x : Refusal) → r ≡ no_tick x → (vs : List WatchedNode) → TickedOn ws q m (run vs k) t (tick-answer.Refused x) ws q m (run vs k) →
+      (x : Refusal) → r ≡ no_tick x → (vs : List WatchedNode) → TickedOn ws q m (run vs k) t (Err x) ws q m (run vs k) →
       TickedOn ws q m (run vs k) t r.answer ws q m (run (settled_all r.settling vs) k)
-  tick_declined x d vs z = rw d (subst (λ (l : List WatchedNode). TickedOn ws q m (run vs k) t (tick-answer.Refused x) ws q m (run l k)) (sym (set_none vs)) z)
+  tick_declined x d vs z = rw d (subst (λ (l : List WatchedNode). TickedOn ws q m (run vs k) t (Err x) ws q m (run l k)) (sym (set_none vs)) z)
 
   lent_as : (b : Bool) → passes s ≡ b → (vs : List WatchedNode) → s ≡ surveyed (for_tick ws k t) vs → well_lent (run vs k) ≡ b
   lent_as b f vs e = sym (seen_lent k 0 t Y (beats_at ws) vs s e) ∙ f
@@ -206,7 +205,7 @@ module _ (ws q m : List ℕ) (k t : ℕ) (s : Surveyed) (r : TickDone) where
       pub tick_accepted :
           pick checks s.found.after true ≡ true → (d : Dealt) (ws₁ q' m' : List ℕ) →
           ((vs : List WatchedNode) → s.found.beats ≡ beats_all ws t vs → TicksIn ws q m (tick_taken (plain (head_of ws) q m) t vs) d ws₁ q' m' (tick_words ws q m t vs)) →
-          length ws₁ ≡ 60 → (x : Deadline) → x ≡ moment_of s.found.soonest → (ws' : List ℕ) → ws' ≡ earliest_written ws₁ x →
+          length ws₁ ≡ 60 → (x : Option ℕ) → x ≡ moment_of s.found.soonest → (ws' : List ℕ) → ws' ≡ earliest_written ws₁ x →
           r ≡ tick_done d k checks t → TicksBy ws q m k t s r ws' q' m'
       tick_accepted z d ws₁ q' m' w long x y ws' u g vs e =
           rw g

@@ -7,12 +7,12 @@ use Rattle.types.specs.declared.nmt.flags.FeatureFlags.{FeatureFlags}
 use Rattle.counters.specs.declared.counters.Thresholds.{Thresholds}
 use Rattle.head.specs.declared.state.Dictionary.{Dictionary}
 use Rattle.watched.specs.declared.nodes.WatchedNode.{WatchedNode}
-use Rattle.node.specs.declared.calls.CallAnswer.{CallAnswer}
-use Rattle.node.specs.declared.calls.CallAnswer.TheVariants as answer
+use Rattle.std.specs.declared.result.Result.{Result}
+use Rattle.std.specs.declared.result.Result.TheVariants.{Ok, Err}
+use Rattle.types.specs.declared.refusals.Refusal.{Refusal}
 use Rattle.node.specs.Heard.{HeardOn}
 use Rattle.start.specs.Started.{StartedOn}
 use Rattle.heartbeats.specs.declared.dealt.Dealt.{Dealt}
-use Rattle.tick.specs.declared.tick.TickAnswer.TheVariants.{Taken}
 use Rattle.tick.specs.TickIn.{TickedOn}
 use Rattle.watched.specs.Watched.{run}
 use Rattle.lent.specs.declared.run.Surveyed.{Surveyed}
@@ -27,9 +27,9 @@ use Rattle.lent.specs.Runs.{for_start, for_heard, for_tick, surveyed, settling_o
 abbrev pub settles_nothing : Settling
 settles_nothing = settling_of 0 Nothing
 
-abbrev pub done_by : CallAnswer → ℕ → Setting → Done
-done_by answer.Taken k y = record { answer = answer.Taken; settling = settling_of k y }
-done_by (answer.Refused r) k y = record { answer = answer.Refused r; settling = settles_nothing }
+abbrev pub done_by : Result (Unit {0}) Refusal → ℕ → Setting → Done
+done_by (Ok _) k y = record { answer = (Ok tt); settling = settling_of k y }
+done_by (Err r) k y = record { answer = Err r; settling = settles_nothing }
 
 abbrev pub Hears : List ℕ → ℕ → ℕ → ℕ → Surveyed → Done → List ℕ → Type 0
 Hears ws k n t s r ws' =
@@ -44,4 +44,4 @@ TicksBy ws q m k t s r ws' q' m' =
     (vs : List WatchedNode) → s ≡ surveyed (for_tick ws k t) vs → TickedOn ws q m (run vs k) t r.answer ws' q' m' (run (settled_all r.settling vs) k)
 
 abbrev pub tick_done : Dealt → ℕ → Bool → ℕ → TickDone
-tick_done d k checks t = record { answer = Taken d.logged; settling = settling_of k (pick checks (Looked t) Nothing) }
+tick_done d k checks t = record { answer = Ok d.logged; settling = settling_of k (pick checks (Looked t) Nothing) }

@@ -10,9 +10,9 @@ use crate::run::{Setting, Surveyed, ask, passes, survey};
 use counters::counters::ThresholdCounter;
 use head::parts::whole;
 use head::state::Head;
-use node::calls::CallAnswer;
 use partners::{is_known, try_add, try_remove};
 use watched::nodes::WatchedNode;
+use types::refusals::Refusal;
 
 // The record that takes the next place, where there is one: so many of the places ahead are watched.
 #[derive(Clone, Copy)]
@@ -47,13 +47,13 @@ pub struct Closed {
 // What a call answers, and what it sets.
 #[derive(Clone, Copy)]
 pub struct AddDone {
-    pub answer: CallAnswer,
+    pub answer: Result<(), Refusal>,
     pub carrying: Carrying,
 }
 
 #[derive(Clone, Copy)]
 pub struct RemoveDone {
-    pub answer: CallAnswer,
+    pub answer: Result<(), Refusal>,
     pub closing: Closing,
 }
 
@@ -216,10 +216,10 @@ pub fn add_by(
     );
     keep_moment(head, answer, seen.found.soonest);
     match answer {
-        CallAnswer::Taken => {
+        Ok(()) => {
             *number = count + 1;
             return AddDone {
-                answer: CallAnswer::Taken,
+                answer: Ok(()),
                 carrying: Carrying {
                     on: true,
                     left: count,
@@ -231,9 +231,9 @@ pub fn add_by(
                 },
             };
         }
-        CallAnswer::Refused(refusal) => {
+        Err(refusal) => {
             return AddDone {
-                answer: CallAnswer::Refused(refusal),
+                answer: Err(refusal),
                 carrying: Carrying {
                     on: false,
                     left: 0,
@@ -251,7 +251,7 @@ pub fn add(
     nodes: &mut [WatchedNode],
     node: u8,
     timeout: u64,
-) -> CallAnswer
+) -> Result<(), Refusal>
     ensures { AddedOn head.old (run nodes.old number.old) node timeout result head.new (run nodes.new number.new) }
 {
     let seen = survey(nodes, for_partner(number, node));
@@ -269,10 +269,10 @@ pub fn remove_by(head: &mut Head, number: &mut usize, node: u8, seen: Surveyed) 
     let answer = try_remove(passes(seen), seen.found.watched);
     keep_moment(head, answer, seen.found.soonest);
     match answer {
-        CallAnswer::Taken => {
+        Ok(()) => {
             *number = one_less(count);
             return RemoveDone {
-                answer: CallAnswer::Taken,
+                answer: Ok(()),
                 closing: Closing {
                     on: true,
                     left: 32,
@@ -282,9 +282,9 @@ pub fn remove_by(head: &mut Head, number: &mut usize, node: u8, seen: Surveyed) 
                 },
             };
         }
-        CallAnswer::Refused(refusal) => {
+        Err(refusal) => {
             return RemoveDone {
-                answer: CallAnswer::Refused(refusal),
+                answer: Err(refusal),
                 closing: Closing {
                     on: false,
                     left: 0,
@@ -303,7 +303,7 @@ pub fn remove(
     number: &mut usize,
     nodes: &mut [WatchedNode],
     node: u8,
-) -> CallAnswer
+) -> Result<(), Refusal>
     ensures { RemovedOn head.old (run nodes.old number.old) node result head.new (run nodes.new number.new) }
 {
     let seen = survey(nodes, for_partner(number, node));

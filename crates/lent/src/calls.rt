@@ -11,33 +11,33 @@ use crate::run::{Setting, Settling, Surveyed, for_heard, for_start, passes, sett
 use counters::counters::Thresholds;
 use head::parts::{set_earliest, whole};
 use head::state::{Dictionary, Head};
-use node::calls::CallAnswer;
 use node::heard::{moment, try_heard};
 use start::start::begin;
 use types::nmt::flags::FeatureFlags;
 use watched::nodes::WatchedNode;
+use types::refusals::Refusal;
 
 // What a call answers, and what it sets.
 #[derive(Clone, Copy)]
 pub struct Done {
-    pub answer: CallAnswer,
+    pub answer: Result<(), Refusal>,
     pub settling: Settling,
 }
 
 // What a call sets where it is taken; one that is declined sets nothing.
-fn set_if_taken(answer: CallAnswer, number: usize, setting: Setting) -> Done
+fn set_if_taken(answer: Result<(), Refusal>, number: usize, setting: Setting) -> Done
     ensures { result ≡ done_by answer number setting }
 {
     match answer {
-        CallAnswer::Taken => Done {
-            answer: CallAnswer::Taken,
+        Ok(()) => Done {
+            answer: Ok(()),
             settling: Settling {
                 left: number,
                 setting,
             },
         },
-        CallAnswer::Refused(refusal) => Done {
-            answer: CallAnswer::Refused(refusal),
+        Err(refusal) => Done {
+            answer: Err(refusal),
             settling: Settling {
                 left: 0,
                 setting: Setting::Nothing,
@@ -47,15 +47,15 @@ fn set_if_taken(answer: CallAnswer, number: usize, setting: Setting) -> Done
 }
 
 // The earliest moment, where a call is taken.
-pub fn keep_moment(head: &mut Head, answer: CallAnswer, soonest: u64)
+pub fn keep_moment(head: &mut Head, answer: Result<(), Refusal>, soonest: u64)
     ensures { head.new ≡ unless_refused answer head.old (earliest_written head.old (moment_of soonest)) }
 {
     match answer {
-        CallAnswer::Taken => {
+        Ok(()) => {
             set_earliest(head, moment(soonest));
             return;
         }
-        CallAnswer::Refused(_) => {}
+        Err(_) => {}
     }
 }
 
@@ -76,7 +76,7 @@ pub fn heard(
     number: usize,
     node: u8,
     time: u64,
-) -> CallAnswer
+) -> Result<(), Refusal>
     ensures { HeardOn head.old (run nodes.old number) node time result head.new (run nodes.new number) }
 {
     let seen = survey(nodes, for_heard(number, node, time));
@@ -124,7 +124,7 @@ pub fn start(
     queue_capacity: u64,
     od: Dictionary,
     thresholds: Thresholds,
-) -> CallAnswer
+) -> Result<(), Refusal>
     ensures { StartedOn head.old (run nodes.old number) node feature_flags basic_ethernet_timeout queue_capacity od thresholds result head.new (run nodes.new number) }
 {
     let seen = survey(nodes, for_start(number));

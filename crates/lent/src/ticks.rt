@@ -20,7 +20,7 @@ use head::state::Head;
 use heartbeats::dealt::{Dealt, finish, signal};
 use node::heard::moment;
 use tick::deadline::by_deadline;
-use tick::tick::{TickAnswer, checks_heartbeats};
+use tick::tick::checks_heartbeats;
 use types::frame::error::types::{DllError, DllErrors};
 use types::refusals::Refusal;
 use types::types::NodeId;
@@ -30,15 +30,15 @@ use watched::time::in_time;
 // What a tick answers, and what it sets.
 #[derive(Clone, Copy)]
 pub struct TickDone {
-    pub answer: TickAnswer,
+    pub answer: Result<DllErrors, Refusal>,
     pub settling: Settling,
 }
 
 fn not_taken(refusal: Refusal) -> TickDone
-    ensures { result ≡ record { answer = TickAnswer.Refused refusal; settling = settles_nothing } }
+    ensures { result ≡ record { answer = Result<DllErrors, Refusal>.Refused refusal; settling = settles_nothing } }
 {
     TickDone {
-        answer: TickAnswer::Refused(refusal),
+        answer: Err(refusal),
         settling: Settling {
             left: 0,
             setting: Setting::Nothing,
@@ -52,7 +52,7 @@ fn taken(dealt: Dealt, number: usize, checks: bool, time: u64) -> TickDone
     let logged = dealt.logged;
     let setting = look_if(checks, time);
     TickDone {
-        answer: TickAnswer::Taken(logged),
+        answer: Ok(logged),
         settling: Settling {
             left: number,
             setting,
@@ -152,7 +152,7 @@ pub fn process_tick(
     nodes: &mut [WatchedNode],
     number: usize,
     time: u64,
-) -> TickAnswer
+) -> Result<DllErrors, Refusal>
     ensures { TickedOn head.old queue.old history.old (run nodes.old number) time result head.new queue.new history.new (run nodes.new number) }
 {
     let seen = survey(nodes, for_tick(head, number, time));

@@ -12,20 +12,14 @@ use Rattle.types.specs.declared.frame.error.types.NmtAction.{NmtAction}
 use Rattle.types.specs.declared.frame.error.types.NmtAction.TheVariants.{None}
 use Rattle.nmt.specs.Resets.{Passed}
 use Rattle.nmt.proofs.Fixed.{passed_fixes}
-use Rattle.node.specs.declared.calls.CallAnswer.{CallAnswer}
-use Rattle.node.specs.declared.calls.CallAnswer.TheVariants as call_answer
-use Rattle.node.specs.declared.calls.NmtEventAnswer.{NmtEventAnswer}
-use Rattle.node.specs.declared.calls.NmtEventAnswer.TheVariants as nmt-answer
-use Rattle.node.specs.declared.calls.DllEventAnswer.{DllEventAnswer}
-use Rattle.node.specs.declared.calls.DllEventAnswer.TheVariants as dll-answer
-use Rattle.node.specs.declared.calls.ErrorAnswer.{ErrorAnswer}
-use Rattle.node.specs.declared.calls.ErrorAnswer.TheVariants as error-answer
+use Rattle.std.specs.declared.result.Result.{Result}
+use Rattle.std.specs.declared.result.Result.TheVariants.{Ok, Err}
+use Rattle.types.specs.declared.refusals.Refusal.{Refusal}
+use Rattle.node.specs.declared.calls.NmtTaken.{NmtTaken}
+use Rattle.types.specs.declared.frame.error.types.DllErrors.{DllErrors}
+use Rattle.node.specs.declared.calls.ErrorTaken.{ErrorTaken}
 use Rattle.node.specs.declared.range.SocVerdict.{SocVerdict}
 use Rattle.node.specs.declared.range.SocVerdict.TheVariants.{Open}
-use Rattle.node.specs.declared.range.RangeAnswer.{RangeAnswer}
-use Rattle.node.specs.declared.range.RangeAnswer.TheVariants as range-answer
-use Rattle.node.specs.declared.range.MarginAnswer.{MarginAnswer}
-use Rattle.node.specs.declared.range.MarginAnswer.TheVariants as margin-answer
 use Rattle.node.specs.Plain.{Call, Answer, refused, taken, nmt_answer, dll_answer, error_answer, cycle_answer, hand_out_answer, tick_answer, range_answer, margin_answer}
 use Rattle.node.specs.InPlace.{InPlace, said, nmt_said, dll_said, error_said, range_said, margin_said}
 
@@ -91,43 +85,43 @@ pub errors_of_lem : {a b : Answer} → a ≡ b → (parts a).errors ≡ (parts b
 errors_of_lem e = ap (λ (a : Answer). (parts a).errors) e
 
 -- and an answer of each kind is fixed by what it says
-pub said_fixed : (a b : CallAnswer) → said a ≡ said b → a ≡ b
-said_fixed call_answer.Taken call_answer.Taken e = refl
-said_fixed call_answer.Taken (call_answer.Refused s) e = apart (sym e) refl refl
-said_fixed (call_answer.Refused r) call_answer.Taken e = apart e refl refl
-said_fixed (call_answer.Refused r) (call_answer.Refused s) e = ap call_answer.Refused (number_fixes (refusal_of e))
+pub said_fixed : (a b : Result (Unit {0}) Refusal) → said a ≡ said b → a ≡ b
+said_fixed (Ok _) (Ok _) e = refl
+said_fixed (Ok _) (Err s) e = apart (sym e) refl refl
+said_fixed (Err r) (Ok _) e = apart e refl refl
+said_fixed (Err r) (Err s) e = ap Err (number_fixes (refusal_of e))
 
-pub nmt_said_fixed : (a b : NmtEventAnswer) → nmt_said a ≡ nmt_said b → a ≡ b
-nmt_said_fixed (nmt-answer.Taken t) (nmt-answer.Taken u) e =
+pub nmt_said_fixed : (a b : Result NmtTaken Refusal) → nmt_said a ≡ nmt_said b → a ≡ b
+nmt_said_fixed (Ok t) (Ok u) e =
     let r = reported_fixes t.errors u.errors (errors_of_lem e) in
     let p = passed_fixes t.reset u.reset (ap (λ (a : Answer). (parts a).reset) e) in
-    λ i. nmt-answer.Taken (record { errors = r i; reset = p i })
-nmt_said_fixed (nmt-answer.Taken t) (nmt-answer.Refused s) e = apart (sym e) refl refl
-nmt_said_fixed (nmt-answer.Refused r) (nmt-answer.Taken u) e = apart e refl refl
-nmt_said_fixed (nmt-answer.Refused r) (nmt-answer.Refused s) e = ap nmt-answer.Refused (number_fixes (refusal_of e))
+    λ i. Ok (record { errors = r i; reset = p i })
+nmt_said_fixed (Ok t) (Err s) e = apart (sym e) refl refl
+nmt_said_fixed (Err r) (Ok u) e = apart e refl refl
+nmt_said_fixed (Err r) (Err s) e = ap Err (number_fixes (refusal_of e))
 
-pub dll_said_fixed : (a b : DllEventAnswer) → dll_said a ≡ dll_said b → a ≡ b
-dll_said_fixed (dll-answer.Taken t) (dll-answer.Taken u) e = ap dll-answer.Taken (reported_fixes t u (errors_of_lem e))
-dll_said_fixed (dll-answer.Taken t) (dll-answer.Refused s) e = apart (sym e) refl refl
-dll_said_fixed (dll-answer.Refused r) (dll-answer.Taken u) e = apart e refl refl
-dll_said_fixed (dll-answer.Refused r) (dll-answer.Refused s) e = ap dll-answer.Refused (number_fixes (refusal_of e))
+pub dll_said_fixed : (a b : Result DllErrors Refusal) → dll_said a ≡ dll_said b → a ≡ b
+dll_said_fixed (Ok t) (Ok u) e = ap Ok (reported_fixes t u (errors_of_lem e))
+dll_said_fixed (Ok t) (Err s) e = apart (sym e) refl refl
+dll_said_fixed (Err r) (Ok u) e = apart e refl refl
+dll_said_fixed (Err r) (Err s) e = ap Err (number_fixes (refusal_of e))
 
-pub error_said_fixed : (a b : ErrorAnswer) → error_said a ≡ error_said b → a ≡ b
-error_said_fixed (error-answer.Taken t) (error-answer.Taken u) e =
+pub error_said_fixed : (a b : Result ErrorTaken Refusal) → error_said a ≡ error_said b → a ≡ b
+error_said_fixed (Ok t) (Ok u) e =
     let r = reported_fixes t.logged u.logged (errors_of_lem e) in
-    λ i. error-answer.Taken (record { action = (parts (e i)).action; signal = (parts (e i)).signal; logged = r i })
-error_said_fixed (error-answer.Taken t) (error-answer.Refused s) e = apart (sym e) refl refl
-error_said_fixed (error-answer.Refused r) (error-answer.Taken u) e = apart e refl refl
-error_said_fixed (error-answer.Refused r) (error-answer.Refused s) e = ap error-answer.Refused (number_fixes (refusal_of e))
+    λ i. Ok (record { action = (parts (e i)).action; signal = (parts (e i)).signal; logged = r i })
+error_said_fixed (Ok t) (Err s) e = apart (sym e) refl refl
+error_said_fixed (Err r) (Ok u) e = apart e refl refl
+error_said_fixed (Err r) (Err s) e = ap Err (number_fixes (refusal_of e))
 
-pub range_said_fixed : (a b : RangeAnswer) → range_said a ≡ range_said b → a ≡ b
-range_said_fixed (range-answer.Taken v) (range-answer.Taken w) e = ap (λ (a : Answer). range-answer.Taken (verdict_in a)) e
-range_said_fixed (range-answer.Taken v) (range-answer.Refused s) e = apart (sym e) refl refl
-range_said_fixed (range-answer.Refused r) (range-answer.Taken w) e = apart e refl refl
-range_said_fixed (range-answer.Refused r) (range-answer.Refused s) e = ap range-answer.Refused (number_fixes (refusal_of e))
+pub range_said_fixed : (a b : Result SocVerdict Refusal) → range_said a ≡ range_said b → a ≡ b
+range_said_fixed (Ok v) (Ok w) e = ap (λ (a : Answer). Ok (verdict_in a)) e
+range_said_fixed (Ok v) (Err s) e = apart (sym e) refl refl
+range_said_fixed (Err r) (Ok w) e = apart e refl refl
+range_said_fixed (Err r) (Err s) e = ap Err (number_fixes (refusal_of e))
 
-pub margin_said_fixed : (a b : MarginAnswer) → margin_said a ≡ margin_said b → a ≡ b
-margin_said_fixed (margin-answer.Taken y) (margin-answer.Taken z) e = ap (λ (a : Answer). margin-answer.Taken (margin_in a)) e
-margin_said_fixed (margin-answer.Taken y) (margin-answer.Refused s) e = apart (sym e) refl refl
-margin_said_fixed (margin-answer.Refused r) (margin-answer.Taken z) e = apart e refl refl
-margin_said_fixed (margin-answer.Refused r) (margin-answer.Refused s) e = ap margin-answer.Refused (number_fixes (refusal_of e))
+pub margin_said_fixed : (a b : Result ℤ Refusal) → margin_said a ≡ margin_said b → a ≡ b
+margin_said_fixed (Ok y) (Ok z) e = ap (λ (a : Answer). Ok (margin_in a)) e
+margin_said_fixed (Ok y) (Err s) e = apart (sym e) refl refl
+margin_said_fixed (Err r) (Ok z) e = apart e refl refl
+margin_said_fixed (Err r) (Err s) e = ap Err (number_fixes (refusal_of e))

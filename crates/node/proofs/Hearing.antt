@@ -12,11 +12,11 @@ use mathlib.Core.List.{List}
 use lib.ListN.{length, set}
 use Rattle.types.specs.declared.refusals.Refusal.{Refusal}
 use Rattle.types.specs.declared.refusals.Refusal.TheVariants.{WatchedNodes, TimeLimit, NotWatched}
-use Rattle.head.specs.declared.state.Deadline.{Deadline}
+use Rattle.std.specs.declared.result.Result.{Result}
+use Rattle.std.specs.declared.option.Option.{Option}
+use Rattle.std.specs.declared.result.Result.TheVariants.{Ok, Err}
 use Rattle.head.specs.Written.{earliest_written}
 use Rattle.watched.specs.declared.nodes.WatchedNode.{WatchedNode}
-use Rattle.node.specs.declared.calls.CallAnswer.{CallAnswer}
-use Rattle.node.specs.declared.calls.CallAnswer.TheVariants as answer
 use Rattle.watched.specs.Watched.{in_time, well_formed, no_node, is_watched, heard_at, place_of, watched_of, Run, run, watching, well_lent, changing}
 use Rattle.node.specs.Plain.{Plain, heard}
 use Rattle.node.specs.Steps.{declines, leaves, earliest}
@@ -31,35 +31,35 @@ use Rattle.node.proofs.OnRuns.{run_declined, run_taken}
 
 -- heard, by what its tests say, on a run in whatever form
 module _ (ws : List ℕ) (r : Run) (n t : ℕ) (f w : Bool) (e : f ≡ well_lent r) (d : w ≡ is_watched n (watching r)) where
-  abbrev by_tests : Bool → Bool → Bool → CallAnswer
-  by_tests f b w = pick f (pick b (pick w answer.Taken (answer.Refused NotWatched)) (answer.Refused TimeLimit)) (answer.Refused WatchedNodes)
+  abbrev by_tests : Bool → Bool → Bool → Result (Unit {0}) Refusal
+  by_tests f b w = pick f (pick b (pick w (Ok tt) (Err NotWatched)) (Err TimeLimit)) (Err WatchedNodes)
 
-  pub heard_declined : (x : Refusal) → answer.Refused x ≡ heard_answer f t w → HeardOn ws r n t (answer.Refused x) ws r
+  pub heard_declined : (x : Refusal) → Err x ≡ heard_answer f t w → HeardOn ws r n t (Err x) ws r
   heard_declined x = by f (in_time t) w (sym e) refl (sym d)
     where
-      gives : (y : Refusal) → ((p : Plain) → step p (heard n t r) ≡ declines p r (refusal_number y)) → answer.Refused x ≡ answer.Refused y → HeardOn ws r n t (answer.Refused x) ws r
-      gives y s g = subst (λ (a : CallAnswer). HeardOn ws r n t a ws r) (sym g) (run_declined ws (heard n t r) r y s)
+      gives : (y : Refusal) → ((p : Plain) → step p (heard n t r) ≡ declines p r (refusal_number y)) → ◌≡◌ {A = Result (Unit {0}) Refusal} (Err x) (Err y) → HeardOn ws r n t (Err x) ws r
+      gives y s g = subst (λ (a : Result (Unit {0}) Refusal). HeardOn ws r n t a ws r) (sym g) (run_declined ws (heard n t r) r y s)
 
       by :
-          (f b w : Bool) → well_lent r ≡ f → in_time t ≡ b → is_watched n (watching r) ≡ w → answer.Refused x ≡ by_tests f b w →
-          HeardOn ws r n t (answer.Refused x) ws r
+          (f b w : Bool) → well_lent r ≡ f → in_time t ≡ b → is_watched n (watching r) ≡ w → Err x ≡ by_tests f b w →
+          HeardOn ws r n t (Err x) ws r
       by true true true a b d g = absurd (let z : ◌≡◌ {A = ℕ} 0 1 = cc in let x : ⊥ = omega arith in x)
       by true true false a b d g = gives NotWatched (λ p. rw (a, b, d)) g
       by true false w a b d g = gives TimeLimit (λ p. rw (a, b)) g
       by false c w a b d g = gives WatchedNodes (λ p. rw a) g
 
-  pub taken_passed : answer.Taken ≡ heard_answer f t w → (f ≡ true) × (in_time t ≡ true) × (w ≡ true)
+  pub taken_passed : (Ok tt) ≡ heard_answer f t w → (f ≡ true) × (in_time t ≡ true) × (w ≡ true)
   taken_passed = by f (in_time t) w
     where
-      by : (f b w : Bool) → answer.Taken ≡ by_tests f b w → (f ≡ true) × (b ≡ true) × (w ≡ true)
+      by : (f b w : Bool) → (Ok tt) ≡ by_tests f b w → (f ≡ true) × (b ≡ true) × (w ≡ true)
       by true true true e = (refl, refl, refl)
       by true true false e = absurd (let z : ◌≡◌ {A = ℕ} 0 1 = cc in let x : ⊥ = omega arith in x)
       by true false w e = absurd (let z : ◌≡◌ {A = ℕ} 0 1 = cc in let x : ⊥ = omega arith in x)
       by false b w e = absurd (let z : ◌≡◌ {A = ℕ} 0 1 = cc in let x : ⊥ = omega arith in x)
 
   pub heard_taken :
-      answer.Taken ≡ heard_answer f t w → length ws ≡ 60 → (r' : Run) → r' ≡ changing (heard_at n t) r → (m : Deadline) → m ≡ earliest (watching r') →
-      (ws' : List ℕ) → ws' ≡ earliest_written ws m → HeardOn ws r n t answer.Taken ws' r'
+      (Ok tt) ≡ heard_answer f t w → length ws ≡ 60 → (r' : Run) → r' ≡ changing (heard_at n t) r → (m : Option ℕ) → m ≡ earliest (watching r') →
+      (ws' : List ℕ) → ws' ≡ earliest_written ws m → HeardOn ws r n t (Ok tt) ws' r'
   heard_taken g long r' s m z ws' u =
       let x = taken_passed g in
       let a : well_lent r ≡ true = sym e ∙ x.0 in
@@ -74,18 +74,18 @@ module _ (ws ns : List ℕ) (k n t : ℕ) where
   abbrev lent_run : Run
   lent_run = run (nodes_of ns) k
 
-  abbrev Left : CallAnswer → List ℕ → List ℕ → Type 0
+  abbrev Left : Result (Unit {0}) Refusal → List ℕ → List ℕ → Type 0
   Left a ws' ns' = Heard ws ns k n t a ws' ns'
 
-  pub unformed : well_formed vs ≡ false → (a : CallAnswer) → a ≡ heard_answer false t false → Left a ws ns
+  pub unformed : well_formed vs ≡ false → (a : Result (Unit {0}) Refusal) → a ≡ heard_answer false t false → Left a ws ns
   unformed f a e =
-      subst (λ (a : CallAnswer). Left a ws ns) (sym e)
+      subst (λ (a : Result (Unit {0}) Refusal). Left a ws ns) (sym e)
       (record {
         on = run_declined ws (heard n t lent_run) lent_run WatchedNodes (λ p. rw (lent_words ns k ∙ f));
         nodes = refl;
       })
 
-  module _ (a : well_formed vs ≡ true) (p : ℕ) (e : p ≡ place_of n vs) (w : Bool) (z : w ≡ ltb p k) (r : CallAnswer) (x : r ≡ heard_answer true t w) where
+  module _ (a : well_formed vs ≡ true) (p : ℕ) (e : p ≡ place_of n vs) (w : Bool) (z : w ≡ ltb p k) (r : Result (Unit {0}) Refusal) (x : r ≡ heard_answer true t w) where
     below : k ≤ 32
     below = few (nodes_of ns) k true (sym a) refl
 
@@ -99,16 +99,16 @@ module _ (ws ns : List ℕ) (k n t : ℕ) where
         by true c = sym (watched_there (nodes_of ns) k (places ns) below n t p e (ltb-true p k c))
         by false c = sym (watched_nowhere (nodes_of ns) k (places ns) below n t p e (ltb-false p k c))
 
-    pub inside : r ≡ answer.Taken → p < k
+    pub inside : r ≡ (Ok tt) → p < k
     inside g = ltb-true p k (sym z ∙ (taken_passed ws lent_run n t true w lent among (sym g ∙ x)).2)
 
-    pub declined : (y : Refusal) → r ≡ answer.Refused y → Left (answer.Refused y) ws ns
+    pub declined : (y : Refusal) → r ≡ Err y → Left (Err y) ws ns
     declined y g = record { on = heard_declined ws lent_run n t true w lent among y (sym g ∙ x); nodes = refl }
 
     pub there :
-        r ≡ answer.Taken → length ws ≡ 60 → length ns ≡ 96 → (ns' : List ℕ) → ns' ≡ set ns (3 * p + 2) t →
-        (s : ℕ) → s ≡ soonest never (heard_at n t vs) → (m : Deadline) → m ≡ moment_of s →
-        (ws' : List ℕ) → ws' ≡ earliest_written ws m → Left answer.Taken ws' ns'
+        r ≡ (Ok tt) → length ws ≡ 60 → length ns ≡ 96 → (ns' : List ℕ) → ns' ≡ set ns (3 * p + 2) t →
+        (s : ℕ) → s ≡ soonest never (heard_at n t vs) → (m : Option ℕ) → m ≡ moment_of s →
+        (ws' : List ℕ) → ws' ≡ earliest_written ws m → Left (Ok tt) ws' ns'
     there g long places-long ns' s u v m y ws' o =
         let c = inside g in
         let i : in_time t ≡ true = (taken_passed ws lent_run n t true w lent among (sym g ∙ x)).1 in

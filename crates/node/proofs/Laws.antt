@@ -15,11 +15,10 @@ use Rattle.types.specs.declared.refusals.Refusal.{Refusal}
 use Rattle.types.specs.declared.nmt.states.NmtState.{NmtState}
 use Rattle.types.specs.declared.nmt.states.NmtState.TheVariants.{NmtReadyToOperate}
 use Rattle.types.specs.declared.nmt.events.NmtEvent.{NmtEvent}
-use Rattle.types.specs.declared.nmt.events.NmtEventRead.TheVariants as event
+use Rattle.std.specs.declared.result.Result.TheVariants.{Ok, Err}
+use Rattle.std.specs.declared.option.Option.TheVariants.{Some, None}
 use Rattle.types.specs.declared.frame.cs_state_machine.DllCsEvent.{DllCsEvent}
-use Rattle.types.specs.declared.frame.cs_state_machine.DllCsEventRead.TheVariants as cs-event
 use Rattle.types.specs.declared.frame.error.types.DllError.{DllError}
-use Rattle.types.specs.declared.frame.error.types.DllErrorRead.TheVariants as error_read
 use Rattle.nmt.specs.Resets.{Passed, is_reset}
 use Rattle.nmt.specs.Nmt as Nmt
 use Rattle.dll.specs.Dll as Dll
@@ -35,7 +34,6 @@ use Rattle.entries.specs.declared.emergency_queue.HandedOut.{HandedOut}
 use Rattle.entries.specs.declared.error_history.ErrorHistory.{ErrorHistory}
 use Rattle.entries.proofs.Lists.{handed_first, rest_waits, handed_capacity, history_loaded}
 use Rattle.head.specs.Head.{Head, forgetting, head_with_nmt, head_with_dll, head_with_errors, head_with_soc, head_with_values, head_with_queue, soc_watch}
-use Rattle.head.specs.declared.state.Deadline.TheVariants.{At, Nothing}
 use Rattle.head.specs.declared.state.SocWatch.{SocWatch}
 use Rattle.head.specs.declared.state.Dictionary.{Dictionary}
 use Rattle.node.specs.declared.load.DictionaryUpdate.{DictionaryUpdate}
@@ -81,7 +79,7 @@ forgets_places false h = record { queue = refl; history = refl }
 
 pub nmt_taken_lem :
     (h : Head) (n : ℕ) (e : NmtEvent) (es : List DllError) (t : Passed) →
-    read_event n ≡ event.Taken e →
+    read_event n ≡ Ok e →
     es ≡ (Nmt.processed h.nmt e).errors →
     t ≡ (Nmt.processed h.nmt e).reset →
     Alone h (nmt_event n) (left (forgetting_if (is_reset e) (head_with_nmt h (Nmt.processed h.nmt e).machine)) (nmt_answer es t))
@@ -94,7 +92,7 @@ nmt_taken_lem h n e es t r x y = (
   let s = forgets_places (is_reset e) (head_with_nmt h (Nmt.processed h.nmt e).machine) in record { queue = s.queue; history = s.history },
 )
 
-pub nmt_refused : (h : Head) (n : ℕ) (x : Refusal) → read_event n ≡ event.Refused x → Alone h (nmt_event n) (left h (refused (refusal_number x)))
+pub nmt_refused : (h : Head) (n : ℕ) (x : Refusal) → read_event n ≡ Err x → Alone h (nmt_event n) (left h (refused (refusal_number x)))
 nmt_refused h n x r = (
   λ q m. refined h q m (nmt_event n) _ q m no_run (declines (plain h q m) no_run (refusal_number x)) (ap (nmt_step (plain h q m)) r) refl refl refl,
   same_places h,
@@ -102,7 +100,7 @@ nmt_refused h n x r = (
 
 pub dll_taken_lem :
     (h : Head) (n : ℕ) (expected : Bool) (e : DllCsEvent) (a : DllAnswer) →
-    read_cs_event n ≡ cs-event.Taken e →
+    read_cs_event n ≡ Ok e →
     Dll.cs_outcome a ≡ Dll.cs_processed h.dll.state e h.nmt.current_state expected →
     Alone h (dll_event n expected) (left (head_with_dll h a.machine) (dll_answer (reported a.errors)))
 dll_taken_lem h n expected e a r o = (
@@ -114,7 +112,7 @@ dll_taken_lem h n expected e a r o = (
 
 pub dll_refused :
     (h : Head) (n : ℕ) (expected : Bool) (x : Refusal) →
-    read_cs_event n ≡ cs-event.Refused x →
+    read_cs_event n ≡ Err x →
     Alone h (dll_event n expected) (left h (refused (refusal_number x)))
 dll_refused h n expected x r = (
   λ q m. refined h q m (dll_event n expected) _ q m no_run (declines (plain h q m) no_run (refusal_number x)) (ap (dll_step (plain h q m) expected) r) refl refl refl,
@@ -123,7 +121,7 @@ dll_refused h n expected x r = (
 
 pub error_taken_lem :
     (h : Head) (kind a b : ℕ) (e : DllError) (r : HandledError) →
-    read_error kind a b ≡ error_read.Taken e →
+    read_error kind a b ≡ Ok e →
     r ≡ handled h.errors e →
     Alone h (error kind a b)
     (left (head_with_errors h r.counters) (error_answer r.action r.signal (reported r.logged)))
@@ -137,7 +135,7 @@ error_taken_lem h kind a b e r t s = (
 
 pub error_refused :
     (h : Head) (kind a b : ℕ) (x : Refusal) →
-    read_error kind a b ≡ error_read.Refused x →
+    read_error kind a b ≡ Err x →
     Alone h (error kind a b) (left h (refused (refusal_number x)))
 error_refused h kind a b x t = (
   λ q m. refined h q m (error kind a b) _ q m no_run (declines (plain h q m) no_run (refusal_number x)) (ap (error_step (plain h q m)) t) refl refl refl,
@@ -259,10 +257,10 @@ module _ (h : Head) (m s : List ℕ) (values : DictionaryUpdate) (o : Dictionary
 
 -- the watch armed, by whether there is a cycle
 module _ (s : SocWatch) (o : Dictionary) (t y : ℕ) (e : y ≡ cycle_of o) where
-  pub armed_on : 0 < y → (l : ℕ) → l ≡ limit_of o → soc_watch t true (At (t + l)) s.error_status_changed ≡ armed s o t
+  pub armed_on : 0 < y → (l : ℕ) → l ≡ limit_of o → soc_watch t true (Some (t + l)) s.error_status_changed ≡ armed s o t
   unfolding armed
   armed_on h l f = rw (f, ← e, lt-ltb 0 y h)
 
-  pub armed_off : y ≤ 0 → soc_watch t false Nothing s.error_status_changed ≡ armed s o t
+  pub armed_off : y ≤ 0 → soc_watch t false None s.error_status_changed ≡ armed s o t
   unfolding armed
   armed_off h = rw (← e, le-ltb 0 y h)

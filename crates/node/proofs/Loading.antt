@@ -13,13 +13,8 @@ use Rattle.head.specs.declared.state.Object.{Object}
 use Rattle.head.specs.declared.state.Object.TheVariants.{CycleTime, Tolerance}
 use Rattle.head.specs.declared.state.Statistic.{Statistic}
 use Rattle.head.specs.declared.state.Statistic.TheVariants.{Counter1, Counter2, Counter3, Counter5}
-use Rattle.head.specs.declared.state.ObjectValue.TheVariants.{Unsigned32, Missing}
-use Rattle.node.specs.declared.load.ByteUpdate.{ByteUpdate}
-use Rattle.node.specs.declared.load.ByteUpdate.TheVariants as byte
-use Rattle.node.specs.declared.load.CounterUpdate.{CounterUpdate}
-use Rattle.node.specs.declared.load.CounterUpdate.TheVariants as counter
-use Rattle.node.specs.declared.load.ObjectUpdate.{ObjectUpdate}
-use Rattle.node.specs.declared.load.ObjectUpdate.TheVariants as object
+use Rattle.std.specs.declared.option.Option.{Option}
+use Rattle.std.specs.declared.option.Option.TheVariants.{Some, None}
 use Rattle.node.specs.declared.load.DictionaryUpdate.{DictionaryUpdate}
 use Rattle.node.specs.Plain.{Call, taken}
 use Rattle.node.specs.Steps.{no_run, updated_byte, updated_counter, updated_object, updated}
@@ -32,48 +27,48 @@ use Rattle.head.proofs.Laws.{register_written, object_written_lem, statistic_wri
 use Rattle.node.specs.Loaded.{byte_loaded, counter_loaded, object_loaded, ByteFits, values_loaded, load_words, LoadedIn}
 
 -- the number of words stays
-byte_long : (ws : List ℕ) (i : ℕ) (u : ByteUpdate) → length (byte_loaded ws i u) ≡ length ws
-byte_long ws i (byte.Set n) = length-set ws i n
-byte_long ws i byte.Keep = refl
+byte_long : (ws : List ℕ) (i : ℕ) (u : Option ℕ) → length (byte_loaded ws i u) ≡ length ws
+byte_long ws i (Some n) = length-set ws i n
+byte_long ws i None = refl
 
-counter_long : (ws : List ℕ) (i : ℕ) (u : CounterUpdate) → length (counter_loaded ws i u) ≡ length ws
-counter_long ws i (counter.Set n) = length-set ws i n
-counter_long ws i counter.Keep = refl
+counter_long : (ws : List ℕ) (i : ℕ) (u : Option ℕ) → length (counter_loaded ws i u) ≡ length ws
+counter_long ws i (Some n) = length-set ws i n
+counter_long ws i None = refl
 
-object_long : (ws : List ℕ) (i : ℕ) (u : ObjectUpdate) → length (object_loaded ws i u) ≡ length ws
-object_long ws i (object.Set (Unsigned32 n)) = length-set (set ws i 1) (i + 1) n ∙ length-set ws i 1
-object_long ws i (object.Set Missing) = length-set ws i 0
-object_long ws i object.Keep = refl
+object_long : (ws : List ℕ) (i : ℕ) (u : Option (Option ℕ)) → length (object_loaded ws i u) ≡ length ws
+object_long ws i (Some (Some n)) = length-set (set ws i 1) (i + 1) n ∙ length-set ws i 1
+object_long ws i (Some None) = length-set ws i 0
+object_long ws i None = refl
 
 -- each value
 module _ (ws : List ℕ) (long : length ws ≡ 60) where
   register_loaded :
-      (u : ByteUpdate) → ByteFits u →
+      (u : Option ℕ) → ByteFits u →
       head_of (byte_loaded ws at.register u) ≡ head_with_od (head_of ws) (with_register (updated_byte (head_of ws).od.error_register u) (head_of ws).od)
-  register_loaded (byte.Set n) h = register_written ws long n h
-  register_loaded byte.Keep h = refl
+  register_loaded (Some n) h = register_written ws long n h
+  register_loaded None h = refl
 
   object_loaded_lem :
-      (o : Object) (u : ObjectUpdate) →
+      (o : Object) (u : Option (Option ℕ)) →
       head_of (object_loaded ws (at.object o) u) ≡ head_with_od (head_of ws) (with_object o (updated_object (object_in o (head_of ws).od) u) (head_of ws).od)
-  object_loaded_lem o (object.Set v) = object_written_lem ws long o v
-  object_loaded_lem CycleTime object.Keep = refl
-  object_loaded_lem Tolerance object.Keep = refl
+  object_loaded_lem o (Some v) = object_written_lem ws long o v
+  object_loaded_lem CycleTime None = refl
+  object_loaded_lem Tolerance None = refl
 
   statistic_loaded :
-      (s : Statistic) (u : CounterUpdate) →
+      (s : Statistic) (u : Option ℕ) →
       head_of (counter_loaded ws (at.statistic s) u) ≡ head_with_od (head_of ws) (with_statistic s (updated_counter (statistic_in s (head_of ws).od) u) (head_of ws).od)
-  statistic_loaded s (counter.Set n) = statistic_written ws long s n
-  statistic_loaded Counter1 counter.Keep = refl
-  statistic_loaded Counter2 counter.Keep = refl
-  statistic_loaded Counter3 counter.Keep = refl
-  statistic_loaded Counter5 counter.Keep = refl
+  statistic_loaded s (Some n) = statistic_written ws long s n
+  statistic_loaded Counter1 None = refl
+  statistic_loaded Counter2 None = refl
+  statistic_loaded Counter3 None = refl
+  statistic_loaded Counter5 None = refl
 
 -- what a value that is named makes of a head
-abbrev object_by : Object → ObjectUpdate → Head → Head
+abbrev object_by : Object → Option (Option ℕ) → Head → Head
 object_by o u h = head_with_od h (with_object o (updated_object (object_in o h.od) u) h.od)
 
-abbrev statistic_by : Statistic → CounterUpdate → Head → Head
+abbrev statistic_by : Statistic → Option ℕ → Head → Head
 statistic_by s u h = head_with_od h (with_statistic s (updated_counter (statistic_in s h.od) u) h.od)
 
 history_loaded : (ws : List ℕ) → length ws ≡ 60 → (s : List ℕ) → head_of (history_written ws (loaded s)) ≡ head_with_values (head_of ws) (head_of ws).od (loaded s)

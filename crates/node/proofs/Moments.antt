@@ -11,8 +11,8 @@ use borrow.Author.Tests.{eqb-true, ne_eqb}
 use Rattle.types.specs.Pick.{pick, both}
 use Rattle.types.specs.Types.{is_node}
 use Rattle.types.proofs.Tests.{both_first, both_second}
-use Rattle.head.specs.declared.state.Deadline.{Deadline}
-use Rattle.head.specs.declared.state.Deadline.TheVariants.{At, Nothing}
+use Rattle.std.specs.declared.option.Option.{Option}
+use Rattle.std.specs.declared.option.Option.TheVariants.{Some, None}
 use Rattle.watched.specs.declared.nodes.WatchedNode.{WatchedNode}
 use Rattle.watched.specs.Watched.{latest, in_time, all_of, ascending, fits, well_formed, heard_now, heard_at}
 use Rattle.watched.specs.Nodes.{never, sooner_by, soonest}
@@ -20,24 +20,24 @@ use Rattle.watched.proofs.Watching.{times_fit}
 use Rattle.node.specs.Steps.{late_from, smaller, earliest}
 use Rattle.node.specs.InPlace.{moment_of}
 
-smaller_then : (a b c : Deadline) → smaller (smaller a b) c ≡ smaller a (smaller b c)
-smaller_then Nothing b c = refl
-smaller_then (At a) Nothing c = refl
-smaller_then (At a) (At b) Nothing = refl
-smaller_then (At a) (At b) (At c) = let e : min (min a b) c ≡ min a (min b c) = omega arith in ap At e
+smaller_then : (a b c : Option ℕ) → smaller (smaller a b) c ≡ smaller a (smaller b c)
+smaller_then None b c = refl
+smaller_then (Some a) None c = refl
+smaller_then (Some a) (Some b) None = refl
+smaller_then (Some a) (Some b) (Some c) = let e : min (min a b) c ≡ min a (min b c) = omega arith in ap Some e
 
-none_smaller : (d : Deadline) → d ≡ smaller d Nothing
-none_smaller Nothing = refl
-none_smaller (At a) = refl
+none_smaller : (d : Option ℕ) → d ≡ smaller d None
+none_smaller None = refl
+none_smaller (Some a) = refl
 
 -- a number that is a moment is not the one for none
-moment_at : (n : ℕ) → n < never → moment_of n ≡ At n
-moment_at n h = ap (λ (b : Bool). pick b Nothing (At n)) (ne_eqb n never (λ e. omega arith))
+moment_at : (n : ℕ) → n < never → moment_of n ≡ Some n
+moment_at n h = ap (λ (b : Bool). pick b None (Some n)) (ne_eqb n never (λ e. omega arith))
 
-moment_min : (s m : ℕ) → m < never → moment_of (min s m) ≡ smaller (moment_of s) (At m)
+moment_min : (s m : ℕ) → m < never → moment_of (min s m) ≡ smaller (moment_of s) (Some m)
 moment_min s m h = by (eqb s never) refl
   where
-    by : (b : Bool) → eqb s never ≡ b → moment_of (min s m) ≡ smaller (pick b Nothing (At s)) (At m)
+    by : (b : Bool) → eqb s never ≡ b → moment_of (min s m) ≡ smaller (pick b None (Some s)) (Some m)
     by true e =
         let z : s ≡ never = eqb-true s never e in
         let x : min s m ≡ m = omega (arith, z, h) in
@@ -53,7 +53,7 @@ sooner_moment s w f = by (both (ltb 0 w.timeout) (ltb 0 w.last_heard))
 
     by :
         (b : Bool) →
-        moment_of (pick b (min s (w.last_heard + w.timeout + 1)) s) ≡ smaller (moment_of s) (pick b (At (w.last_heard + w.timeout + 1)) Nothing)
+        moment_of (pick b (min s (w.last_heard + w.timeout + 1)) s) ≡ smaller (moment_of s) (pick b (Some (w.last_heard + w.timeout + 1)) None)
     by true = moment_min s (w.last_heard + w.timeout + 1) (omega (arith, t.0, t.1))
     by false = none_smaller (moment_of s)
 
@@ -62,7 +62,7 @@ unfolding earliest
 soonest_moment s [] f = none_smaller (moment_of s)
 soonest_moment s (w ∷ ws) f =
     soonest_moment (sooner_by s w) ws (both_second (fits w) (all_of fits ws) f)
-    ∙ ap (λ (d : Deadline). smaller d (earliest ws)) (sooner_moment s w (both_first (fits w) (all_of fits ws) f))
+    ∙ ap (λ (d : Option ℕ). smaller d (earliest ws)) (sooner_moment s w (both_first (fits w) (all_of fits ws) f))
     ∙ smaller_then (moment_of s) (late_from w) (earliest ws)
 
 -- the number that a walk over nodes within their limits ends with

@@ -17,11 +17,9 @@ use Rattle.types.specs.declared.refusals.Refusal.{Refusal}
 use Rattle.types.specs.declared.nmt.states.NmtState.{NmtState}
 use Rattle.types.specs.declared.nmt.states.NmtState.TheVariants.{NmtReadyToOperate}
 use Rattle.types.specs.declared.nmt.events.NmtEvent.{NmtEvent}
-use Rattle.types.specs.declared.nmt.events.NmtEventRead.TheVariants as event
+use Rattle.std.specs.declared.result.Result.TheVariants.{Ok, Err}
 use Rattle.types.specs.declared.frame.cs_state_machine.DllCsEvent.{DllCsEvent}
-use Rattle.types.specs.declared.frame.cs_state_machine.DllCsEventRead.TheVariants as cs-event
 use Rattle.types.specs.declared.frame.error.types.DllError.{DllError}
-use Rattle.types.specs.declared.frame.error.types.DllErrorRead.TheVariants as error_read
 use Rattle.nmt.specs.Resets.{passed, states_entered, is_reset}
 use Rattle.nmt.specs.Nmt as Nmt
 use Rattle.nmt.specs.declared.cn_state_machine.CnNmtStateMachine.{CnNmtStateMachine}
@@ -199,18 +197,18 @@ module _ (ws : List ℕ) where
       unwritten ws withdraw _ _ (withdraw_refused (head_of ws) e)
       (ap (λ (s : NmtState). pick (same_state s NmtReadyToOperate) ws (set ws at.ready 0)) e)
 
-  pub nmt_no : (n : ℕ) (x : Refusal) → read_event n ≡ event.Refused x → InPlace ws (nmt_event n) (refused (refusal_number x)) ws (nmt_words ws (read_event n))
+  pub nmt_no : (n : ℕ) (x : Refusal) → read_event n ≡ Err x → InPlace ws (nmt_event n) (refused (refusal_number x)) ws (nmt_words ws (read_event n))
   nmt_no n x r = unwritten ws (nmt_event n) _ _ (nmt_refused (head_of ws) n x r) (ap (nmt_words ws) r)
 
   pub dll_no :
       (n : ℕ) (expected : Bool) (x : Refusal) →
-      read_cs_event n ≡ cs-event.Refused x →
+      read_cs_event n ≡ Err x →
       InPlace ws (dll_event n expected) (refused (refusal_number x)) ws (dll_words ws expected (read_cs_event n))
   dll_no n expected x r = unwritten ws (dll_event n expected) _ _ (dll_refused (head_of ws) n expected x r) (ap (dll_words ws expected) r)
 
   pub error_no :
       (kind a b : ℕ) (x : Refusal) →
-      read_error kind a b ≡ error_read.Refused x →
+      read_error kind a b ≡ Err x →
       InPlace ws (error kind a b) (refused (refusal_number x)) ws (error_words ws (read_error kind a b))
   error_no kind a b x r = unwritten ws (error kind a b) _ _ (error_refused (head_of ws) kind a b x r) (ap (error_words ws) r)
 
@@ -229,7 +227,7 @@ module _ (ws : List ℕ) where
 
     pub nmt_yes :
         (n : ℕ) (e : NmtEvent) (t : NmtTaken) →
-        read_event n ≡ event.Taken e →
+        read_event n ≡ Ok e →
         Processed ws e t ws' →
         InPlace ws (nmt_event n) (nmt_answer (reported t.errors) (passed t.reset)) ws' (nmt_words ws (read_event n))
     unfolding head_of
@@ -242,7 +240,7 @@ module _ (ws : List ℕ) where
 
     pub dll_yes :
         (n : ℕ) (expected : Bool) (e : DllCsEvent) (a : DllAnswer) →
-        read_cs_event n ≡ cs-event.Taken e →
+        read_cs_event n ≡ Ok e →
         Dll.cs_outcome a ≡ Dll.cs_processed (dll_state (word ws at.dll)) e (state_of (word ws at.state)) expected →
         ws' ≡ set ws at.dll (Dll.cs_state_number a.machine.state) →
         InPlace ws (dll_event n expected) (dll_answer (reported a.errors)) ws' (dll_words ws expected (read_cs_event n))
@@ -254,7 +252,7 @@ module _ (ws : List ℕ) where
 
     pub error_yes :
         (kind a b : ℕ) (e : DllError) (t : ErrorTaken) →
-        read_error kind a b ≡ error_read.Taken e →
+        read_error kind a b ≡ Ok e →
         t ≡ replied (Counters.handled (errors_of ws) e) →
         ws' ≡ effect_words ws (Counters.effect e) →
         InPlace ws (error kind a b) (error_answer t.action t.signal (reported t.logged)) ws' (error_words ws (read_error kind a b))

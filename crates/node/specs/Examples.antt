@@ -19,8 +19,7 @@ use Rattle.counters.specs.declared.counters.CounterKind.TheVariants.{LossOfSoc, 
 use Rattle.counters.specs.declared.counters.CnErrorCounters.{CnErrorCounters}
 use Rattle.entries.specs.declared.status_response.ErrorEntry.{ErrorEntry}
 use Rattle.entries.specs.declared.status_response.ErrorEntryMode.TheVariants.{EventOccurred}
-use Rattle.head.specs.declared.state.Deadline.TheVariants.{At, Nothing}
-use Rattle.head.specs.declared.state.ObjectValue.TheVariants.{Unsigned32}
+use Rattle.std.specs.declared.option.Option.TheVariants.{Some, None}
 use Rattle.head.specs.declared.state.Dictionary.{Dictionary}
 use Rattle.watched.specs.Watched.{watched_node, Run, holding}
 use Rattle.node.specs.Plain.{Plain, Call, nmt_event, dll_event, error, cycle_complete, withdraw, heard, tick, Start, Answer, taken, nmt_answer, dll_answer, error_answer, cycle_answer, tick_answer, made, no_event, Step}
@@ -76,8 +75,8 @@ abbrev pub values : ℕ → ℕ → ℕ → ℕ → ℕ → Dictionary
 values r a b c e =
     record {
       error_register = r;
-      cycle_time = Unsigned32 1000;
-      tolerance = Unsigned32 100000;
+      cycle_time = Some 1000;
+      tolerance = Some 100000;
       counter_1 = a;
       counter_2 = b;
       counter_3 = c;
@@ -101,18 +100,18 @@ counters_of socs crossings soc beats beat =
 -- without a cycle yet: DLL NonCyclic, levels and counts 0, check off
 abbrev pub resting : NmtState → Bool → Bool → Plain
 resting s enabled ready =
-    plain_of (machine s enabled ready) NonCyclic (counters_of 0 0 0 0 0) (soc_watch 0 false Nothing false) (values 0 0 0 0 0) 1 [] [] Nothing
+    plain_of (machine s enabled ready) NonCyclic (counters_of 0 0 0 0 0) (soc_watch 0 false None false) (values 0 0 0 0 0) 1 [] [] None
 
 -- Operational, DLL NonCyclic, with these counters
 abbrev pub counting : CnErrorCounters → Plain
 counting e =
-    plain_of (machine NmtOperational false true) NonCyclic e (soc_watch 0 false Nothing false) (values 0 0 0 0 0) 1 [] [] Nothing
+    plain_of (machine NmtOperational false true) NonCyclic e (soc_watch 0 false None false) (values 0 0 0 0 0) 1 [] [] None
 
 -- Operational, WaitSoc, check on, last SoC 10,000, a deadline; the level of LossOfSoc, and its occurrences, which are counter 1
 abbrev pub cycling : ℕ → ℕ → ℕ → Plain
 cycling deadline level lost =
-    plain_of (machine NmtOperational false true) WaitSoc (counters_of lost 0 level 0 0) (soc_watch 10000 true (At deadline) false)
-    (values 0 lost 0 0 0) 1 [] [] Nothing
+    plain_of (machine NmtOperational false true) WaitSoc (counters_of lost 0 level 0 0) (soc_watch 10000 true (Some deadline) false)
+    (values 0 lost 0 0 0) 1 [] [] None
 
 -- what is to come: the state's number, the head, the answer
 abbrev comes : ℕ → Plain → Answer → Coming
@@ -299,8 +298,8 @@ crossing_tick =
       all =
           record {
             head =
-                plain_of (machine NmtPreOperational1 false true) WaitSoc (counters_of 2 1 0 0 0) (soc_watch 10000 false Nothing true)
-                (values 1 2 1 0 1) 1 (entry ∷ []) (entry ∷ []) Nothing;
+                plain_of (machine NmtPreOperational1 false true) WaitSoc (counters_of 2 1 0 0 0) (soc_watch 10000 false None true)
+                (values 1 2 1 0 1) 1 (entry ∷ []) (entry ∷ []) None;
             answer = tick_answer (error.LossOfSoc ∷ []);
             lent = no_nodes;
             event = made Error;
@@ -321,7 +320,7 @@ abbrev pub watching_one : ℕ → Run
 watching_one t = holding (watched_node 5 50 t ∷ [])
 
 abbrev pub awaiting : ℕ → CnErrorCounters → Plain
-awaiting t e = with_earliest (counting e) (At t)
+awaiting t e = with_earliest (counting e) (Some t)
 
 abbrev pub late : Example
 late =

@@ -1,18 +1,21 @@
 -- What a call on a head in words has to leave: the one predicate of their contracts, what each answers, and every word that it leaves.
 -- Assumes nothing.
-use Rattle.std.specs.Prelude.{ℕ, ◌≡◌, Bool, List, eqb, set}
+use Rattle.std.specs.Prelude.{ℤ, ℕ, ◌≡◌, Bool, List, eqb, set}
 use Rattle.types.specs.Pick.{pick}
 use Rattle.types.specs.States.{same_state}
 use Rattle.types.specs.Errors.{reported}
 use Rattle.types.specs.Refusals.{refusal_number}
 use Rattle.types.specs.declared.nmt.states.NmtState.TheVariants.{NmtReadyToOperate}
 use Rattle.types.specs.declared.nmt.events.NmtEvent.{NmtEvent}
-use Rattle.types.specs.declared.nmt.events.NmtEventRead.{NmtEventRead}
-use Rattle.types.specs.declared.nmt.events.NmtEventRead.TheVariants as event
-use Rattle.types.specs.declared.frame.cs_state_machine.DllCsEventRead.{DllCsEventRead}
-use Rattle.types.specs.declared.frame.cs_state_machine.DllCsEventRead.TheVariants as cs-event
-use Rattle.types.specs.declared.frame.error.types.DllErrorRead.{DllErrorRead}
-use Rattle.types.specs.declared.frame.error.types.DllErrorRead.TheVariants as error_read
+use Rattle.std.specs.declared.result.Result.{Result}
+use Rattle.std.specs.declared.option.Option.{Option}
+use Rattle.std.specs.declared.result.Result.TheVariants.{Ok, Err}
+use Rattle.std.specs.declared.option.Option.TheVariants.{Some, None}
+use Rattle.types.specs.declared.refusals.Refusal.{Refusal}
+use Rattle.types.specs.declared.frame.cs_state_machine.DllCsEvent.{DllCsEvent}
+use Rattle.types.specs.declared.frame.error.types.DllError.{DllError}
+use Rattle.types.specs.declared.frame.error.types.DllErrors.{DllErrors}
+use Rattle.node.specs.declared.range.SocVerdict.{SocVerdict}
 use Rattle.nmt.specs.Resets.{is_reset, passed}
 use Rattle.nmt.specs.Nmt as Nmt
 use Rattle.dll.specs.Dll as Dll
@@ -24,24 +27,10 @@ use Rattle.watched.specs.Watched.{in_time, Run, watching}
 use Rattle.watched.specs.Nodes.{never}
 use Rattle.node.specs.Steps.{no_run, earliest, armed}
 use Rattle.node.specs.Refines.{Refines, SamePlaces, left}
-use Rattle.node.specs.declared.calls.CallAnswer.{CallAnswer}
-use Rattle.node.specs.declared.calls.CallAnswer.TheVariants as answer
 use Rattle.node.specs.declared.calls.NmtTaken.{NmtTaken}
-use Rattle.node.specs.declared.calls.NmtEventAnswer.{NmtEventAnswer}
-use Rattle.node.specs.declared.calls.NmtEventAnswer.TheVariants as nmt-answer
-use Rattle.node.specs.declared.calls.DllEventAnswer.{DllEventAnswer}
-use Rattle.node.specs.declared.calls.DllEventAnswer.TheVariants as dll-answer
 use Rattle.node.specs.declared.calls.ErrorTaken.{ErrorTaken}
-use Rattle.node.specs.declared.calls.ErrorAnswer.{ErrorAnswer}
-use Rattle.node.specs.declared.calls.ErrorAnswer.TheVariants as error-answer
-use Rattle.node.specs.declared.range.RangeAnswer.{RangeAnswer}
-use Rattle.node.specs.declared.range.RangeAnswer.TheVariants as range-answer
-use Rattle.node.specs.declared.range.MarginAnswer.{MarginAnswer}
-use Rattle.node.specs.declared.range.MarginAnswer.TheVariants as margin-answer
 use Rattle.head.specs.Places as at
 use Rattle.head.specs.Words.{word, state_of, nmt_of, dll_state, counter_at, errors_of, soc_of, od_of, queue_of, head_of}
-use Rattle.head.specs.declared.state.Deadline.{Deadline}
-use Rattle.head.specs.declared.state.Deadline.TheVariants.{At, Nothing}
 use Rattle.head.specs.Written.{earliest_written, nmt_written, forgotten_written, counter_written, levels_written, soc_written, queue_written}
 
 -- Of a call c on the words ws, which answered a and left the words ws': the head that they stand for is that of the plain head's step, queue and
@@ -56,49 +45,49 @@ abbrev pub Reading : List ℕ → Call → Answer → Type 0
 Reading ws c a = InPlace ws c a ws ws
 
 -- the answers
-abbrev pub said : CallAnswer → Answer
-said answer.Taken = taken
-said (answer.Refused r) = refused (refusal_number r)
+abbrev pub said : Result (Unit {0}) Refusal → Answer
+said (Ok _) = taken
+said (Err r) = refused (refusal_number r)
 
-abbrev pub nmt_said : NmtEventAnswer → Answer
-nmt_said (nmt-answer.Taken t) = nmt_answer (reported t.errors) (passed t.reset)
-nmt_said (nmt-answer.Refused r) = refused (refusal_number r)
+abbrev pub nmt_said : Result NmtTaken Refusal → Answer
+nmt_said (Ok t) = nmt_answer (reported t.errors) (passed t.reset)
+nmt_said (Err r) = refused (refusal_number r)
 
-abbrev pub dll_said : DllEventAnswer → Answer
-dll_said (dll-answer.Taken es) = dll_answer (reported es)
-dll_said (dll-answer.Refused r) = refused (refusal_number r)
+abbrev pub dll_said : Result DllErrors Refusal → Answer
+dll_said (Ok es) = dll_answer (reported es)
+dll_said (Err r) = refused (refusal_number r)
 
-abbrev pub error_said : ErrorAnswer → Answer
-error_said (error-answer.Taken t) = error_answer t.action t.signal (reported t.logged)
-error_said (error-answer.Refused r) = refused (refusal_number r)
+abbrev pub error_said : Result ErrorTaken Refusal → Answer
+error_said (Ok t) = error_answer t.action t.signal (reported t.logged)
+error_said (Err r) = refused (refusal_number r)
 
-abbrev pub range_said : RangeAnswer → Answer
-range_said (range-answer.Taken v) = range_answer v
-range_said (range-answer.Refused r) = refused (refusal_number r)
+abbrev pub range_said : Result SocVerdict Refusal → Answer
+range_said (Ok v) = range_answer v
+range_said (Err r) = refused (refusal_number r)
 
-abbrev pub margin_said : MarginAnswer → Answer
-margin_said (margin-answer.Taken z) = margin_answer z
-margin_said (margin-answer.Refused r) = refused (refusal_number r)
+abbrev pub margin_said : Result ℤ Refusal → Answer
+margin_said (Ok z) = margin_answer z
+margin_said (Err r) = refused (refusal_number r)
 
 -- an error's answer without the counters
 abbrev pub replied : HandledError → ErrorTaken
 replied r = record { action = r.action; signal = r.signal; logged = r.logged }
 
 -- what a call leaves of words that it was lent: of a declined one, all
-abbrev pub unless_refused : CallAnswer → List ℕ → List ℕ → List ℕ
-unless_refused answer.Taken ws ws' = ws'
-unless_refused (answer.Refused r) ws ws' = ws
+abbrev pub unless_refused : Result (Unit {0}) Refusal → List ℕ → List ℕ → List ℕ
+unless_refused (Ok _) ws ws' = ws'
+unless_refused (Err r) ws ws' = ws
 
 -- Of a call c that is lent a run, on the words ws, which answered a and left the words ws' and the run r: head and run are the plain head's, queue and history
 -- stand where they stood, and of the head's words those of the earliest moment are written; by a declined call none.
-pub record OnRun (ws : List ℕ) (c : Call) (a : CallAnswer) (ws' : List ℕ) (r : Run) : Type 0 where
+pub record OnRun (ws : List ℕ) (c : Call) (a : Result (Unit {0}) Refusal) (ws' : List ℕ) (r : Run) : Type 0 where
   pub refines : (q m : List ℕ) → Refines (head_of ws) q m c (left (head_of ws') (said a)) q m r
   pub places : SamePlaces (head_of ws) (head_of ws')
   pub words : ws' ≡ unless_refused a ws (earliest_written ws (earliest (watching r)))
 
 -- the moment that a walk's number stands for
-abbrev pub moment_of : ℕ → Deadline
-moment_of n = pick (eqb n never) Nothing (At n)
+abbrev pub moment_of : ℕ → Option ℕ
+moment_of n = pick (eqb n never) None (Some n)
 
 -- the words after each call
 abbrev pub withdraw_words : List ℕ → List ℕ
@@ -117,14 +106,14 @@ pub record Processed (ws : List ℕ) (e : NmtEvent) (t : NmtTaken) (ws' : List �
   pub reset : passed t.reset ≡ (Nmt.processed (nmt_of ws) e).reset
   pub words : ws' ≡ processed_words ws e
 
-abbrev pub nmt_words : List ℕ → NmtEventRead → List ℕ
-nmt_words ws (event.Taken e) = processed_words ws e
-nmt_words ws (event.Refused r) = ws
+abbrev pub nmt_words : List ℕ → Result NmtEvent Refusal → List ℕ
+nmt_words ws (Ok e) = processed_words ws e
+nmt_words ws (Err r) = ws
 
-abbrev pub dll_words : List ℕ → Bool → DllCsEventRead → List ℕ
-dll_words ws expected (cs-event.Taken e) =
+abbrev pub dll_words : List ℕ → Bool → Result DllCsEvent Refusal → List ℕ
+dll_words ws expected (Ok e) =
     set ws at.dll (Dll.cs_state_number (Dll.cs_processed (dll_state (word ws at.dll)) e (state_of (word ws at.state)) expected).state)
-dll_words ws expected (cs-event.Refused r) = ws
+dll_words ws expected (Err r) = ws
 
 -- only the counter that an error counts for changes, or the count of lost links
 abbrev pub effect_words : List ℕ → Counters.Effect → List ℕ
@@ -133,9 +122,9 @@ effect_words ws Counters.loses_link = set ws at.links (Counters.add_top (word ws
 effect_words ws Counters.is_logged = ws
 effect_words ws Counters.nothing = ws
 
-abbrev pub error_words : List ℕ → DllErrorRead → List ℕ
-error_words ws (error_read.Taken e) = effect_words ws (Counters.effect e)
-error_words ws (error_read.Refused r) = ws
+abbrev pub error_words : List ℕ → Result DllError Refusal → List ℕ
+error_words ws (Ok e) = effect_words ws (Counters.effect e)
+error_words ws (Err r) = ws
 
 abbrev pub cycle_words : List ℕ → List ℕ
 cycle_words ws = levels_written ws (Counters.lowered (errors_of ws))

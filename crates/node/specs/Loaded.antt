@@ -2,12 +2,8 @@
 -- Assumes nothing.
 use Rattle.std.specs.Prelude.{ℕ, ◌≤◌, ◌≡◌, Bool, List, set}
 use Rattle.types.specs.Pick.{pick}
-use Rattle.node.specs.declared.load.ByteUpdate.{ByteUpdate}
-use Rattle.node.specs.declared.load.ByteUpdate.TheVariants as byte
-use Rattle.node.specs.declared.load.CounterUpdate.{CounterUpdate}
-use Rattle.node.specs.declared.load.CounterUpdate.TheVariants as counter
-use Rattle.node.specs.declared.load.ObjectUpdate.{ObjectUpdate}
-use Rattle.node.specs.declared.load.ObjectUpdate.TheVariants as object
+use Rattle.std.specs.declared.option.Option.{Option}
+use Rattle.std.specs.declared.option.Option.TheVariants.{Some, None}
 use Rattle.node.specs.declared.load.DictionaryUpdate.{DictionaryUpdate}
 use Rattle.entries.specs.History.{loaded}
 use Rattle.node.specs.Plain.{Call, taken}
@@ -18,22 +14,22 @@ use Rattle.head.specs.Words.{head_of}
 use Rattle.head.specs.Written.{object_written, history_written}
 
 -- a value that is named is written, and one that is kept is not
-abbrev pub byte_loaded : List ℕ → ℕ → ByteUpdate → List ℕ
-byte_loaded ws i (byte.Set n) = set ws i n
-byte_loaded ws i byte.Keep = ws
+abbrev pub byte_loaded : List ℕ → ℕ → Option ℕ → List ℕ
+byte_loaded ws i (Some n) = set ws i n
+byte_loaded ws i None = ws
 
-abbrev pub counter_loaded : List ℕ → ℕ → CounterUpdate → List ℕ
-counter_loaded ws i (counter.Set n) = set ws i n
-counter_loaded ws i counter.Keep = ws
+abbrev pub counter_loaded : List ℕ → ℕ → Option ℕ → List ℕ
+counter_loaded ws i (Some n) = set ws i n
+counter_loaded ws i None = ws
 
-abbrev pub object_loaded : List ℕ → ℕ → ObjectUpdate → List ℕ
-object_loaded ws i (object.Set v) = object_written ws i v
-object_loaded ws i object.Keep = ws
+abbrev pub object_loaded : List ℕ → ℕ → Option (Option ℕ) → List ℕ
+object_loaded ws i (Some v) = object_written ws i v
+object_loaded ws i None = ws
 
 -- a byte that is named is one
-abbrev pub ByteFits : ByteUpdate → Type 0
-ByteFits (byte.Set n) = n ≤ 255
-ByteFits byte.Keep = Unit
+abbrev pub ByteFits : Option ℕ → Type 0
+ByteFits (Some n) = n ≤ 255
+ByteFits None = Unit
 
 unfoldable pub values_loaded : List ℕ → DictionaryUpdate → List ℕ
 values_loaded ws u =

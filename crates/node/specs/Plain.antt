@@ -11,8 +11,7 @@ use Rattle.counters.specs.Marks.{Mark}
 use Rattle.counters.specs.declared.counters.CnErrorCounters.{CnErrorCounters}
 use Rattle.counters.specs.declared.counters.Thresholds.{Thresholds}
 use Rattle.entries.specs.declared.status_response.ErrorEntry.{ErrorEntry}
-use Rattle.entries.specs.declared.status_response.FoundEntry.{FoundEntry}
-use Rattle.head.specs.declared.state.Deadline.{Deadline}
+use Rattle.std.specs.declared.option.Option.{Option}
 use Rattle.head.specs.declared.state.SocWatch.{SocWatch}
 use Rattle.head.specs.declared.state.Dictionary.{Dictionary}
 use Rattle.node.specs.declared.load.DictionaryUpdate.{DictionaryUpdate}
@@ -31,7 +30,7 @@ pub record Plain : Type 0 where
   pub capacity : ℕ
   pub queue : List ErrorEntry
   pub history : List ErrorEntry
-  pub earliest : Deadline
+  pub earliest : Option ℕ
 
 -- a load's history: entries, newest first, or that it is left
 pub data HistoryUpdate : Type 0 where
@@ -87,7 +86,7 @@ pub data Answer : Type 0 where
   -- whether the last level reached 0
   cycle_answer : Bool → Answer
   -- the entry handed out, or none
-  hand_out_answer : FoundEntry → Answer
+  hand_out_answer : Option ErrorEntry → Answer
   -- what a tick logged
   tick_answer : List DllError → Answer
   -- lost, kept or open

@@ -9,12 +9,13 @@ use Rattle.types.specs.Errors.{reported}
 use Rattle.types.specs.Refusals.{refusal_number}
 use Rattle.types.specs.declared.nmt.states.NmtState.TheVariants.{NmtReadyToOperate}
 use Rattle.types.specs.declared.nmt.events.NmtEvent.{NmtEvent}
-use Rattle.types.specs.declared.nmt.events.NmtEventRead.{NmtEventRead}
-use Rattle.types.specs.declared.nmt.events.NmtEventRead.TheVariants as event
-use Rattle.types.specs.declared.frame.cs_state_machine.DllCsEventRead.{DllCsEventRead}
-use Rattle.types.specs.declared.frame.cs_state_machine.DllCsEventRead.TheVariants as cs-event
-use Rattle.types.specs.declared.frame.error.types.DllErrorRead.{DllErrorRead}
-use Rattle.types.specs.declared.frame.error.types.DllErrorRead.TheVariants as error_read
+use Rattle.std.specs.declared.result.Result.{Result}
+use Rattle.std.specs.declared.option.Option.{Option}
+use Rattle.std.specs.declared.result.Result.TheVariants.{Ok, Err}
+use Rattle.std.specs.declared.option.Option.TheVariants.{Some, None}
+use Rattle.types.specs.declared.refusals.Refusal.{Refusal}
+use Rattle.types.specs.declared.frame.cs_state_machine.DllCsEvent.{DllCsEvent}
+use Rattle.types.specs.declared.frame.error.types.DllError.{DllError}
 use Rattle.nmt.specs.Resets.{is_reset}
 use Rattle.nmt.specs.Nmt as Nmt
 use Rattle.nmt.specs.declared.cn_state_machine.CnNmtStateMachine.{CnNmtStateMachine}
@@ -28,19 +29,9 @@ use Rattle.counters.specs.declared.counters.HandledError.{HandledError}
 use Rattle.counters.specs.declared.counters.CompletedCycle.{CompletedCycle}
 use Rattle.entries.specs.Ring.{nth, rest}
 use Rattle.entries.specs.declared.status_response.ErrorEntry.{ErrorEntry}
-use Rattle.head.specs.declared.state.Deadline.{Deadline}
-use Rattle.head.specs.declared.state.Deadline.TheVariants.{At, Nothing}
-use Rattle.head.specs.declared.state.ObjectValue.{ObjectValue}
-use Rattle.head.specs.declared.state.ObjectValue.TheVariants.{Unsigned32, Missing}
 use Rattle.head.specs.declared.state.SocWatch.{SocWatch}
 use Rattle.head.specs.declared.state.Dictionary.{Dictionary}
 use Rattle.head.specs.Head.{soc_watch, forgotten}
-use Rattle.node.specs.declared.load.ByteUpdate.{ByteUpdate}
-use Rattle.node.specs.declared.load.ByteUpdate.TheVariants as byte
-use Rattle.node.specs.declared.load.CounterUpdate.{CounterUpdate}
-use Rattle.node.specs.declared.load.CounterUpdate.TheVariants as counter
-use Rattle.node.specs.declared.load.ObjectUpdate.{ObjectUpdate}
-use Rattle.node.specs.declared.load.ObjectUpdate.TheVariants as object
 use Rattle.node.specs.declared.load.DictionaryUpdate.{DictionaryUpdate}
 use Rattle.watched.specs.declared.nodes.WatchedNode.{WatchedNode}
 use Rattle.watched.specs.Watched.{in_time, is_watched, unheard, watched_node, Run, run, watching, well_lent, changing, inserted, without, holding}
@@ -60,7 +51,7 @@ tried [] refuse accept = accept
 tried (t ∷ ts) refuse accept = pick t.holds (tried ts refuse accept) (refuse t.otherwise)
 
 -- a head of its parts, and a head with one of them replaced
-abbrev pub plain_of : CnNmtStateMachine → DllCsState → CnErrorCounters → SocWatch → Dictionary → ℕ → List ErrorEntry → List ErrorEntry → Deadline → Plain
+abbrev pub plain_of : CnNmtStateMachine → DllCsState → CnErrorCounters → SocWatch → Dictionary → ℕ → List ErrorEntry → List ErrorEntry → Option ℕ → Plain
 plain_of n d e s o c q h x =
     record { nmt = n; dll = d; errors = e; soc = s; od = o; capacity = c; queue = q; history = h; earliest = x }
 
@@ -82,7 +73,7 @@ with_queue p q = plain_of p.nmt p.dll p.errors p.soc p.od p.capacity q p.history
 abbrev pub with_values : Plain → Dictionary → List ErrorEntry → Plain
 with_values p o h = plain_of p.nmt p.dll p.errors p.soc o p.capacity p.queue h p.earliest
 
-abbrev pub with_earliest : Plain → Deadline → Plain
+abbrev pub with_earliest : Plain → Option ℕ → Plain
 with_earliest p x = plain_of p.nmt p.dll p.errors p.soc p.od p.capacity p.queue p.history x
 
 -- a call that is lent no run
@@ -99,16 +90,16 @@ declines p l n = answers p (refused n) l
 
 -- "the earliest moment at which a watched node would be late: the smallest of last heard + timeout + 1, over nodes where both are above 0,
 -- or none" (document 02, No. 1)
-abbrev pub late_from : WatchedNode → Deadline
-late_from w = pick (both (ltb 0 w.timeout) (ltb 0 w.last_heard)) (At (w.last_heard + w.timeout + 1)) Nothing
+abbrev pub late_from : WatchedNode → Option ℕ
+late_from w = pick (both (ltb 0 w.timeout) (ltb 0 w.last_heard)) (Some (w.last_heard + w.timeout + 1)) None
 
-abbrev pub smaller : Deadline → Deadline → Deadline
-smaller Nothing d = d
-smaller (At a) Nothing = At a
-smaller (At a) (At b) = At (min a b)
+abbrev pub smaller : Option ℕ → Option ℕ → Option ℕ
+smaller None d = d
+smaller (Some a) None = Some a
+smaller (Some a) (Some b) = Some (min a b)
 
-unfoldable pub earliest : List WatchedNode → Deadline
-earliest [] = Nothing
+unfoldable pub earliest : List WatchedNode → Option ℕ
+earliest [] = None
 earliest (w ∷ ws) = smaller (late_from w) (earliest ws)
 
 -- "after each accepted start, tick, heard, add or removal, equals the value worked out afresh from the run"
@@ -125,7 +116,7 @@ leaves p r = answers (up_to_date p r) taken r
 unfoldable pub fresh : Start → Plain
 fresh s =
     plain_of (Nmt.new_machine (node s.node) (flags s.flags) s.timeout) NonCyclic (new_counters s.thresholds)
-    (soc_watch 0 false Nothing false) s.od s.capacity [] [] Nothing
+    (soc_watch 0 false None false) s.od s.capacity [] [] None
 
 -- numbers 1, 2 and 3; then "14, a threshold above the limit, after number 3 at start" (document 02, No. 6)
 abbrev pub start_tests : Start → List (Test ℕ)
@@ -160,17 +151,17 @@ nmt_taken p e o =
       crossings = [];
     }
 
-abbrev pub nmt_step : Plain → NmtEventRead → Step
-nmt_step p (event.Taken e) = nmt_taken p e (Nmt.processed p.nmt e)
-nmt_step p (event.Refused r) = declines p no_run (refusal_number r)
+abbrev pub nmt_step : Plain → Result NmtEvent Refusal → Step
+nmt_step p (Ok e) = nmt_taken p e (Nmt.processed p.nmt e)
+nmt_step p (Err r) = declines p no_run (refusal_number r)
 
 -- "A DLL event takes the head's own NMT state and is told whether a PReq is expected."
 abbrev pub dll_taken : Plain → Dll.CsOutcome → Step
 dll_taken p o = answers (with_dll p o.state) (dll_answer o.errors) no_run
 
-abbrev pub dll_step : Plain → Bool → DllCsEventRead → Step
-dll_step p expected (cs-event.Taken e) = dll_taken p (Dll.cs_processed p.dll e p.nmt.current_state expected)
-dll_step p expected (cs-event.Refused r) = declines p no_run (refusal_number r)
+abbrev pub dll_step : Plain → Bool → Result DllCsEvent Refusal → Step
+dll_step p expected (Ok e) = dll_taken p (Dll.cs_processed p.dll e p.nmt.current_state expected)
+dll_step p expected (Err r) = declines p no_run (refusal_number r)
 
 -- "An error given to the counters touches only them." Numbers 1 and 4 are in its reading.
 abbrev pub error_taken : Plain → HandledError → List Mark → Step
@@ -185,9 +176,9 @@ error_taken p r ms =
       crossings = [];
     }
 
-abbrev pub error_step : Plain → DllErrorRead → Step
-error_step p (error_read.Taken e) = error_taken p (handled p.errors e) (error_marks p.errors e)
-error_step p (error_read.Refused r) = declines p no_run (refusal_number r)
+abbrev pub error_step : Plain → Result DllError Refusal → Step
+error_step p (Ok e) = error_taken p (handled p.errors e) (error_marks p.errors e)
+error_step p (Err r) = declines p no_run (refusal_number r)
 
 -- Cycle complete. "It answers yes when the last level reaches 0."
 abbrev pub cycle_taken : Plain → CompletedCycle → List Mark → Step
@@ -238,17 +229,17 @@ abbrev pub hand_out_step : Plain → Step
 hand_out_step p = answers (with_queue p (rest p.queue)) (hand_out_answer (nth p.queue 0)) no_run
 
 -- "A load names the values that it sets (cycle and tolerance also to missing) and leaves the others"
-abbrev pub updated_byte : ℕ → ByteUpdate → ℕ
-updated_byte old (byte.Set n) = n
-updated_byte old byte.Keep = old
+abbrev pub updated_byte : ℕ → Option ℕ → ℕ
+updated_byte old (Some n) = n
+updated_byte old None = old
 
-abbrev pub updated_counter : ℕ → CounterUpdate → ℕ
-updated_counter old (counter.Set n) = n
-updated_counter old counter.Keep = old
+abbrev pub updated_counter : ℕ → Option ℕ → ℕ
+updated_counter old (Some n) = n
+updated_counter old None = old
 
-abbrev pub updated_object : ObjectValue → ObjectUpdate → ObjectValue
-updated_object old (object.Set v) = v
-updated_object old object.Keep = old
+abbrev pub updated_object : Option ℕ → Option (Option ℕ) → Option ℕ
+updated_object old (Some v) = v
+updated_object old None = old
 
 unfoldable pub updated : Dictionary → DictionaryUpdate → Dictionary
 updated o u =
@@ -268,9 +259,9 @@ updated_history old (set l) = take 254 l
 updated_history old keep = old
 
 -- "0x1006 cycle and 0x1C14 tolerance in ns, either of which may be missing (then 0 and 100,000)"
-abbrev pub value_or : ℕ → ObjectValue → ℕ
-value_or none (Unsigned32 n) = n
-value_or none Missing = none
+abbrev pub value_or : ℕ → Option ℕ → ℕ
+value_or none (Some n) = n
+value_or none None = none
 
 abbrev pub cycle_of : Dictionary → ℕ
 cycle_of o = value_or 0 o.cycle_time
@@ -291,5 +282,5 @@ arm_tests t = must (in_time t) 5 ∷ []
 unfoldable pub armed : SocWatch → Dictionary → ℕ → SocWatch
 armed s o t =
     pick (ltb 0 (cycle_of o))
-    (soc_watch t true (At (t + limit_of o)) s.error_status_changed)
-    (soc_watch t false Nothing s.error_status_changed)
+    (soc_watch t true (Some (t + limit_of o)) s.error_status_changed)
+    (soc_watch t false None s.error_status_changed)

@@ -13,43 +13,24 @@ ghost use Rattle.node.specs.InPlace.{InPlace, Processed, said, nmt_said, dll_sai
 
 use crate::timing::armed;
 use counters::counters::{CounterKind, ErrorEffect, effect_of, saturating_add};
-use entries::status_response::FoundEntry;
+use entries::status_response::ErrorEntry;
 use head::parts::{
     counter_of, dll_of, errors_of, forget, links_of, nmt_of, od_of, queue_of, set_counter, set_dll,
     set_levels, set_links, set_nmt, set_queue, set_ready, set_soc, soc_of, state_at, whole,
 };
 use head::state::Head;
 use nmt::state_machine::{ResetSequence, is_reset};
-use types::frame::cs_state_machine::{DllCsEvent, DllCsEventRead};
-use types::frame::error::types::{DllError, DllErrorRead, DllErrors, NmtAction};
-use types::nmt::events::{NmtEvent, NmtEventRead};
+use types::frame::cs_state_machine::DllCsEvent;
+use types::frame::error::types::{DllError, DllErrors, NmtAction};
+use types::nmt::events::NmtEvent;
 use types::nmt::states::NmtState;
 use types::refusals::Refusal;
 use watched::time::in_time;
-
-// What a call answers: the head stands in the words.
-#[derive(Clone, Copy)]
-pub enum CallAnswer {
-    Taken,
-    Refused(Refusal),
-}
 
 #[derive(Clone, Copy)]
 pub struct NmtTaken {
     pub errors: DllErrors,
     pub reset: ResetSequence,
-}
-
-#[derive(Clone, Copy)]
-pub enum NmtEventAnswer {
-    Taken(NmtTaken),
-    Refused(Refusal),
-}
-
-#[derive(Clone, Copy)]
-pub enum DllEventAnswer {
-    Taken(DllErrors),
-    Refused(Refusal),
 }
 
 #[derive(Clone, Copy)]
@@ -59,25 +40,19 @@ pub struct ErrorTaken {
     pub logged: DllErrors,
 }
 
-#[derive(Clone, Copy)]
-pub enum ErrorAnswer {
-    Taken(ErrorTaken),
-    Refused(Refusal),
-}
-
 // The application takes its ready word back.
-pub fn withdraw(head: &mut Head) -> CallAnswer
+pub fn withdraw(head: &mut Head) -> Result<(), Refusal>
     ensures { InPlace head.old Call.withdraw (said result) head.new (withdraw_words head.old) }
 {
     whole(head);
     let state = state_at(head);
     match state {
         NmtState::NmtReadyToOperate => {
-            return CallAnswer::Refused(Refusal::ReadyToOperate);
+            return Err(Refusal::ReadyToOperate);
         }
         _ => {
             set_ready(head, false);
-            return CallAnswer::Taken;
+            return Ok(());
         }
     }
 }
@@ -99,36 +74,36 @@ fn process_event(head: &mut Head, event: NmtEvent) -> NmtTaken
 }
 
 // An NMT event, by its number.
-pub fn nmt_event(head: &mut Head, event: u64) -> NmtEventAnswer
+pub fn nmt_event(head: &mut Head, event: u64) -> Result<NmtTaken, Refusal>
     ensures { InPlace head.old (Call.nmt_event event) (nmt_said result) head.new (nmt_words head.old (read_event event)) }
 {
     whole(head);
     match NmtEvent::try_from(event) {
-        NmtEventRead::Taken(event) => {
+        Ok(event) => {
             let taken = process_event(head, event);
-            return NmtEventAnswer::Taken(taken);
+            return Ok(taken);
         }
-        NmtEventRead::Refused(refusal) => {
-            return NmtEventAnswer::Refused(refusal);
+        Err(refusal) => {
+            return Err(refusal);
         }
     }
 }
 
 // A DLL event, by its number, in the head's own NMT state.
-pub fn dll_event(head: &mut Head, event: u64, expect_preq: bool) -> DllEventAnswer
+pub fn dll_event(head: &mut Head, event: u64, expect_preq: bool) -> Result<DllErrors, Refusal>
     ensures { InPlace head.old (Call.dll_event event expect_preq) (dll_said result) head.new (dll_words head.old expect_preq (read_cs_event event)) }
 {
     whole(head);
     match DllCsEvent::try_from(event) {
-        DllCsEventRead::Taken(event) => {
+        Ok(event) => {
             let answer = dll_of(head).process_event(event, state_at(head), expect_preq);
             let machine = answer.machine;
             let errors = answer.errors;
             set_dll(head, machine);
-            return DllEventAnswer::Taken(errors);
+            return Ok(errors);
         }
-        DllCsEventRead::Refused(refusal) => {
-            return DllEventAnswer::Refused(refusal);
+        Err(refusal) => {
+            return Err(refusal);
         }
     }
 }
@@ -190,16 +165,16 @@ pub fn handled(head: &mut Head, error: DllError) -> ErrorTaken
 }
 
 // One error to the counters, by its kind; a is its node, or a and b are its state and event.
-pub fn handle_error(head: &mut Head, kind: u64, a: u8, b: u8) -> ErrorAnswer
+pub fn handle_error(head: &mut Head, kind: u64, a: u8, b: u8) -> Result<ErrorTaken, Refusal>
     ensures { InPlace head.old (Call.error kind a b) (error_said result) head.new (error_words head.old (read_error kind a b)) }
 {
     whole(head);
     match DllError::try_from(kind, a, b) {
-        DllErrorRead::Taken(error) => {
-            return ErrorAnswer::Taken(handled(head, error));
+        Ok(error) => {
+            return Ok(handled(head, error));
         }
-        DllErrorRead::Refused(refusal) => {
-            return ErrorAnswer::Refused(refusal);
+        Err(refusal) => {
+            return Err(refusal);
         }
     }
 }
@@ -216,20 +191,20 @@ pub fn on_cycle_complete(head: &mut Head) -> bool
 }
 
 // An SoC was received at a time: the check goes on where there is a cycle, with a deadline.
-pub fn arm(head: &mut Head, time: u64) -> CallAnswer
+pub fn arm(head: &mut Head, time: u64) -> Result<(), Refusal>
     ensures { InPlace head.old (Call.arm time) (said result) head.new (arm_words head.old time) }
 {
     whole(head);
     if !in_time(time) {
-        return CallAnswer::Refused(Refusal::TimeLimit);
+        return Err(Refusal::TimeLimit);
     }
     let soc = armed(soc_of(head), od_of(head), time);
     set_soc(head, soc);
-    CallAnswer::Taken
+    Ok(())
 }
 
 // The oldest entry leaves the queue; of an empty one, none does.
-pub fn hand_out(head: &mut Head, memory: &[u8; 640]) -> FoundEntry
+pub fn hand_out(head: &mut Head, memory: &[u8; 640]) -> Option<ErrorEntry>
     ensures { ((m : List ℕ) → Refines (head_of head.old) memory.now m Call.hand_out (left (head_of head.new) (hand_out_answer result)) memory.now m no_run)
         × (head.new ≡ hand_out_words head.old memory.now) }
 {

@@ -3,21 +3,20 @@ ghost use Rattle.std.specs.Prelude.{◌≡◌, ◌+◌, ◌*◌, ◌<◌, set};
 ghost use Rattle.node.specs.InPlace.{moment_of};
 ghost use Rattle.node.specs.Heard.{heard_answer, Heard};
 
-use crate::calls::CallAnswer;
 use head::parts::{set_earliest, whole};
-use head::state::{Deadline, Head};
+use head::state::Head;
 use types::refusals::Refusal;
-use watched::nodes::{Found, NEVER, NodeWords, all_places, find};
+use watched::nodes::{NEVER, NodeWords, all_places, find};
 use watched::time::in_time;
 
 // The moment that a walk found.
-pub fn moment(soonest: u64) -> Deadline
+pub fn moment(soonest: u64) -> Option<u64>
     ensures { result ≡ moment_of soonest }
 {
     if soonest == NEVER {
-        return Deadline::Nothing;
+        return None;
     }
-    Deadline::At(soonest)
+    Some(soonest)
 }
 
 // The time of the node at a place is set.
@@ -29,19 +28,19 @@ fn set_heard(nodes: &mut NodeWords, place: usize, time: u64)
 }
 
 // Numbers 3, 5 and 7, by what was found of the watched nodes: whether they pass number 3, and whether the node is among them.
-pub fn try_heard(formed: bool, time: u64, watched: bool) -> CallAnswer
+pub fn try_heard(formed: bool, time: u64, watched: bool) -> Result<(), Refusal>
     ensures { result ≡ heard_answer formed time watched }
 {
     if !formed {
-        return CallAnswer::Refused(Refusal::WatchedNodes);
+        return Err(Refusal::WatchedNodes);
     }
     if !in_time(time) {
-        return CallAnswer::Refused(Refusal::TimeLimit);
+        return Err(Refusal::TimeLimit);
     }
     if !watched {
-        return CallAnswer::Refused(Refusal::NotWatched);
+        return Err(Refusal::NotWatched);
     }
-    CallAnswer::Taken
+    Ok(())
 }
 
 // A watched node was heard.
@@ -51,24 +50,24 @@ pub fn heard(
     count: usize,
     node: u8,
     time: u64,
-) -> CallAnswer
+) -> Result<(), Refusal>
     ensures { Heard head.old nodes.old count node time result head.new nodes.new }
 {
     whole(head);
     all_places(nodes);
     let found = find(nodes, count, node as u64, time);
-    let Found::Formed(place, soonest) = found else {
+    let Some((place, soonest)) = found else {
         return try_heard(false, time, false);
     };
     let answer = try_heard(true, time, place < count);
     match answer {
-        CallAnswer::Taken => {
+        Ok(()) => {
             set_heard(nodes, place, time);
             set_earliest(head, moment(soonest));
-            return CallAnswer::Taken;
+            return Ok(());
         }
-        CallAnswer::Refused(refusal) => {
-            return CallAnswer::Refused(refusal);
+        Err(refusal) => {
+            return Err(refusal);
         }
     }
 }

@@ -8,76 +8,57 @@ ghost use Rattle.head.specs.Head.{head_with_od};
 
 use entries::error_history::ErrorHistory;
 use head::parts::{byte, set_history, set_object, set_register, set_statistic, whole};
-use head::state::{Head, Object, ObjectValue, Statistic};
-
-// A value that a load sets, or that it leaves.
-#[derive(Clone, Copy)]
-pub enum ByteUpdate {
-    Set(u8),
-    Keep,
-}
-
-#[derive(Clone, Copy)]
-pub enum CounterUpdate {
-    Set(u32),
-    Keep,
-}
-
-#[derive(Clone, Copy)]
-pub enum ObjectUpdate {
-    Set(ObjectValue),
-    Keep,
-}
+use head::state::{Head, Object, Statistic};
 
 #[derive(Clone, Copy)]
 pub struct DictionaryUpdate {
-    pub error_register: ByteUpdate,
-    pub cycle_time: ObjectUpdate,
-    pub tolerance: ObjectUpdate,
-    pub counter_1: CounterUpdate,
-    pub counter_2: CounterUpdate,
-    pub counter_3: CounterUpdate,
-    pub counter_5: CounterUpdate,
+    pub error_register: Option<u8>,
+    pub cycle_time: Option<Option<u32>>,
+    pub tolerance: Option<Option<u32>>,
+    pub counter_1: Option<u32>,
+    pub counter_2: Option<u32>,
+    pub counter_3: Option<u32>,
+    pub counter_5: Option<u32>,
 }
 
-fn load_register(head: &mut Head, update: ByteUpdate)
+fn load_register(head: &mut Head, update: Option<u8>)
     ensures { (head.new ≡ byte_loaded head.old at.register update) × ByteFits update }
 {
     match update {
-        ByteUpdate::Set(n) => {
+        Some(n) => {
             let n = byte(n);
             set_register(head, n);
             return;
         }
-        ByteUpdate::Keep => {
+        None => {
             return;
         }
     }
 }
 
-fn load_object(head: &mut Head, object: Object, update: ObjectUpdate)
+fn load_object(head: &mut Head, object: Object, update: Option<Option<u32>>)
     ensures { head.new ≡ object_loaded head.old (at.object object) update }
 {
     match update {
-        ObjectUpdate::Set(value) => {
+        Some(value) => {
             set_object(head, object, value);
             return;
         }
-        ObjectUpdate::Keep => {
+        None => {
             return;
         }
     }
 }
 
-fn load_statistic(head: &mut Head, statistic: Statistic, update: CounterUpdate)
+fn load_statistic(head: &mut Head, statistic: Statistic, update: Option<u32>)
     ensures { head.new ≡ counter_loaded head.old (at.statistic statistic) update }
 {
     match update {
-        CounterUpdate::Set(n) => {
+        Some(n) => {
             set_statistic(head, statistic, n);
             return;
         }
-        CounterUpdate::Keep => {
+        None => {
             return;
         }
     }

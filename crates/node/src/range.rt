@@ -20,18 +20,6 @@ pub enum SocVerdict {
     Open,
 }
 
-#[derive(Clone, Copy)]
-pub enum RangeAnswer {
-    Taken(SocVerdict),
-    Refused(Refusal),
-}
-
-#[derive(Clone, Copy)]
-pub enum MarginAnswer {
-    Taken(i64),
-    Refused(Refusal),
-}
-
 // How long ago the last SoC was.
 fn elapsed(head: &Head, time: u64) -> u64
     ensures { (result ≡ elapsed (plain (head_of head.now) [] []) time) × (result ≤ time) }
@@ -46,25 +34,25 @@ fn is_loss(head: &Head, time: u64) -> bool
 }
 
 // The SoC between two readings. A reading after a loss is a loss, so the two ends say it of all between them.
-pub fn soc_range(head: &Head, earliest: u64, latest: u64) -> RangeAnswer
+pub fn soc_range(head: &Head, earliest: u64, latest: u64) -> Result<SocVerdict, Refusal>
     ensures { Reading head.now (Call.range earliest latest) (range_said result) }
 {
     if !in_time(earliest) {
-        return RangeAnswer::Refused(Refusal::TimeLimit);
+        return Err(Refusal::TimeLimit);
     }
     if !in_time(latest) {
-        return RangeAnswer::Refused(Refusal::TimeLimit);
+        return Err(Refusal::TimeLimit);
     }
     if latest < earliest {
-        return RangeAnswer::Refused(Refusal::EarliestAfterLatest);
+        return Err(Refusal::EarliestAfterLatest);
     }
     if is_loss(head, earliest) {
-        return RangeAnswer::Taken(SocVerdict::Lost);
+        return Ok(SocVerdict::Lost);
     }
     if is_loss(head, latest) {
-        return RangeAnswer::Taken(SocVerdict::Open);
+        return Ok(SocVerdict::Open);
     }
-    RangeAnswer::Taken(SocVerdict::Kept)
+    Ok(SocVerdict::Kept)
 }
 
 fn signed(n: u64) -> i64
@@ -82,12 +70,12 @@ fn minus(a: u64, b: u64) -> i64
 }
 
 // How much is left of the limit at a reading; below 0, the SoC is lost.
-pub fn soc_margin(head: &Head, time: u64) -> MarginAnswer
+pub fn soc_margin(head: &Head, time: u64) -> Result<i64, Refusal>
     ensures { Reading head.now (Call.margin time) (margin_said result) }
 {
     if !in_time(time) {
-        return MarginAnswer::Refused(Refusal::TimeLimit);
+        return Err(Refusal::TimeLimit);
     }
     let margin = minus(limit(od_of(head)), elapsed(head, time));
-    MarginAnswer::Taken(margin)
+    Ok(margin)
 }

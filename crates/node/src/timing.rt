@@ -2,7 +2,7 @@
 ghost use Rattle.std.specs.Prelude.{◌≡◌, ◌-◌, ◌≤◌, ◌/◌, min};
 ghost use Rattle.node.specs.Steps.{value_or, cycle_of, tolerance_of, limit_of, armed};
 
-use head::state::{Deadline, Dictionary, ObjectValue, SocWatch};
+use head::state::{Dictionary, SocWatch};
 use watched::time::LATEST_TIME;
 
 // How long ago a moment is, at least 0.
@@ -12,12 +12,12 @@ pub fn time_since(time: u64, moment: u64) -> u64
     if moment <= time { time - moment } else { 0 }
 }
 
-fn value_or(none: u32, value: ObjectValue) -> u64
+fn value_or(none: u32, value: Option<u32>) -> u64
     ensures { (result ≡ value_or none value) × (result ≤ 4294967295) }
 {
     match value {
-        ObjectValue::Unsigned32(n) => n as u64,
-        ObjectValue::Missing => none as u64,
+        Some(n) => n as u64,
+        None => none as u64,
     }
 }
 
@@ -64,14 +64,14 @@ pub(crate) fn armed(soc: SocWatch, od: Dictionary, time: u64) -> SocWatch
         return SocWatch {
             last_soc_reception_time_us: time,
             soc_timeout_check_active: true,
-            next_tick_us: Deadline::At(time + limit(od)),
+            next_tick_us: Some(time + limit(od)),
             error_status_changed: soc.error_status_changed,
         };
     }
     SocWatch {
         last_soc_reception_time_us: time,
         soc_timeout_check_active: false,
-        next_tick_us: Deadline::Nothing,
+        next_tick_us: None,
         error_status_changed: soc.error_status_changed,
     }
 }

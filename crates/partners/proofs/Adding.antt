@@ -12,30 +12,30 @@ use Rattle.types.specs.Types.{is_node}
 use Rattle.types.specs.Refusals.{refusal_number}
 use Rattle.types.specs.declared.refusals.Refusal.{Refusal}
 use Rattle.types.specs.declared.refusals.Refusal.TheVariants.{NodeNumber, WatchedNodes, AllWatched, AlreadyWatched}
-use Rattle.head.specs.declared.state.Deadline.{Deadline}
+use Rattle.std.specs.declared.result.Result.{Result}
+use Rattle.std.specs.declared.option.Option.{Option}
+use Rattle.std.specs.declared.result.Result.TheVariants.{Ok, Err}
 use Rattle.head.specs.Written.{earliest_written}
 use Rattle.watched.specs.Watched.{in_time, is_watched, Run, watching, well_lent}
-use Rattle.node.specs.declared.calls.CallAnswer.{CallAnswer}
-use Rattle.node.specs.declared.calls.CallAnswer.TheVariants as answer
 use Rattle.node.specs.Plain.{Plain, add}
 use Rattle.node.specs.Steps.{declines, leaves, earliest, added}
 use Rattle.node.specs.Run.{step}
 use Rattle.node.proofs.OnRuns.{run_declined, run_taken}
 use Rattle.partners.specs.Partners.{add_answer, AddedOn}
 
-abbrev by_tests : Bool → Bool → Bool → Bool → Bool → CallAnswer
+abbrev by_tests : Bool → Bool → Bool → Bool → Bool → Result (Unit {0}) Refusal
 by_tests v f b w l =
     pick v
-    (pick (both f b) (pick (not w) (pick l answer.Taken (answer.Refused AllWatched)) (answer.Refused AlreadyWatched)) (answer.Refused WatchedNodes))
-    (answer.Refused NodeNumber)
+    (pick (both f b) (pick (not w) (pick l (Ok tt) (Err AllWatched)) (Err AlreadyWatched)) (Err WatchedNodes))
+    (Err NodeNumber)
 
 -- what an accepted add passed
 pub add_passed :
-    (v f : Bool) (o : ℕ) (w : Bool) (k : ℕ) → answer.Taken ≡ add_answer v f o w k →
+    (v f : Bool) (o : ℕ) (w : Bool) (k : ℕ) → (Ok tt) ≡ add_answer v f o w k →
     (v ≡ true) × (f ≡ true) × (in_time o ≡ true) × (w ≡ false) × (ltb k 32 ≡ true)
 add_passed v f o w k = by v f (in_time o) w (ltb k 32)
   where
-    by : (v f b w l : Bool) → answer.Taken ≡ by_tests v f b w l → (v ≡ true) × (f ≡ true) × (b ≡ true) × (w ≡ false) × (l ≡ true)
+    by : (v f b w l : Bool) → (Ok tt) ≡ by_tests v f b w l → (v ≡ true) × (f ≡ true) × (b ≡ true) × (w ≡ false) × (l ≡ true)
     by true true true false true e = (refl, refl, refl, refl, refl)
     by true true true false false e = absurd (let z : ◌≡◌ {A = ℕ} 0 1 = cc in let x : ⊥ = omega arith in x)
     by true true true true l e = absurd (let z : ◌≡◌ {A = ℕ} 0 1 = cc in let x : ⊥ = omega arith in x)
@@ -44,14 +44,14 @@ add_passed v f o w k = by v f (in_time o) w (ltb k 32)
     by false f b w l e = absurd (let z : ◌≡◌ {A = ℕ} 0 1 = cc in let x : ⊥ = omega arith in x)
 
 module _ (ws : List ℕ) (r : Run) (n o : ℕ) (v : Bool) (a : v ≡ is_node n) where
-  abbrev Declined : CallAnswer → Type 0
+  abbrev Declined : Result (Unit {0}) Refusal → Type 0
   Declined c = AddedOn ws r n o c ws r
 
-  declines_by : (y : Refusal) → ((p : Plain) → step p (add n o r) ≡ declines p r (refusal_number y)) → (c : CallAnswer) → c ≡ answer.Refused y → Declined c
+  declines_by : (y : Refusal) → ((p : Plain) → step p (add n o r) ≡ declines p r (refusal_number y)) → (c : Result (Unit {0}) Refusal) → c ≡ Err y → Declined c
   declines_by y s c g = subst Declined (sym g) (run_declined ws (add n o r) r y s)
 
   -- of a run that number 3 declines, nothing else is asked
-  pub add_unformed : well_lent r ≡ false → (w : Bool) (k : ℕ) (c : CallAnswer) → c ≡ add_answer v false o w k → Declined c
+  pub add_unformed : well_lent r ≡ false → (w : Bool) (k : ℕ) (c : Result (Unit {0}) Refusal) → c ≡ add_answer v false o w k → Declined c
   add_unformed f w k c = by v (sym a)
     where
       by : (v : Bool) → is_node n ≡ v → c ≡ add_answer v false o w k → Declined c
@@ -59,12 +59,12 @@ module _ (ws : List ℕ) (r : Run) (n o : ℕ) (v : Bool) (a : v ≡ is_node n) 
       by false a g = declines_by NodeNumber (λ p. rw a) c g
 
   module _ (f w : Bool) (e : f ≡ well_lent r) (d : w ≡ is_watched n (watching r)) where
-    pub add_declined : (x : Refusal) → answer.Refused x ≡ add_answer v f o w r.number → Declined (answer.Refused x)
+    pub add_declined : (x : Refusal) → Err x ≡ add_answer v f o w r.number → Declined (Err x)
     add_declined x = by v f (in_time o) w (ltb r.number 32) (sym a) (sym e) refl (sym d) refl
       where
         by :
             (v f b w l : Bool) → is_node n ≡ v → well_lent r ≡ f → in_time o ≡ b → is_watched n (watching r) ≡ w → ltb r.number 32 ≡ l →
-            answer.Refused x ≡ by_tests v f b w l → Declined (answer.Refused x)
+            Err x ≡ by_tests v f b w l → Declined (Err x)
         by true true true false true a e b d h g = absurd (let z : ◌≡◌ {A = ℕ} 0 1 = cc in let x : ⊥ = omega arith in x)
         by true true true false false a e b d h g = declines_by AllWatched (λ p. rw (a, e, b, d, h)) _ g
         by true true true true l a e b d h g = declines_by AlreadyWatched (λ p. rw (a, e, b, d)) _ g
@@ -73,8 +73,8 @@ module _ (ws : List ℕ) (r : Run) (n o : ℕ) (v : Bool) (a : v ≡ is_node n) 
         by false f c w l a e b d h g = declines_by NodeNumber (λ p. rw a) _ g
 
     pub add_taken :
-        answer.Taken ≡ add_answer v f o w r.number → length ws ≡ 60 → (r' : Run) → r' ≡ added n o r → (m : Deadline) → m ≡ earliest (watching r') →
-        (ws' : List ℕ) → ws' ≡ earliest_written ws m → AddedOn ws r n o answer.Taken ws' r'
+        (Ok tt) ≡ add_answer v f o w r.number → length ws ≡ 60 → (r' : Run) → r' ≡ added n o r → (m : Option ℕ) → m ≡ earliest (watching r') →
+        (ws' : List ℕ) → ws' ≡ earliest_written ws m → AddedOn ws r n o (Ok tt) ws' r'
     add_taken g long r' s m z ws' u =
         let x = add_passed v f o w r.number g in
         let i : is_node n ≡ true = sym a ∙ x.0 in

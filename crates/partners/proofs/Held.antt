@@ -10,8 +10,8 @@ use lib.ListN.{length, replicate, length-append}
 use lib.Seq.{take_at}
 use Rattle.types.specs.Pick.{pick, both, either}
 use Rattle.types.proofs.Tests.{both_second}
-use Rattle.head.specs.declared.state.Deadline.{Deadline}
-use Rattle.head.specs.declared.state.Deadline.TheVariants.{At, Nothing}
+use Rattle.std.specs.declared.option.Option.{Option}
+use Rattle.std.specs.declared.option.Option.TheVariants.{Some, None}
 use Rattle.watched.specs.declared.nodes.WatchedNode.{WatchedNode}
 use Rattle.watched.specs.Watched.{well_formed, no_node, watched_node, is_watched, heard_now, heard_at, Run, watching, well_lent, inserted, without, holding}
 use Rattle.watched.specs.Nodes.{never, soonest}
@@ -26,20 +26,20 @@ held ws =
     watched_take (ws ++ rest) (length ws) (rw length-append (omega arith)) ∙ take_at ws rest (length ws) refl
 
 -- a node that was not heard is late at no moment
-unheard_late : (n o : ℕ) → late_from (watched_node n o 0) ≡ Nothing
+unheard_late : (n o : ℕ) → late_from (watched_node n o 0) ≡ None
 unheard_late n o = by (ltb 0 o)
   where
-    by : (b : Bool) → pick (both b false) (At (0 + o + 1)) Nothing ≡ Nothing
+    by : (b : Bool) → pick (both b false) (Some (0 + o + 1)) None ≡ None
     by true = refl
     by false = refl
 
-inserted_earliest : (v : WatchedNode) → late_from v ≡ Nothing → (ws : List WatchedNode) → earliest (inserted v ws) ≡ earliest ws
+inserted_earliest : (v : WatchedNode) → late_from v ≡ None → (ws : List WatchedNode) → earliest (inserted v ws) ≡ earliest ws
 unfolding earliest
-inserted_earliest v e [] = ap (λ (d : Deadline). smaller d Nothing) e
+inserted_earliest v e [] = ap (λ (d : Option ℕ). smaller d None) e
 inserted_earliest v e (w ∷ ws) = by (ltb v.node w.node) (inserted_earliest v e ws)
   where
     by : (b : Bool) → earliest (inserted v ws) ≡ earliest ws → earliest (pick b (v ∷ w ∷ ws) (w ∷ inserted v ws)) ≡ earliest (w ∷ ws)
-    by true x = ap (λ (d : Deadline). smaller d (earliest (w ∷ ws))) e
+    by true x = ap (λ (d : Option ℕ). smaller d (earliest (w ∷ ws))) e
     by false x = ap (smaller (late_from w)) x
 
 without_earliest : (n : ℕ) (ws : List WatchedNode) → earliest (heard_at n 0 ws) ≡ earliest (without n ws)
@@ -50,7 +50,7 @@ without_earliest n (w ∷ ws) = by (eqb w.node n) (without_earliest n ws)
     by :
         (b : Bool) → earliest (heard_at n 0 ws) ≡ earliest (without n ws) →
         earliest (pick b (heard_now 0 w ∷ ws) (w ∷ heard_at n 0 ws)) ≡ earliest (pick b ws (w ∷ without n ws))
-    by true x = ap (λ (d : Deadline). smaller d (earliest ws)) (unheard_late w.node w.timeout)
+    by true x = ap (λ (d : Option ℕ). smaller d (earliest ws)) (unheard_late w.node w.timeout)
     by false x = ap (smaller (late_from w)) x
 
 nowhere_heard : (n t : ℕ) (ws : List WatchedNode) → is_watched n ws ≡ false → heard_at n t ws ≡ ws

@@ -10,19 +10,17 @@ use borrow.Author.Tests.{ltb-true, ltb-false}
 use Rattle.types.specs.Pick.{pick}
 use Rattle.types.specs.Types.{is_node, node, read_node}
 use Rattle.types.specs.declared.types.NodeId.{NodeId}
-use Rattle.types.specs.declared.types.NodeIdRead.{NodeIdRead}
-use Rattle.types.specs.declared.types.NodeIdRead.TheVariants as node-id
+use Rattle.std.specs.declared.result.Result.{Result}
+use Rattle.std.specs.declared.option.Option.{Option}
+use Rattle.std.specs.declared.result.Result.TheVariants.{Ok, Err}
 use Rattle.types.specs.declared.refusals.Refusal.{Refusal}
 use Rattle.types.specs.declared.refusals.Refusal.TheVariants.{NodeNumber, WatchedNodes}
-use Rattle.head.specs.declared.state.Deadline.{Deadline}
 use Rattle.head.specs.Written.{earliest_written}
 use Rattle.watched.specs.declared.nodes.WatchedNode.{WatchedNode}
 use Rattle.watched.specs.Watched.{well_formed, is_watched, heard_at, place_of, watched_node, watched_of, Run, run, watching, well_lent}
 use Rattle.watched.specs.Nodes.{never, nodes_of, soonest}
 use Rattle.watched.proofs.Lists.{watched_there, watched_nowhere}
 use Rattle.watched.proofs.Watching.{places, few, lent_words}
-use Rattle.node.specs.declared.calls.CallAnswer.{CallAnswer}
-use Rattle.node.specs.declared.calls.CallAnswer.TheVariants as answer
 use Rattle.node.specs.Steps.{earliest, added}
 use Rattle.node.specs.InPlace.{moment_of, unless_refused}
 use Rattle.partners.specs.Partners.{add_answer, remove_answer, words_of, Added, Removed}
@@ -34,20 +32,20 @@ use Rattle.partners.proofs.Adding as Adding
 use Rattle.partners.proofs.Removing as Removing
 
 -- the number of a node, as it was read
-module _ (n : ℕ) (a : NodeIdRead) (e : a ≡ read_node n) where
-  pub is_node_lem : (x : NodeId) → a ≡ node-id.Taken x → true ≡ is_node n
+module _ (n : ℕ) (a : Result NodeId Refusal) (e : a ≡ read_node n) where
+  pub is_node_lem : (x : NodeId) → a ≡ Ok x → true ≡ is_node n
   unfolding read_node
   is_node_lem x g = by (is_node n) (sym g ∙ e)
     where
-      by : (b : Bool) → node-id.Taken x ≡ pick {A = NodeIdRead} b (node-id.Taken (node n)) (node-id.Refused NodeNumber) → true ≡ b
+      by : (b : Bool) → Ok x ≡ pick {A = Result NodeId Refusal} b (Ok (node n)) (Err NodeNumber) → true ≡ b
       by true h = refl
       by false h = cc
 
-  pub no_node_lem : (x : Refusal) → a ≡ node-id.Refused x → false ≡ is_node n
+  pub no_node_lem : (x : Refusal) → a ≡ Err x → false ≡ is_node n
   unfolding read_node
   no_node_lem x g = by (is_node n) (sym g ∙ e)
     where
-      by : (b : Bool) → node-id.Refused x ≡ pick {A = NodeIdRead} b (node-id.Taken (node n)) (node-id.Refused NodeNumber) → false ≡ b
+      by : (b : Bool) → Err x ≡ pick {A = Result NodeId Refusal} b (Ok (node n)) (Err NodeNumber) → false ≡ b
       by true h = cc
       by false h = refl
 
@@ -62,18 +60,18 @@ module _ (ws ns : List ℕ) (k n : ℕ) where
   r = run ps k
 
   -- a declined call leaves every word
-  leaves_all : (c : CallAnswer) (y : Refusal) → c ≡ answer.Refused y → (l : List ℕ) → ns ≡ unless_refused c ns l
-  leaves_all c y g l = ap (λ (c : CallAnswer). unless_refused c ns l) (sym g)
+  leaves_all : (c : Result (Unit {0}) Refusal) (y : Refusal) → c ≡ Err y → (l : List ℕ) → ns ≡ unless_refused c ns l
+  leaves_all c y g l = ap (λ (c : Result (Unit {0}) Refusal). unless_refused c ns l) (sym g)
 
   pub add_unformed :
-      well_formed vs ≡ false → (o : ℕ) (v : Bool) → v ≡ is_node n → (c : CallAnswer) → c ≡ add_answer v false o false k → Added ws ns k n o c ws ns k
+      well_formed vs ≡ false → (o : ℕ) (v : Bool) → v ≡ is_node n → (c : Result (Unit {0}) Refusal) → c ≡ add_answer v false o false k → Added ws ns k n o c ws ns k
   add_unformed f o v a c g = record { on = Adding.add_unformed ws r n o v a (lent_words ns k ∙ f) false k c g; nodes = by v g }
     where
       by : (v : Bool) → c ≡ add_answer v false o false k → ns ≡ unless_refused c ns (words_of (added n o r).places)
       by true g = leaves_all c WatchedNodes g _
       by false g = leaves_all c NodeNumber g _
 
-  pub remove_unformed : well_formed vs ≡ false → (c : CallAnswer) → c ≡ remove_answer false false → Removed ws ns k n c ws ns k
+  pub remove_unformed : well_formed vs ≡ false → (c : Result (Unit {0}) Refusal) → c ≡ remove_answer false false → Removed ws ns k n c ws ns k
   remove_unformed f c g = record { on = Removing.remove_unformed ws r n (lent_words ns k ∙ f) false c g; nodes = leaves_all c WatchedNodes g _ }
 
   module _ (f : well_formed vs ≡ true) (p : ℕ) (e : p ≡ place_of n vs) (w : Bool) (z : w ≡ ltb p k) where
@@ -91,17 +89,17 @@ module _ (ws ns : List ℕ) (k n : ℕ) where
         by false c = sym (watched_nowhere ps k (places ns) below n 0 p e (ltb-false p k c))
 
     -- add
-    module _ (o : ℕ) (v : Bool) (a : v ≡ is_node n) (c : CallAnswer) (x : c ≡ add_answer v true o w k) where
-      pub add_room : c ≡ answer.Taken → k < 32
+    module _ (o : ℕ) (v : Bool) (a : v ≡ is_node n) (c : Result (Unit {0}) Refusal) (x : c ≡ add_answer v true o w k) where
+      pub add_room : c ≡ (Ok tt) → k < 32
       add_room g = ltb-true k 32 (Adding.add_passed v true o w k (sym g ∙ x)).4
 
-      pub add_declined : (y : Refusal) → c ≡ answer.Refused y → Added ws ns k n o (answer.Refused y) ws ns k
+      pub add_declined : (y : Refusal) → c ≡ Err y → Added ws ns k n o (Err y) ws ns k
       add_declined y g = record { on = Adding.add_declined ws r n o v a true w (sym lent) among y (sym g ∙ x); nodes = refl }
 
       pub add_taken :
-          c ≡ answer.Taken → length ws ≡ 60 → (ns' : List ℕ) → nodes_of ns' ≡ carried k (watched_node n o 0) ps → length ns' ≡ 96 →
-          (s : ℕ) → s ≡ soonest never (heard_at n 0 vs) → (m : Deadline) → m ≡ moment_of s →
-          (ws' : List ℕ) → ws' ≡ earliest_written ws m → Added ws ns k n o answer.Taken ws' ns' (k + 1)
+          c ≡ (Ok tt) → length ws ≡ 60 → (ns' : List ℕ) → nodes_of ns' ≡ carried k (watched_node n o 0) ps → length ns' ≡ 96 →
+          (s : ℕ) → s ≡ soonest never (heard_at n 0 vs) → (m : Option ℕ) → m ≡ moment_of s →
+          (ws' : List ℕ) → ws' ≡ earliest_written ws m → Added ws ns k n o (Ok tt) ws' ns' (k + 1)
       add_taken g long ns' u all s h m y ws' q =
           let left = add_left ps k n (places ns) f o (add_room g) (nodes_of ns') u in
           let none : is_watched n vs ≡ false = sym among ∙ (Adding.add_passed v true o w k (sym g ∙ x)).3 in
@@ -113,17 +111,17 @@ module _ (ws ns : List ℕ) (k n : ℕ) where
           }
 
     -- removal
-    module _ (c : CallAnswer) (x : c ≡ remove_answer true w) where
-      pub remove_inside : c ≡ answer.Taken → (p < k) × (k ≤ 32)
+    module _ (c : Result (Unit {0}) Refusal) (x : c ≡ remove_answer true w) where
+      pub remove_inside : c ≡ (Ok tt) → (p < k) × (k ≤ 32)
       remove_inside g = (ltb-true p k (sym z ∙ (Removing.remove_passed true w (sym g ∙ x)).1), below)
 
-      pub remove_declined : (y : Refusal) → c ≡ answer.Refused y → Removed ws ns k n (answer.Refused y) ws ns k
+      pub remove_declined : (y : Refusal) → c ≡ Err y → Removed ws ns k n (Err y) ws ns k
       remove_declined y g = record { on = Removing.remove_declined ws r n true w (sym lent) among y (sym g ∙ x); nodes = refl }
 
       pub remove_taken :
-          c ≡ answer.Taken → length ws ≡ 60 → (ns' : List ℕ) → nodes_of ns' ≡ take p ps ++ closed (k - p) (drop p ps) → length ns' ≡ 96 →
-          (s : ℕ) → s ≡ soonest never (heard_at n 0 vs) → (m : Deadline) → m ≡ moment_of s →
-          (ws' : List ℕ) → ws' ≡ earliest_written ws m → Removed ws ns k n answer.Taken ws' ns' (k - 1)
+          c ≡ (Ok tt) → length ws ≡ 60 → (ns' : List ℕ) → nodes_of ns' ≡ take p ps ++ closed (k - p) (drop p ps) → length ns' ≡ 96 →
+          (s : ℕ) → s ≡ soonest never (heard_at n 0 vs) → (m : Option ℕ) → m ≡ moment_of s →
+          (ws' : List ℕ) → ws' ≡ earliest_written ws m → Removed ws ns k n (Ok tt) ws' ns' (k - 1)
       remove_taken g long ns' u all s h m y ws' q =
           let left = remove_left ps k n (places ns) f p e (remove_inside g).0 (nodes_of ns') u in
           record {

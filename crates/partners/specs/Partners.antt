@@ -6,28 +6,29 @@ use Rattle.types.specs.declared.refusals.Refusal.TheVariants.{NodeNumber, Watche
 use Rattle.watched.specs.declared.nodes.WatchedNode.{WatchedNode}
 use Rattle.watched.specs.Watched.{in_time, Run, run}
 use Rattle.watched.specs.Nodes.{nodes_of}
-use Rattle.node.specs.declared.calls.CallAnswer.{CallAnswer}
-use Rattle.node.specs.declared.calls.CallAnswer.TheVariants as answer
+use Rattle.std.specs.declared.result.Result.{Result}
+use Rattle.std.specs.declared.result.Result.TheVariants.{Ok, Err}
+use Rattle.types.specs.declared.refusals.Refusal.{Refusal}
 use Rattle.node.specs.Plain.{Call}
 use Rattle.node.specs.Steps.{must, tried, added, removed}
 use Rattle.node.specs.InPlace.{unless_refused, OnRun}
 
 -- numbers 1, 3, 10 and 9, by what was found: whether a node has the number, whether the run passes number 3, and whether the node is watched
-abbrev pub add_answer : Bool → Bool → ℕ → Bool → ℕ → CallAnswer
+abbrev pub add_answer : Bool → Bool → ℕ → Bool → ℕ → Result (Unit {0}) Refusal
 add_answer known formed o watched k =
     tried
     (must known NodeNumber ∷ must (both formed (in_time o)) WatchedNodes ∷ must (not watched) AlreadyWatched ∷ must (ltb k 32) AllWatched ∷ [])
-    answer.Refused answer.Taken
+    Err (Ok tt)
 
 -- numbers 3 and 7
-abbrev pub remove_answer : Bool → Bool → CallAnswer
-remove_answer formed watched = tried (must formed WatchedNodes ∷ must watched NotWatched ∷ []) answer.Refused answer.Taken
+abbrev pub remove_answer : Bool → Bool → Result (Unit {0}) Refusal
+remove_answer formed watched = tried (must formed WatchedNodes ∷ must watched NotWatched ∷ []) Err (Ok tt)
 
 -- Of a call on the words ws and the run r, which answered a and left ws' and r'.
-abbrev pub AddedOn : List ℕ → Run → ℕ → ℕ → CallAnswer → List ℕ → Run → Type 0
+abbrev pub AddedOn : List ℕ → Run → ℕ → ℕ → Result (Unit {0}) Refusal → List ℕ → Run → Type 0
 AddedOn ws r n o a ws' r' = OnRun ws (Call.add n o r) a ws' r'
 
-abbrev pub RemovedOn : List ℕ → Run → ℕ → CallAnswer → List ℕ → Run → Type 0
+abbrev pub RemovedOn : List ℕ → Run → ℕ → Result (Unit {0}) Refusal → List ℕ → Run → Type 0
 RemovedOn ws r n a ws' r' = OnRun ws (Call.remove n r) a ws' r'
 
 -- the words of nodes, three a node
@@ -37,10 +38,10 @@ words_of (v ∷ vs) = v.node ∷ v.timeout ∷ v.last_heard ∷ words_of vs
 
 -- The same of nodes in the words ns, of which the first k are watched; and every word of theirs: those of all 32 places of the run that is left, and by a
 -- declined call none is written.
-pub record Added (ws ns : List ℕ) (k n o : ℕ) (a : CallAnswer) (ws' ns' : List ℕ) (k' : ℕ) : Type 0 where
+pub record Added (ws ns : List ℕ) (k n o : ℕ) (a : Result (Unit {0}) Refusal) (ws' ns' : List ℕ) (k' : ℕ) : Type 0 where
   pub on : AddedOn ws (run (nodes_of ns) k) n o a ws' (run (nodes_of ns') k')
   pub nodes : ns' ≡ unless_refused a ns (words_of (added n o (run (nodes_of ns) k)).places)
 
-pub record Removed (ws ns : List ℕ) (k n : ℕ) (a : CallAnswer) (ws' ns' : List ℕ) (k' : ℕ) : Type 0 where
+pub record Removed (ws ns : List ℕ) (k n : ℕ) (a : Result (Unit {0}) Refusal) (ws' ns' : List ℕ) (k' : ℕ) : Type 0 where
   pub on : RemovedOn ws (run (nodes_of ns) k) n a ws' (run (nodes_of ns') k')
   pub nodes : ns' ≡ unless_refused a ns (words_of (removed n (run (nodes_of ns) k)).places)

@@ -11,11 +11,10 @@ ghost use Rattle.partners.specs.Partners.{add_answer, remove_answer, Added, Remo
 
 use head::parts::{set_earliest, whole};
 use head::state::Head;
-use node::calls::CallAnswer;
 use node::heard::moment;
 use types::refusals::Refusal;
-use types::types::{NodeId, NodeIdRead};
-use watched::nodes::{Found, NodeWords, all_places, find};
+use types::types::NodeId;
+use watched::nodes::{NodeWords, all_places, find};
 use watched::time::in_time;
 
 // The words of one place.
@@ -88,44 +87,50 @@ pub fn is_known(node: u8) -> bool
     ensures { result ≡ is_node node }
 {
     match NodeId::try_from(node) {
-        NodeIdRead::Taken(_) => true,
-        NodeIdRead::Refused(_) => false,
+        Ok(_) => true,
+        Err(_) => false,
     }
 }
 
 // Numbers 1, 3, 10 and 9, by what was found: whether a node has the number, whether the watched nodes pass number 3, and whether the node is among them.
-pub fn try_add(known: bool, formed: bool, timeout: u64, watched: bool, number: usize) -> CallAnswer
+pub fn try_add(
+    known: bool,
+    formed: bool,
+    timeout: u64,
+    watched: bool,
+    number: usize,
+) -> Result<(), Refusal>
     ensures { result ≡ add_answer known formed timeout watched number }
 {
     if !known {
-        return CallAnswer::Refused(Refusal::NodeNumber);
+        return Err(Refusal::NodeNumber);
     }
     if !formed {
-        return CallAnswer::Refused(Refusal::WatchedNodes);
+        return Err(Refusal::WatchedNodes);
     }
     if !in_time(timeout) {
-        return CallAnswer::Refused(Refusal::WatchedNodes);
+        return Err(Refusal::WatchedNodes);
     }
     if watched {
-        return CallAnswer::Refused(Refusal::AlreadyWatched);
+        return Err(Refusal::AlreadyWatched);
     }
     if 32 <= number {
-        return CallAnswer::Refused(Refusal::AllWatched);
+        return Err(Refusal::AllWatched);
     }
-    CallAnswer::Taken
+    Ok(())
 }
 
 // Numbers 3 and 7.
-pub fn try_remove(formed: bool, watched: bool) -> CallAnswer
+pub fn try_remove(formed: bool, watched: bool) -> Result<(), Refusal>
     ensures { result ≡ remove_answer formed watched }
 {
     if !formed {
-        return CallAnswer::Refused(Refusal::WatchedNodes);
+        return Err(Refusal::WatchedNodes);
     }
     if !watched {
-        return CallAnswer::Refused(Refusal::NotWatched);
+        return Err(Refusal::NotWatched);
     }
-    CallAnswer::Taken
+    Ok(())
 }
 
 // A node is watched from now on, with its timeout, and not yet heard: so it is not late at any moment yet.
@@ -135,53 +140,58 @@ pub fn add(
     count: &mut usize,
     node: u8,
     timeout: u64,
-) -> CallAnswer
+) -> Result<(), Refusal>
     ensures { Added head.old nodes.old count.old node timeout result head.new nodes.new count.new }
 {
     whole(head);
     let number = *count;
     let known = is_known(node);
     let found = find(nodes, number, node as u64, 0);
-    let Found::Formed(place, soonest) = found else {
+    let Some((place, soonest)) = found else {
         return try_add(known, false, timeout, false, number);
     };
     let answer = try_add(known, true, timeout, place < number, number);
     match answer {
-        CallAnswer::Taken => {
+        Ok(()) => {
             insert(nodes, number, node as u64, timeout);
             // 96 words, of which the places fix every one.
             all_places(nodes);
             *count = number + 1;
             set_earliest(head, moment(soonest));
-            return CallAnswer::Taken;
+            return Ok(());
         }
-        CallAnswer::Refused(refusal) => {
-            return CallAnswer::Refused(refusal);
+        Err(refusal) => {
+            return Err(refusal);
         }
     }
 }
 
 // A node is watched no more. The soonest moment with it not heard is that of the others.
-pub fn remove(head: &mut Head, nodes: &mut NodeWords, count: &mut usize, node: u8) -> CallAnswer
+pub fn remove(
+    head: &mut Head,
+    nodes: &mut NodeWords,
+    count: &mut usize,
+    node: u8,
+) -> Result<(), Refusal>
     ensures { Removed head.old nodes.old count.old node result head.new nodes.new count.new }
 {
     whole(head);
     let number = *count;
     let found = find(nodes, number, node as u64, 0);
-    let Found::Formed(place, soonest) = found else {
+    let Some((place, soonest)) = found else {
         return try_remove(false, false);
     };
     let answer = try_remove(true, place < number);
     match answer {
-        CallAnswer::Taken => {
+        Ok(()) => {
             close(nodes, number, place);
             all_places(nodes);
             *count = number - 1;
             set_earliest(head, moment(soonest));
-            return CallAnswer::Taken;
+            return Ok(());
         }
-        CallAnswer::Refused(refusal) => {
-            return CallAnswer::Refused(refusal);
+        Err(refusal) => {
+            return Err(refusal);
         }
     }
 }

@@ -14,8 +14,9 @@ use Rattle.types.specs.Events.{events, event_number, read_event}
 use Rattle.types.specs.declared.nmt.states.NmtState.TheVariants.{NmtGsInitialising, NmtReadyToOperate}
 use Rattle.types.specs.declared.nmt.events.NmtEvent.{NmtEvent}
 use Rattle.types.specs.declared.nmt.events.NmtEvent.TheVariants.{StartNode}
-use Rattle.types.specs.declared.nmt.events.NmtEventRead.{NmtEventRead}
-use Rattle.types.specs.declared.nmt.events.NmtEventRead.TheVariants as event_read
+use Rattle.std.specs.declared.result.Result.{Result}
+use Rattle.std.specs.declared.result.Result.TheVariants.{Ok, Err}
+use Rattle.types.specs.declared.refusals.Refusal.{Refusal}
 use Rattle.types.proofs.Cases.{everywhere, NmtEvents}
 use Rattle.types.proofs.RoundTrips.{events_faithful}
 use Rattle.types.proofs.Tests.{both_first, both_second, either_cases}
@@ -105,7 +106,7 @@ event_moves p e =
     forgets_there (is_reset e) (with_nmt p (processed p.nmt e).machine) ∙ ap (λ (o : Outcome). position_in o.machine) (sym (ruled_read p.nmt e))
 
 number_moves : (p : Plain) (e : NmtEvent) → position (step p (nmt_event (event_number e))).head ≡ moved (position p) e
-number_moves p e = ap (λ (r : NmtEventRead). position (nmt_step p r).head) (events_faithful.back e) ∙ event_moves p e
+number_moves p e = ap (λ (r : Result NmtEvent Refusal). position (nmt_step p r).head) (events_faithful.back e) ∙ event_moves p e
 
 -- and so does whether it takes a withdrawal
 abbrev may_withdraw : Position → Bool
@@ -200,9 +201,9 @@ module _
 
   -- every position that is reached has a line with at most so many steps
   module _ (s : Start) where
-    by_event : {n : ℕ} (q : Plain) → Within ls n (position q) → (r : NmtEventRead) → Within ls (suc n) (position (nmt_step q r).head)
-    by_event q w (event_read.Taken e) = subst (Within ls _) (sym (event_moves q e)) (on_event w e)
-    by_event q w (event_read.Refused r) = more w
+    by_event : {n : ℕ} (q : Plain) → Within ls n (position q) → (r : Result NmtEvent Refusal) → Within ls (suc n) (position (nmt_step q r).head)
+    by_event q w (Ok e) = subst (Within ls _) (sym (event_moves q e)) (on_event w e)
+    by_event q w (Err r) = more w
 
     by_withdrawal : {n : ℕ} (q : Plain) → Within ls n (position q) → (b : Bool) → may_withdraw (position q) ≡ b → Within ls (suc n) (position (withdraw_by q b).head)
     by_withdrawal q w true h = on_withdrawal w h

@@ -10,36 +10,35 @@ use Rattle.types.specs.Flags.{flags}
 use Rattle.types.specs.Kinds.{CodeAnswer, kind_number, refused_by}
 use Rattle.types.specs.declared.common.NetTime.{NetTime}
 use Rattle.types.specs.declared.nmt.flags.FeatureFlags.{FeatureFlags}
-use Rattle.types.specs.declared.nmt.states.NmtStateRead.{NmtStateRead}
-use Rattle.types.specs.declared.nmt.states.NmtStateRead.TheVariants as state
-use Rattle.types.specs.declared.nmt.events.NmtStateCommandRead.{NmtStateCommandRead}
-use Rattle.types.specs.declared.nmt.events.NmtStateCommandRead.TheVariants as command
-use Rattle.types.specs.declared.nmt.events.NmtManagingCommandRead.{NmtManagingCommandRead}
-use Rattle.types.specs.declared.nmt.events.NmtManagingCommandRead.TheVariants as managing
-use Rattle.types.specs.declared.types.MessageTypeRead.{MessageTypeRead}
-use Rattle.types.specs.declared.types.MessageTypeRead.TheVariants as message
-use Rattle.readings.specs.declared.Reading.{Reading}
-use Rattle.readings.specs.declared.Reading.TheVariants.{Number, Nothing}
+use Rattle.std.specs.declared.result.Result.{Result}
+use Rattle.std.specs.declared.option.Option.{Option}
+use Rattle.std.specs.declared.result.Result.TheVariants.{Ok, Err}
+use Rattle.std.specs.declared.option.Option.TheVariants.{Some, None}
+use Rattle.types.specs.declared.nmt.states.NmtState.{NmtState}
+use Rattle.types.specs.declared.refusals.Refusal.{Refusal}
+use Rattle.types.specs.declared.nmt.events.NmtStateCommand.{NmtStateCommand}
+use Rattle.types.specs.declared.nmt.events.NmtManagingCommand.{NmtManagingCommand}
+use Rattle.types.specs.declared.types.MessageType.{MessageType}
 
-abbrev pub of_state : NmtStateRead → Reading
-of_state (state.Taken s) = Number (state_number s)
-of_state (state.Refused r) = Nothing
+abbrev pub of_state : Result NmtState Refusal → Option ℕ
+of_state (Ok s) = Some (state_number s)
+of_state (Err r) = None
 
-abbrev pub of_command : NmtStateCommandRead → Reading
-of_command (command.Taken s) = Number (command_number s)
-of_command (command.Refused r) = Nothing
+abbrev pub of_command : Result NmtStateCommand Refusal → Option ℕ
+of_command (Ok s) = Some (command_number s)
+of_command (Err r) = None
 
-abbrev pub of_managing : NmtManagingCommandRead → Reading
-of_managing (managing.Taken s) = Number (managing_number s)
-of_managing (managing.Refused r) = Nothing
+abbrev pub of_managing : Result NmtManagingCommand Refusal → Option ℕ
+of_managing (Ok s) = Some (managing_number s)
+of_managing (Err r) = None
 
-abbrev pub of_message : MessageTypeRead → Reading
-of_message (message.Taken m) = Number (message_number m)
-of_message message.Unknown = Nothing
+abbrev pub of_message : Option MessageType → Option ℕ
+of_message (Some m) = Some (message_number m)
+of_message None = None
 
-abbrev pub of_code : CodeAnswer → Reading
-of_code (kind_number n) = Number n
-of_code (refused_by n) = Nothing
+abbrev pub of_code : CodeAnswer → Option ℕ
+of_code (kind_number n) = Some n
+of_code (refused_by n) = None
 
 -- the flag at place n of the sixteen: the number with that bit alone
 unfoldable pub flag_at : ℕ → FeatureFlags

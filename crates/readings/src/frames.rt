@@ -3,17 +3,16 @@ ghost use Rattle.std.specs.Prelude.{◌≡◌};
 ghost use Rattle.types.specs.Frames.{read_message};
 ghost use Rattle.readings.specs.Shown.{of_message};
 
-use crate::{Reading, print_reading, say, say_hex2, say_number};
+use crate::{print_reading, say, say_hex2, say_number};
 use forms::output::Output;
-use types::frame::FrameNmtEvent;
-use types::types::{MessageType, MessageTypeRead};
+use types::types::MessageType;
 
-fn message(n: u8) -> Reading
+fn message(n: u8) -> Option<u8>
     ensures { result ≡ of_message (read_message n) }
 {
     match MessageType::try_from(n) {
-        MessageTypeRead::Taken(kind) => Reading::Number(kind.as_u8()),
-        MessageTypeRead::Unknown => Reading::Nothing,
+        Some(kind) => Some(kind.as_u8()),
+        None => None,
     }
 }
 
@@ -27,10 +26,10 @@ pub(crate) fn print_messages(out: &mut Output) {
     }
 }
 
-fn say_nmt_event(out: &mut Output, event: FrameNmtEvent) {
+fn say_nmt_event(out: &mut Output, event: Option<NmtEvent>) {
     match event {
-        FrameNmtEvent::Some(event) => say_number(out, event.as_u8() as u64),
-        FrameNmtEvent::None => say(out, b"none"),
+        Some(event) => say_number(out, event.as_u8() as u64),
+        None => say(out, b"none"),
     }
 }
 
@@ -45,12 +44,12 @@ fn say_events(out: &mut Output, kind: MessageType) {
 // The places of a kind's DLL event and NMT event; of a number that is no kind, nothing.
 fn print_frame(out: &mut Output, n: u8) {
     match MessageType::try_from(n) {
-        MessageTypeRead::Taken(kind) => {
+        Some(kind) => {
             say(out, b"(frame ");
             say_hex2(out, kind.as_u8() as u64);
             say_events(out, kind);
         }
-        MessageTypeRead::Unknown => {}
+        None => {}
     }
 }
 

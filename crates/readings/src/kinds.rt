@@ -3,16 +3,16 @@ ghost use Rattle.std.specs.Prelude.{◌≡◌, ◌≤◌};
 ghost use Rattle.types.specs.Kinds.{kind_behind};
 ghost use Rattle.readings.specs.Shown.{of_code};
 
-use crate::{Reading, say, say_hex4, say_number};
+use crate::{say, say_hex4, say_number};
 use forms::output::Output;
-use types::frame::error::kinds::{DllErrorKind, DllErrorKindRead};
+use types::frame::error::kinds::DllErrorKind;
 
-fn kind(code: u64) -> Reading
+fn kind(code: u64) -> Option<u8>
     ensures { result ≡ of_code (kind_behind code) }
 {
     match DllErrorKind::from_error_code(code) {
-        DllErrorKindRead::Taken(kind) => Reading::Number(kind.place()),
-        DllErrorKindRead::Refused(_) => Reading::Nothing,
+        Ok(kind) => Some(kind.place()),
+        Err(_) => None,
     }
 }
 
@@ -21,7 +21,7 @@ fn print_kind(out: &mut Output, code: u64) -> u64
     ensures { result ≤ 1 }
 {
     match kind(code) {
-        Reading::Number(place) => {
+        Some(place) => {
             say(out, b"(kind ");
             say_hex4(out, code);
             say(out, b" ");
@@ -29,7 +29,7 @@ fn print_kind(out: &mut Output, code: u64) -> u64
             say(out, b")\n");
             0
         }
-        Reading::Nothing => 1,
+        None => 1,
     }
 }
 

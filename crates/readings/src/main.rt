@@ -13,16 +13,11 @@ mod times;
 
 use forms::output::Output;
 use std::io;
-use types::frame::error::types::{DllError, DllErrorRead};
-use types::nmt::events::{
-    NmtManagingCommand, NmtManagingCommandRead, NmtStateCommand, NmtStateCommandRead,
-};
+use types::frame::error::types::DllError;
+use types::nmt::events::{NmtManagingCommand, NmtStateCommand};
 use types::nmt::flags::FeatureFlags;
-use types::nmt::states::{NmtState, NmtStateRead};
-use types::types::{
-    C_ADR_BROADCAST_NODE_ID, C_ADR_DIAG_DEF_NODE_ID, C_ADR_MN_DEF_NODE_ID, C_ADR_RT1_DEF_NODE_ID,
-    NodeId, NodeIdRead,
-};
+use types::nmt::states::NmtState;
+use types::types::{C_ADR_BROADCAST_NODE_ID, C_ADR_DIAG_DEF_NODE_ID, C_ADR_MN_DEF_NODE_ID, C_ADR_RT1_DEF_NODE_ID, NodeId};
 
 fn say(out: &mut Output, text: &[u8]) {
     out.write(text);
@@ -44,8 +39,8 @@ fn print_node(out: &mut Output, n: u8) {
     say(out, b"(node ");
     say_number(out, n as u64);
     match NodeId::try_from(n) {
-        NodeIdRead::Taken(_) => say(out, b" taken)\n"),
-        NodeIdRead::Refused(_) => say(out, b" refused)\n"),
+        Ok(_) => say(out, b" taken)\n"),
+        Err(_) => say(out, b" refused)\n"),
     }
 }
 
@@ -77,50 +72,43 @@ fn print_addresses(out: &mut Output) {
     }
 }
 
-// The number of what was read, or nothing.
-#[derive(Clone, Copy)]
-enum Reading {
-    Number(u8),
-    Nothing,
-}
-
-fn state(n: u64) -> Reading
+fn state(n: u64) -> Option<u8>
     ensures { result ≡ of_state (read_state n) }
 {
     match NmtState::try_from(n) {
-        NmtStateRead::Taken(state) => Reading::Number(state.as_u8()),
-        NmtStateRead::Refused(_) => Reading::Nothing,
+        Ok(state) => Some(state.as_u8()),
+        Err(_) => None,
     }
 }
 
-fn command(n: u64) -> Reading
+fn command(n: u64) -> Option<u8>
     ensures { result ≡ of_command (read_command n) }
 {
     match NmtStateCommand::try_from(n) {
-        NmtStateCommandRead::Taken(command) => Reading::Number(command.as_u8()),
-        NmtStateCommandRead::Refused(_) => Reading::Nothing,
+        Ok(command) => Some(command.as_u8()),
+        Err(_) => None,
     }
 }
 
-fn managing_command(n: u64) -> Reading
+fn managing_command(n: u64) -> Option<u8>
     ensures { result ≡ of_managing (read_managing n) }
 {
     match NmtManagingCommand::try_from(n) {
-        NmtManagingCommandRead::Taken(command) => Reading::Number(command.as_u8()),
-        NmtManagingCommandRead::Refused(_) => Reading::Nothing,
+        Ok(command) => Some(command.as_u8()),
+        Err(_) => None,
     }
 }
 
-fn print_reading(out: &mut Output, name: &[u8], n: u64, reading: Reading) {
+fn print_reading(out: &mut Output, name: &[u8], n: u64, reading: Option<u8>) {
     say(out, name);
     say_number(out, n);
     match reading {
-        Reading::Number(number) => {
+        Some(number) => {
             say(out, b" ");
             say_hex2(out, number as u64);
             say(out, b")\n");
         }
-        Reading::Nothing => say(out, b" refused)\n"),
+        None => say(out, b" refused)\n"),
     }
 }
 
@@ -142,14 +130,14 @@ fn print_readings(out: &mut Output) {
 
 fn print_code(out: &mut Output, kind: u64) {
     match DllError::try_from(kind, 17, 2) {
-        DllErrorRead::Taken(error) => {
+        Ok(error) => {
             say(out, b"(code ");
             say_number(out, kind);
             say(out, b" ");
             say_hex4(out, error.to_error_code() as u64);
             say(out, b")\n");
         }
-        DllErrorRead::Refused(_) => {}
+        Err(_) => {}
     }
 }
 

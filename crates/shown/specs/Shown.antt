@@ -11,19 +11,17 @@ use Rattle.entries.specs.Desk.{Reply}
 use Rattle.entries.specs.declared.status_response.ErrorEntry.{ErrorEntry}
 use Rattle.head.specs.Head.{Head}
 use Rattle.head.specs.Words.{one}
-use Rattle.head.specs.declared.state.Deadline.{Deadline}
-use Rattle.head.specs.declared.state.Deadline.TheVariants as deadline
-use Rattle.head.specs.declared.state.ObjectValue.{ObjectValue}
-use Rattle.head.specs.declared.state.ObjectValue.TheVariants.{Unsigned32, Missing}
+use Rattle.std.specs.declared.option.Option.{Option}
+use Rattle.std.specs.declared.option.Option.TheVariants.{Some, None}
 use Rattle.answers.specs.Numbers.{nothing}
 
-abbrev pub deadline_number : Deadline → ℕ
-deadline_number (deadline.At t) = t
-deadline_number deadline.Nothing = nothing
+abbrev pub deadline_number : Option ℕ → ℕ
+deadline_number (Some t) = t
+deadline_number None = nothing
 
-abbrev pub object_number : ObjectValue → ℕ
-object_number (Unsigned32 n) = n
-object_number Missing = nothing
+abbrev pub object_number : Option ℕ → ℕ
+object_number (Some n) = n
+object_number None = nothing
 
 -- NMT: state, enabled, ready, node, flags, timeout; then the DLL state
 abbrev pub machines_shown : Head → List ℕ

@@ -16,11 +16,10 @@ ghost use Rattle.shown.specs.Shown.{deadline_number, object_number, machines_sho
 pub mod forms;
 
 use answers::NOTHING;
-use bitmap::BitmapAnswer;
-use entries::desk::{ErrorEntryRead, read_at};
+use entries::desk::read_at;
 use entries::status_response::ErrorEntry;
 use head::parts::{dll_of, earliest_of, errors_of, history_of, nmt_of, od_of, queue_of, soc_of};
-use head::state::{Deadline, Head, ObjectValue};
+use head::state::Head;
 use watched::nodes::NodeWords;
 
 fn one(x: bool) -> u64
@@ -77,12 +76,12 @@ fn counters(head: &Head) -> [u64; 15]
     ]
 }
 
-fn deadline_number(deadline: Deadline) -> u64
+fn deadline_number(deadline: Option<u64>) -> u64
     ensures { result ≡ deadline_number deadline }
 {
     match deadline {
-        Deadline::At(time) => time,
-        Deadline::Nothing => NOTHING,
+        Some(time) => time,
+        None => NOTHING,
     }
 }
 
@@ -100,12 +99,12 @@ fn soc(head: &Head) -> [u64; 4]
     ]
 }
 
-fn object_number(value: ObjectValue) -> u64
+fn object_number(value: Option<u32>) -> u64
     ensures { result ≡ object_number value }
 {
     match value {
-        ObjectValue::Unsigned32(n) => n as u64,
-        ObjectValue::Missing => NOTHING,
+        Some(n) => n as u64,
+        None => NOTHING,
     }
 }
 
@@ -200,8 +199,8 @@ pub fn entry(bytes: &[u8]) -> [u64; 8]
     ensures { result ≡ reply_shown (read_reply bytes.now 0) }
 {
     match read_at(bytes, 0) {
-        ErrorEntryRead::Taken(entry) => return entry_numbers(entry),
-        ErrorEntryRead::Refused(_) => return [0; 8],
+        Ok(entry) => return entry_numbers(entry),
+        Err(_) => return [0; 8],
     }
 }
 
@@ -226,7 +225,7 @@ pub fn bits(nodes: &NodeWords, count: usize, bytes: &mut [u8; 32]) -> [u64; 2]
     ensures { (result ≡ bits_shown (bitmap_reply (watched_of (nodes_of nodes.now) count))) × (bytes.new ≡ bytes_after (watched_of (nodes_of nodes.now) count) bytes.old) }
 {
     match bitmap::bitmap(nodes, count, bytes) {
-        BitmapAnswer::Taken(number) => return [0, number as u64],
-        BitmapAnswer::Refused(refusal) => return [refusal.number() as u64, 0],
+        Ok(number) => return [0, number as u64],
+        Err(refusal) => return [refusal.number() as u64, 0],
     }
 }

@@ -19,8 +19,10 @@ use Rattle.counters.specs.declared.counters.CnErrorCounters.{CnErrorCounters}
 use Rattle.counters.specs.declared.counters.Thresholds.{Thresholds}
 use Rattle.head.specs.declared.state.Dictionary.{Dictionary}
 use Rattle.head.specs.Head.{dictionary}
-use Rattle.head.specs.declared.state.ObjectValue.{ObjectValue}
-use Rattle.head.specs.declared.state.ObjectValue.TheVariants.{Unsigned32, Missing}
+use Rattle.std.specs.declared.result.Result.{Result}
+use Rattle.std.specs.declared.option.Option.{Option}
+use Rattle.std.specs.declared.result.Result.TheVariants.{Ok, Err}
+use Rattle.std.specs.declared.option.Option.TheVariants.{Some, None}
 use Rattle.watched.specs.declared.nodes.WatchedNode.{WatchedNode}
 use Rattle.watched.specs.Watched.{well_formed, no_node, heard_now, watched_of, Run, run, well_lent, unheard_first}
 use Rattle.start.specs.Started.{fresh_head, fresh_words, unheard_words, StartedIn, BeginsBy}
@@ -30,19 +32,17 @@ use Rattle.head.specs.Places as at
 use Rattle.head.specs.Words.{head_of}
 use Rattle.head.specs.Written.{nmt_written, identity_written, thresholds_written, od_written}
 use Rattle.watched.specs.Nodes.{nodes_of}
-use Rattle.node.specs.declared.calls.CallAnswer.{CallAnswer}
-use Rattle.node.specs.declared.calls.CallAnswer.TheVariants as answer
 use Rattle.watched.proofs.Watching.{places, lent_words, heard_written}
 
 -- computed: four cases, by the two objects that may be missing
 fresh_read :
-    (n : NodeId) (f : FeatureFlags) (t k r : ℕ) (x y : ObjectValue) (a b c d : ℕ) (ts : Thresholds) →
+    (n : NodeId) (f : FeatureFlags) (t k r : ℕ) (x y : Option ℕ) (a b c d : ℕ) (ts : Thresholds) →
     head_of (fresh_words n f t k (dictionary r x y a b c d) ts) ≡ fresh_head (node (n.0 % 256)) f t (k % 256) (dictionary (r % 256) x y a b c d) ts
 unfolding head_of fresh_words read_state
-fresh_read n f t k r (Unsigned32 u) (Unsigned32 v) a b c d ts = refl
-fresh_read n f t k r (Unsigned32 u) Missing a b c d ts = refl
-fresh_read n f t k r Missing (Unsigned32 v) a b c d ts = refl
-fresh_read n f t k r Missing Missing a b c d ts = refl
+fresh_read n f t k r (Some u) (Some v) a b c d ts = refl
+fresh_read n f t k r (Some u) None a b c d ts = refl
+fresh_read n f t k r None (Some v) a b c d ts = refl
+fresh_read n f t k r None None a b c d ts = refl
 
 fresh_written :
     (n : NodeId) (f : FeatureFlags) (t k : ℕ) (o : Dictionary) (ts : Thresholds) →
@@ -95,28 +95,28 @@ module _ (ns₀ ns : List ℕ) (i : ℕ) (inside : i < 32) (long : length ns ≡
   unheard_long = length-set ns (3 * i + 2) 0 ∙ long
 
 -- the nodes in words
-module _ (ws ns : List ℕ) (k n : ℕ) (f : FeatureFlags) (t c : ℕ) (o : Dictionary) (ts : Thresholds) (formed : Bool) (e : formed ≡ well_formed (watched_of (nodes_of ns) k)) (r : CallAnswer) (ws' : List ℕ) (b : BeginsBy ws n f t c o ts formed r ws') where
+module _ (ws ns : List ℕ) (k n : ℕ) (f : FeatureFlags) (t c : ℕ) (o : Dictionary) (ts : Thresholds) (formed : Bool) (e : formed ≡ well_formed (watched_of (nodes_of ns) k)) (r : Result (Unit {0}) Refusal) (ws' : List ℕ) (b : BeginsBy ws n f t c o ts formed r ws') where
   abbrev lent_run : Run
   lent_run = run (nodes_of ns) k
 
   lent : formed ≡ well_lent lent_run
   lent = e ∙ sym (lent_words ns k)
 
-  pub declined : (x : Refusal) → r ≡ answer.Refused x → StartedIn ws ns k n f t c o ts (answer.Refused x) ws' ns
-  declined x g = record { on = (subst (λ (r : CallAnswer). BeginsBy ws n f t c o ts formed r ws') g b).on lent_run lent lent_run refl; nodes = refl }
+  pub declined : (x : Refusal) → r ≡ Err x → StartedIn ws ns k n f t c o ts (Err x) ws' ns
+  declined x g = record { on = (subst (λ (r : Result (Unit {0}) Refusal). BeginsBy ws n f t c o ts formed r ws') g b).on lent_run lent lent_run refl; nodes = refl }
 
-  pub below : r ≡ answer.Taken → k ≤ 32
+  pub below : r ≡ (Ok tt) → k ≤ 32
   below g = few (nodes_of ns) k formed e (taken_formed n c formed ts (sym b.answer ∙ g))
 
   pub begun :
-      r ≡ answer.Taken →
+      r ≡ (Ok tt) →
       (ns' : List ℕ) →
       (ns' ≡ unheard_words k ns) × (nodes_of ns' ≡ unheard_first k (nodes_of ns)) →
-      StartedIn ws ns k n f t c o ts answer.Taken ws' ns'
+      StartedIn ws ns k n f t c o ts (Ok tt) ws' ns'
   begun g ns' u =
       record {
         on =
-            (subst (λ (r : CallAnswer). BeginsBy ws n f t c o ts formed r ws') g b).on lent_run lent (run (nodes_of ns') k)
+            (subst (λ (r : Result (Unit {0}) Refusal). BeginsBy ws n f t c o ts formed r ws') g b).on lent_run lent (run (nodes_of ns') k)
             (ap (λ (l : List WatchedNode). run l k) u.1);
         nodes = u.0;
       }

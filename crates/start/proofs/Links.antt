@@ -1,7 +1,8 @@
 -- What start ensures, as its contract in src/ is read, is `Begins` on the head that the words stand for; and it asks nothing of its caller.
 -- Assumes nothing.
 use mathlib.Core.Path.{◌≡◌}
-use Rattle.node.specs.declared.calls.CallAnswer.{CallAnswer}
+use Rattle.std.specs.declared.result.Result.{Result}
+use Rattle.types.specs.declared.refusals.Refusal.{Refusal}
 use Rattle.watched.specs.Watched.{run}
 use Rattle.start.specs.Started.{start_of, Begins, unheard_words}
 use Rattle.head.specs.Words.{head_of}
@@ -11,7 +12,7 @@ use Rattle.start.proofs.start.start.Reads as start-reads
 
 -- κs: the lifetimes; a: the arguments; o: what is returned; x: what is lent, as it is left
 pub start_begins :
-    (κs : _) (a : _) (o : CallAnswer) (x : _) → start-reads.Learnt κs a o x →
+    (κs : _) (a : _) (o : Result (Unit {0}) Refusal) (x : _) → start-reads.Learnt κs a o x →
     Begins
     (start_of a.1.1.1.0 a.1.1.1.1.0 a.1.1.1.1.1.0 a.1.1.1.1.1.1.0 a.1.1.1.1.1.1.1.0 a.1.1.1.1.1.1.1.1.0
     (run (nodes_of a.1.0.now) a.1.1.0))
@@ -20,7 +21,7 @@ start_begins κs a o x e = e.on.begins
 
 -- the words of the nodes: a declined start leaves them
 pub start_leaves :
-    (κs : _) (a : _) (o : CallAnswer) (x : _) → start-reads.Learnt κs a o x →
+    (κs : _) (a : _) (o : Result (Unit {0}) Refusal) (x : _) → start-reads.Learnt κs a o x →
     x.1.0.now ≡ unless_refused o a.1.0.now (unheard_words a.1.1.0 a.1.0.now)
 start_leaves κs a o x e = e.nodes
 

@@ -13,20 +13,18 @@ use Rattle.types.specs.Refusals.{refusal_number}
 use Rattle.types.specs.declared.refusals.Refusal.{Refusal}
 use Rattle.types.specs.declared.refusals.Refusal.TheVariants.{NodeNumber, QueueCapacity, WatchedNodes, ThresholdLimit}
 use Rattle.types.specs.declared.types.NodeId.{NodeId}
-use Rattle.types.specs.declared.types.NodeIdRead.{NodeIdRead}
-use Rattle.types.specs.declared.types.NodeIdRead.TheVariants as node-id
+use Rattle.std.specs.declared.result.Result.{Result}
+use Rattle.std.specs.declared.result.Result.TheVariants.{Ok, Err}
+use Rattle.std.specs.declared.option.Option.TheVariants.{None}
 use Rattle.types.specs.declared.nmt.flags.FeatureFlags.{FeatureFlags}
 use Rattle.nmt.specs.Nmt as Nmt
 use Rattle.dll.specs.declared.cs_state_machine.DllCsState.TheVariants.{NonCyclic}
 use Rattle.counters.specs.Counters.{new_counters, thresholds_fit}
 use Rattle.counters.specs.declared.counters.Thresholds.{Thresholds}
 use Rattle.entries.proofs.Lists.{waiting_new, history_new}
-use Rattle.head.specs.declared.state.Deadline.TheVariants.{Nothing}
 use Rattle.head.specs.declared.state.Dictionary.{Dictionary}
 use Rattle.head.specs.Head.{Head, soc_watch}
 use Rattle.head.specs.Words.{head_of}
-use Rattle.node.specs.declared.calls.CallAnswer.{CallAnswer}
-use Rattle.node.specs.declared.calls.CallAnswer.TheVariants as answer
 use Rattle.watched.specs.Watched.{unheard, Run, well_lent, changing}
 use Rattle.node.specs.Plain.{Plain, Start, begins, declined, FirstStep}
 use Rattle.node.specs.Steps.{plain_of, fresh, started}
@@ -34,11 +32,11 @@ use Rattle.start.specs.Started.{start_of, fresh_head, fresh_words, start_answer,
 use Rattle.node.specs.Refines.{plain}
 
 -- a node number that was read
-read_is : (n : ℕ) (x : NodeId) → read_node n ≡ node-id.Taken x → node n ≡ x
+read_is : (n : ℕ) (x : NodeId) → read_node n ≡ Ok x → node n ≡ x
 unfolding read_node
 read_is n x h = by (is_node n) h
   where
-    by : (b : Bool) → pick {A = NodeIdRead} b (node-id.Taken (node n)) (node-id.Refused NodeNumber) ≡ node-id.Taken x → node n ≡ x
+    by : (b : Bool) → pick {A = Result NodeId Refusal} b (Ok (node n)) (Err NodeNumber) ≡ Ok x → node n ≡ x
     by true e = cc
     by false e = absurd (let z : ◌≡◌ {A = ℕ} 0 1 = cc in let f : ⊥ = omega arith in f)
 
@@ -48,7 +46,7 @@ module _ (ws : List ℕ) (run : Run) (n : ℕ) (f : FeatureFlags) (t c : ℕ) (o
   s = start_of n f t c o ts run
 
   abbrev fresh_with : NodeId → Plain
-  fresh_with x = plain_of (Nmt.new_machine x f t) NonCyclic (new_counters ts) (soc_watch 0 false Nothing false) o c [] [] Nothing
+  fresh_with x = plain_of (Nmt.new_machine x f t) NonCyclic (new_counters ts) (soc_watch 0 false None false) o c [] [] None
 
   abbrev no : Refusal → FirstStep
   no r = record { begun = declined (refusal_number r); lent = run }
@@ -56,9 +54,9 @@ module _ (ws : List ℕ) (run : Run) (n : ℕ) (f : FeatureFlags) (t c : ℕ) (o
   abbrev yes : NodeId → FirstStep
   yes x = record { begun = begins (fresh_with x); lent = changing unheard run }
 
-  abbrev by_node : NodeIdRead → FirstStep
-  by_node (node-id.Taken x) = pick (leb c 32) (pick (well_lent run) (pick (thresholds_fit ts) (yes x) (no ThresholdLimit)) (no WatchedNodes)) (no QueueCapacity)
-  by_node (node-id.Refused r) = no r
+  abbrev by_node : Result NodeId Refusal → FirstStep
+  by_node (Ok x) = pick (leb c 32) (pick (well_lent run) (pick (thresholds_fit ts) (yes x) (no ThresholdLimit)) (no WatchedNodes)) (no QueueCapacity)
+  by_node (Err r) = no r
 
   started_by_lem : started s ≡ by_node (read_node n)
   unfolding started fresh read_node
@@ -67,12 +65,12 @@ module _ (ws : List ℕ) (run : Run) (n : ℕ) (f : FeatureFlags) (t c : ℕ) (o
       by :
           (b : Bool) →
           pick b (pick (leb c 32) (pick (well_lent run) (pick (thresholds_fit ts) (yes (node n)) (no ThresholdLimit)) (no WatchedNodes)) (no QueueCapacity)) (no NodeNumber)
-          ≡ by_node (pick b (node-id.Taken (node n)) (node-id.Refused NodeNumber))
+          ≡ by_node (pick b (Ok (node n)) (Err NodeNumber))
       by true = refl
       by false = refl
 
-  module _ (i : NodeIdRead) (e : i ≡ read_node n) where
-    start_declined : (x : Refusal) → started s ≡ no x → StartedOn ws run n f t c o ts (answer.Refused x) ws run
+  module _ (i : Result NodeId Refusal) (e : i ≡ read_node n) where
+    start_declined : (x : Refusal) → started s ≡ no x → StartedOn ws run n f t c o ts (Err x) ws run
     start_declined x g =
         record {
           begins = record {
@@ -83,21 +81,21 @@ module _ (ws : List ℕ) (run : Run) (n : ℕ) (f : FeatureFlags) (t c : ℕ) (o
           words = refl;
         }
 
-    pub start_no_node : (x : Refusal) → i ≡ node-id.Refused x → StartedOn ws run n f t c o ts (answer.Refused x) ws run
+    pub start_no_node : (x : Refusal) → i ≡ Err x → StartedOn ws run n f t c o ts (Err x) ws run
     start_no_node x g = start_declined x (started_by_lem ∙ ap by_node (sym e ∙ g))
 
-    module _ (x : NodeId) (g : i ≡ node-id.Taken x) where
-      after_node : started s ≡ by_node (node-id.Taken x)
+    module _ (x : NodeId) (g : i ≡ Ok x) where
+      after_node : started s ≡ by_node (Ok x)
       after_node = started_by_lem ∙ ap by_node (sym e ∙ g)
 
-      pub start_no_room : 32 < c → StartedOn ws run n f t c o ts (answer.Refused QueueCapacity) ws run
+      pub start_no_room : 32 < c → StartedOn ws run n f t c o ts (Err QueueCapacity) ws run
       start_no_room z = start_declined QueueCapacity (after_node ∙ rw (lt-leb c 32 z))
 
       module _ (z : c ≤ 32) where
-        pub start_unformed : well_lent run ≡ false → StartedOn ws run n f t c o ts (answer.Refused WatchedNodes) ws run
+        pub start_unformed : well_lent run ≡ false → StartedOn ws run n f t c o ts (Err WatchedNodes) ws run
         start_unformed a = start_declined WatchedNodes (after_node ∙ rw (le-leb c 32 z, a))
 
-        pub start_unlimited : well_lent run ≡ true → thresholds_fit ts ≡ false → StartedOn ws run n f t c o ts (answer.Refused ThresholdLimit) ws run
+        pub start_unlimited : well_lent run ≡ true → thresholds_fit ts ≡ false → StartedOn ws run n f t c o ts (Err ThresholdLimit) ws run
         start_unlimited a u = start_declined ThresholdLimit (after_node ∙ rw (le-leb c 32 z, a, u))
 
         pub start_taken :
@@ -107,7 +105,7 @@ module _ (ws : List ℕ) (run : Run) (n : ℕ) (f : FeatureFlags) (t c : ℕ) (o
             (head_of ws' ≡ fresh_head x f t c o ts) × (ws' ≡ fresh_words x f t c o ts) →
             (l : Run) →
             l ≡ changing unheard run →
-            StartedOn ws run n f t c o ts answer.Taken ws' l
+            StartedOn ws run n f t c o ts (Ok tt) ws' l
         start_taken a u ws' r l d =
             let steps : started s ≡ yes x = after_node ∙ rw (le-leb c 32 z, a, u) in
             let all : min c 32 ≡ c = omega arith in
@@ -123,61 +121,61 @@ module _ (ws : List ℕ) (run : Run) (n : ℕ) (f : FeatureFlags) (t c : ℕ) (o
             }
 
 -- what the tests say
-abbrev by_tests : Bool → Bool → Bool → Bool → CallAnswer
+abbrev by_tests : Bool → Bool → Bool → Bool → Result (Unit {0}) Refusal
 by_tests a b f l =
-    pick a (pick b (pick f (pick l answer.Taken (answer.Refused ThresholdLimit)) (answer.Refused WatchedNodes)) (answer.Refused QueueCapacity)) (answer.Refused NodeNumber)
+    pick a (pick b (pick f (pick l (Ok tt) (Err ThresholdLimit)) (Err WatchedNodes)) (Err QueueCapacity)) (Err NodeNumber)
 
-pub taken_formed : (n c : ℕ) (f : Bool) (ts : Thresholds) → start_answer n c f ts ≡ answer.Taken → f ≡ true
+pub taken_formed : (n c : ℕ) (f : Bool) (ts : Thresholds) → start_answer n c f ts ≡ (Ok tt) → f ≡ true
 taken_formed n c f ts e = by (is_node n) (leb c 32) f e
   where
-    by : (a b f : Bool) → by_tests a b f (thresholds_fit ts) ≡ answer.Taken → f ≡ true
+    by : (a b f : Bool) → by_tests a b f (thresholds_fit ts) ≡ (Ok tt) → f ≡ true
     by true true true e = refl
     by true true false e = absurd (let z : ◌≡◌ {A = ℕ} 0 1 = cc in let x : ⊥ = omega arith in x)
     by true false f e = absurd (let z : ◌≡◌ {A = ℕ} 0 1 = cc in let x : ⊥ = omega arith in x)
     by false b f e = absurd (let z : ◌≡◌ {A = ℕ} 0 1 = cc in let x : ⊥ = omega arith in x)
 
 -- start without the run, test by test
-module _ (ws : List ℕ) (n : ℕ) (f : FeatureFlags) (t c : ℕ) (o : Dictionary) (ts : Thresholds) (formed : Bool) (i : NodeIdRead) (e : i ≡ read_node n) where
-  abbrev read_by : Bool → NodeIdRead
-  read_by b = pick b (node-id.Taken (node n)) (node-id.Refused NodeNumber)
+module _ (ws : List ℕ) (n : ℕ) (f : FeatureFlags) (t c : ℕ) (o : Dictionary) (ts : Thresholds) (formed : Bool) (i : Result NodeId Refusal) (e : i ≡ read_node n) where
+  abbrev read_by : Bool → Result NodeId Refusal
+  read_by b = pick b (Ok (node n)) (Err NodeNumber)
 
-  no_node_lem : (x : Refusal) → i ≡ node-id.Refused x → (is_node n ≡ false) × (x ≡ NodeNumber)
+  no_node_lem : (x : Refusal) → i ≡ Err x → (is_node n ≡ false) × (x ≡ NodeNumber)
   unfolding read_node
   no_node_lem x g = by (is_node n) (sym e ∙ g)
     where
-      by : (b : Bool) → read_by b ≡ node-id.Refused x → (b ≡ false) × (x ≡ NodeNumber)
+      by : (b : Bool) → read_by b ≡ Err x → (b ≡ false) × (x ≡ NodeNumber)
       by true h = absurd (let z : ◌≡◌ {A = ℕ} 0 1 = cc in let x : ⊥ = omega arith in x)
       by false h = (refl, cc)
 
-  a_node : (x : NodeId) → i ≡ node-id.Taken x → is_node n ≡ true
+  a_node : (x : NodeId) → i ≡ Ok x → is_node n ≡ true
   unfolding read_node
   a_node x g = by (is_node n) (sym e ∙ g)
     where
-      by : (b : Bool) → read_by b ≡ node-id.Taken x → b ≡ true
+      by : (b : Bool) → read_by b ≡ Ok x → b ≡ true
       by true h = refl
       by false h = absurd (let z : ◌≡◌ {A = ℕ} 0 1 = cc in let x : ⊥ = omega arith in x)
 
   declines :
-      (x : Refusal) → answer.Refused x ≡ start_answer n c formed ts →
-      ((run : Run) → formed ≡ well_lent run → StartedOn ws run n f t c o ts (answer.Refused x) ws run) →
-      BeginsBy ws n f t c o ts formed (answer.Refused x) ws
+      (x : Refusal) → Err x ≡ start_answer n c formed ts →
+      ((run : Run) → formed ≡ well_lent run → StartedOn ws run n f t c o ts (Err x) ws run) →
+      BeginsBy ws n f t c o ts formed (Err x) ws
   declines x a k =
       record {
         answer = a;
-        on = λ run g l y. subst (StartedOn ws run n f t c o ts (answer.Refused x) ws) (sym y) (k run g);
+        on = λ run g l y. subst (StartedOn ws run n f t c o ts (Err x) ws) (sym y) (k run g);
       }
 
-  pub begins_no_node : (x : Refusal) → i ≡ node-id.Refused x → BeginsBy ws n f t c o ts formed (answer.Refused x) ws
+  pub begins_no_node : (x : Refusal) → i ≡ Err x → BeginsBy ws n f t c o ts formed (Err x) ws
   begins_no_node x g =
       let p = no_node_lem x g in
-      declines x (ap answer.Refused p.1 ∙ sym (ap (λ (b : Bool). by_tests b (leb c 32) formed (thresholds_fit ts)) p.0))
+      declines x (ap Err p.1 ∙ sym (ap (λ (b : Bool). by_tests b (leb c 32) formed (thresholds_fit ts)) p.0))
       (λ run _. start_no_node ws run n f t c o ts i e x g)
 
-  module _ (x : NodeId) (g : i ≡ node-id.Taken x) where
+  module _ (x : NodeId) (g : i ≡ Ok x) where
     tests : (b : Bool) → leb c 32 ≡ b → by_tests true b formed (thresholds_fit ts) ≡ start_answer n c formed ts
     tests b h = sym (ap₂ (λ (a b : Bool). by_tests a b formed (thresholds_fit ts)) (a_node x g) h)
 
-    pub begins_no_room : 32 < c → BeginsBy ws n f t c o ts formed (answer.Refused QueueCapacity) ws
+    pub begins_no_room : 32 < c → BeginsBy ws n f t c o ts formed (Err QueueCapacity) ws
     begins_no_room z = declines QueueCapacity (tests false (lt-leb c 32 z)) (λ run _. start_no_room ws run n f t c o ts i e x g z)
 
     module _ (z : c ≤ 32) where
@@ -185,17 +183,17 @@ module _ (ws : List ℕ) (n : ℕ) (f : FeatureFlags) (t c : ℕ) (o : Dictionar
       behind : (d l : Bool) → formed ≡ d → thresholds_fit ts ≡ l → by_tests true true d l ≡ start_answer n c formed ts
       behind d l h u = sym (ap₂ (by_tests true true) h u) ∙ tests true (le-leb c 32 z)
 
-      pub begins_unformed : formed ≡ false → BeginsBy ws n f t c o ts formed (answer.Refused WatchedNodes) ws
+      pub begins_unformed : formed ≡ false → BeginsBy ws n f t c o ts formed (Err WatchedNodes) ws
       begins_unformed a =
           declines WatchedNodes (behind false (thresholds_fit ts) a refl) (λ run h. start_unformed ws run n f t c o ts i e x g z (sym h ∙ a))
 
-      pub begins_unlimited : formed ≡ true → thresholds_fit ts ≡ false → BeginsBy ws n f t c o ts formed (answer.Refused ThresholdLimit) ws
+      pub begins_unlimited : formed ≡ true → thresholds_fit ts ≡ false → BeginsBy ws n f t c o ts formed (Err ThresholdLimit) ws
       begins_unlimited a u =
           declines ThresholdLimit (behind true false a u) (λ run h. start_unlimited ws run n f t c o ts i e x g z (sym h ∙ a) u)
 
       pub begins_taken :
           formed ≡ true → thresholds_fit ts ≡ true → (ws' : List ℕ) → (head_of ws' ≡ fresh_head x f t c o ts) × (ws' ≡ fresh_words x f t c o ts) →
-          BeginsBy ws n f t c o ts formed answer.Taken ws'
+          BeginsBy ws n f t c o ts formed (Ok tt) ws'
       begins_taken a u ws' r =
           record {
             answer = behind true true a u;

@@ -12,7 +12,10 @@ use Rattle.counters.specs.Counters.{new_counters, thresholds_fit}
 use Rattle.counters.specs.declared.counters.Thresholds.{Thresholds}
 use Rattle.entries.specs.Queue.{queue}
 use Rattle.entries.specs.History.{error_history}
-use Rattle.head.specs.declared.state.Deadline.TheVariants.{Nothing}
+use Rattle.std.specs.declared.result.Result.{Result}
+use Rattle.std.specs.declared.result.Result.TheVariants.{Ok, Err}
+use Rattle.std.specs.declared.option.Option.TheVariants.{None}
+use Rattle.types.specs.declared.refusals.Refusal.{Refusal}
 use Rattle.head.specs.declared.state.Dictionary.{Dictionary}
 use Rattle.head.specs.Head.{Head, soc_watch}
 use Rattle.head.specs.Places as at
@@ -20,8 +23,6 @@ use Rattle.head.specs.Words.{head_of}
 use Rattle.head.specs.Written.{nmt_written, identity_written, thresholds_written, od_written}
 use Rattle.watched.specs.Watched.{unheard, Run, run, well_lent, changing}
 use Rattle.watched.specs.Nodes.{nodes_of}
-use Rattle.node.specs.declared.calls.CallAnswer.{CallAnswer}
-use Rattle.node.specs.declared.calls.CallAnswer.TheVariants as answer
 use Rattle.node.specs.Plain.{Start, Begun, begins, declined}
 use Rattle.node.specs.Steps.{must, tried, started}
 use Rattle.node.specs.Refines.{plain}
@@ -32,14 +33,14 @@ abbrev pub start_of : ℕ → FeatureFlags → ℕ → ℕ → Dictionary → Th
 start_of n f t c o ts r = record { node = n; flags = f.0; timeout = t; capacity = c; od = o; thresholds = ts; watched = r }
 
 -- what start answers, with the head that its words stand for
-abbrev pub begun_by : CallAnswer → Head → List ℕ → List ℕ → Begun
-begun_by answer.Taken h q m = begins (plain h q m)
-begun_by (answer.Refused r) h q m = declined (refusal_number r)
+abbrev pub begun_by : Result (Unit {0}) Refusal → Head → List ℕ → List ℕ → Begun
+begun_by (Ok _) h q m = begins (plain h q m)
+begun_by (Err r) h q m = declined (refusal_number r)
 
 -- the places of a head that start gave: queue and history are empty
-abbrev pub FreshPlaces : CallAnswer → Head → ℕ → Type 0
-FreshPlaces answer.Taken h c = (h.queue ≡ queue 0 0 c) × (h.history ≡ error_history 0 0)
-FreshPlaces (answer.Refused r) h c = Unit
+abbrev pub FreshPlaces : Result (Unit {0}) Refusal → Head → ℕ → Type 0
+FreshPlaces (Ok _) h c = (h.queue ≡ queue 0 0 c) × (h.history ≡ error_history 0 0)
+FreshPlaces (Err r) h c = Unit
 
 -- the head that start gives
 abbrev pub fresh_head : NodeId → FeatureFlags → ℕ → ℕ → Dictionary → Thresholds → Head
@@ -48,15 +49,15 @@ fresh_head n f t c o ts =
       nmt = Nmt.new_machine n f t;
       dll = fresh_machine;
       errors = new_counters ts;
-      soc = soc_watch 0 false Nothing false;
+      soc = soc_watch 0 false None false;
       od = o;
       queue = queue 0 0 c;
       history = error_history 0 0;
-      earliest = Nothing;
+      earliest = None;
     }
 
 -- Of start, whatever stands in the memory that will be lent: the plain start's head or number, and run.
-pub record Begins (s : Start) (a : CallAnswer) (h : Head) (l : Run) : Type 0 where
+pub record Begins (s : Start) (a : Result (Unit {0}) Refusal) (h : Head) (l : Run) : Type 0 where
   pub begun : (q m : List ℕ) → begun_by a h q m ≡ (started s).begun
   pub lent : l ≡ (started s).lent
 
@@ -72,28 +73,28 @@ unheard_words zero ns = ns
 unheard_words (suc i) ns = set (unheard_words i ns) (3 * i + 2) 0
 
 -- numbers 1, 2, 3 and 14, where it is known whether the nodes pass number 3
-abbrev pub start_answer : ℕ → ℕ → Bool → Thresholds → CallAnswer
+abbrev pub start_answer : ℕ → ℕ → Bool → Thresholds → Result (Unit {0}) Refusal
 start_answer n c formed ts =
-    tried (must (is_node n) NodeNumber ∷ must (leb c 32) QueueCapacity ∷ must formed WatchedNodes ∷ must (thresholds_fit ts) ThresholdLimit ∷ []) answer.Refused answer.Taken
+    tried (must (is_node n) NodeNumber ∷ must (leb c 32) QueueCapacity ∷ must formed WatchedNodes ∷ must (thresholds_fit ts) ThresholdLimit ∷ []) Err (Ok tt)
 
 -- the run that start leaves
-abbrev pub start_left : CallAnswer → Run → Run
-start_left answer.Taken r = changing unheard r
-start_left (answer.Refused x) r = r
+abbrev pub start_left : Result (Unit {0}) Refusal → Run → Run
+start_left (Ok _) r = changing unheard r
+start_left (Err x) r = r
 
 -- Of start on the words ws and the run r, which answered a and left the words ws' and the run r': the plain start's head or number and run, and
 -- every word of the head.
-pub record StartedOn (ws : List ℕ) (r : Run) (n : ℕ) (f : FeatureFlags) (t c : ℕ) (o : Dictionary) (ts : Thresholds) (a : CallAnswer) (ws' : List ℕ) (r' : Run) : Type 0 where
+pub record StartedOn (ws : List ℕ) (r : Run) (n : ℕ) (f : FeatureFlags) (t c : ℕ) (o : Dictionary) (ts : Thresholds) (a : Result (Unit {0}) Refusal) (ws' : List ℕ) (r' : Run) : Type 0 where
   pub begins : Begins (start_of n f t c o ts r) a (head_of ws') r'
   pub places : FreshPlaces a (head_of ws') c
   pub words : ws' ≡ unless_refused a ws (fresh_words (node n) f t c o ts)
 
 -- The same of nodes in the words ns, of which the first k are watched; and every word of theirs.
-pub record StartedIn (ws ns : List ℕ) (k n : ℕ) (f : FeatureFlags) (t c : ℕ) (o : Dictionary) (ts : Thresholds) (a : CallAnswer) (ws' ns' : List ℕ) : Type 0 where
+pub record StartedIn (ws ns : List ℕ) (k n : ℕ) (f : FeatureFlags) (t c : ℕ) (o : Dictionary) (ts : Thresholds) (a : Result (Unit {0}) Refusal) (ws' ns' : List ℕ) : Type 0 where
   pub on : StartedOn ws (run (nodes_of ns) k) n f t c o ts a ws' (run (nodes_of ns') k)
   pub nodes : ns' ≡ unless_refused a ns (unheard_words k ns)
 
 -- Of start without the run, whose form it need not know: what it answers, and what start leaves of any run that passes number 3 or doesn't, as was said.
-pub record BeginsBy (ws : List ℕ) (n : ℕ) (f : FeatureFlags) (t c : ℕ) (o : Dictionary) (ts : Thresholds) (formed : Bool) (a : CallAnswer) (ws' : List ℕ) : Type 0 where
+pub record BeginsBy (ws : List ℕ) (n : ℕ) (f : FeatureFlags) (t c : ℕ) (o : Dictionary) (ts : Thresholds) (formed : Bool) (a : Result (Unit {0}) Refusal) (ws' : List ℕ) : Type 0 where
   pub answer : a ≡ start_answer n c formed ts
   pub on : (r : Run) → formed ≡ well_lent r → (l : Run) → l ≡ start_left a r → StartedOn ws r n f t c o ts a ws' l

@@ -9,10 +9,9 @@ use counters::counters::{CnErrorCounters, Thresholds};
 use head::parts::{byte, clear, set_capacity, set_identity, set_nmt, set_od, set_thresholds};
 use head::state::{Dictionary, Head};
 use nmt::cn_state_machine::CnNmtStateMachine;
-use node::calls::CallAnswer;
 use types::nmt::flags::FeatureFlags;
 use types::refusals::Refusal;
-use types::types::{NodeId, NodeIdRead};
+use types::types::NodeId;
 use watched::nodes::{NodeWords, all_places, well_formed};
 
 // The words of a fresh head: whatever stood there before is gone.
@@ -63,20 +62,20 @@ pub fn begin(
     od: Dictionary,
     thresholds: Thresholds,
     formed: bool,
-) -> CallAnswer
+) -> Result<(), Refusal>
     ensures { BeginsBy head.old node feature_flags basic_ethernet_timeout queue_capacity od thresholds formed result head.new }
 {
     match NodeId::try_from(node) {
-        NodeIdRead::Taken(node_id) => {
+        Ok(node_id) => {
             if 32 < queue_capacity {
-                return CallAnswer::Refused(Refusal::QueueCapacity);
+                return Err(Refusal::QueueCapacity);
             }
             let limited = thresholds.is_within_limit();
             if !formed {
-                return CallAnswer::Refused(Refusal::WatchedNodes);
+                return Err(Refusal::WatchedNodes);
             }
             if !limited {
-                return CallAnswer::Refused(Refusal::ThresholdLimit);
+                return Err(Refusal::ThresholdLimit);
             }
             let capacity = queue_capacity as u8;
             fresh_head(
@@ -88,10 +87,10 @@ pub fn begin(
                 od,
                 thresholds,
             );
-            return CallAnswer::Taken;
+            return Ok(());
         }
-        NodeIdRead::Refused(refusal) => {
-            return CallAnswer::Refused(refusal);
+        Err(refusal) => {
+            return Err(refusal);
         }
     }
 }
@@ -107,7 +106,7 @@ pub fn start(
     queue_capacity: u64,
     od: Dictionary,
     thresholds: Thresholds,
-) -> CallAnswer
+) -> Result<(), Refusal>
     ensures { StartedIn head.old nodes.old count node feature_flags basic_ethernet_timeout queue_capacity od thresholds result head.new nodes.new }
 {
     let formed = well_formed(nodes, count);
@@ -122,12 +121,12 @@ pub fn start(
         formed,
     );
     match answer {
-        CallAnswer::Taken => {
+        Ok(()) => {
             unheard(nodes, count);
-            return CallAnswer::Taken;
+            return Ok(());
         }
-        CallAnswer::Refused(refusal) => {
-            return CallAnswer::Refused(refusal);
+        Err(refusal) => {
+            return Err(refusal);
         }
     }
 }

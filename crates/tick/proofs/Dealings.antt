@@ -28,8 +28,8 @@ use Rattle.node.specs.Tick.{acts, one_more, statistics, counter1, signalled, que
 use Rattle.node.specs.Refines.{plain, Becomes, rings, joins}
 use Rattle.head.specs.declared.state.Statistic.TheVariants.{Counter3}
 use Rattle.head.proofs.Laws.{statistic_written}
-use Rattle.tick.specs.declared.soc.NextError.{NextError}
-use Rattle.tick.specs.declared.soc.NextError.TheVariants as next
+use Rattle.std.specs.declared.option.Option.{Option}
+use Rattle.std.specs.declared.option.Option.TheVariants.{Some, None}
 use Rattle.heartbeats.specs.Parts.{Finishes, is_quiet}
 use Rattle.tick.specs.Ticks.{error_at}
 use Rattle.tick.proofs.TickLaws as tick
@@ -188,9 +188,9 @@ module _ (ws : List ℕ) (long : length ws ≡ 60) (q m : List ℕ) (e : DllErro
       }
 
 -- the errors from an index on
-abbrev list_of : NextError → List DllError
-list_of (next.Error e) = e ∷ []
-list_of next.None = []
+abbrev list_of : Option DllError → List DllError
+list_of (Some e) = e ∷ []
+list_of None = []
 
 from_index : (es : List DllError) (i : ℕ) → drop i es ≡ list_of (error_at es i) ++ drop (suc i) es
 unfolding error_at
@@ -216,9 +216,9 @@ module _ (t : ℕ) (es : List DllError) (ws₀ q₀ m₀ ws q m : List ℕ) (d :
         words = sym (w.words ∙ ap (deal_all_words ws) z);
       }
 
-  module _ (e : DllError) (here : error_at es i ≡ next.Error e) (r : Dealt) (ws' q' m' : List ℕ) (k : TicksIn ws q m (deal t (plain (head_of ws) q m) e) r ws' q' m' (deal_words ws e)) where
+  module _ (e : DllError) (here : error_at es i ≡ Some e) (r : Dealt) (ws' q' m' : List ℕ) (k : TicksIn ws q m (deal t (plain (head_of ws) q m) e) r ws' q' m' (deal_words ws e)) where
     front : drop i es ≡ e ∷ drop (i + 1) es
-    front = rw add-one (from_index es i ∙ ap (λ (n : NextError). list_of n ++ drop (suc i) es) here)
+    front = rw add-one (from_index es i ∙ ap (λ (n : Option DllError). list_of n ++ drop (suc i) es) here)
 
     ends : r.ended ≡ ends_by ws e
     unfolding head_of deal

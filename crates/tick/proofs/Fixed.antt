@@ -12,22 +12,24 @@ use Rattle.node.specs.Steps.{earliest}
 use Rattle.node.specs.Refines.{Rings}
 use Rattle.tick.specs.TickWords.{tick_words}
 use Rattle.node.proofs.Fixed.{apart, refusal_of, errors_of_lem}
-use Rattle.tick.specs.declared.tick.TickAnswer.{TickAnswer}
-use Rattle.tick.specs.declared.tick.TickAnswer.TheVariants as tick-answer
+use Rattle.std.specs.declared.result.Result.{Result}
+use Rattle.std.specs.declared.result.Result.TheVariants.{Ok, Err}
+use Rattle.types.specs.declared.frame.error.types.DllErrors.{DllErrors}
+use Rattle.types.specs.declared.refusals.Refusal.{Refusal}
 use Rattle.tick.specs.TickIn.{tick_said, tick_leaves, TickedIn}
 
 -- an answer is fixed by what it says
-pub tick_said_fixed : (a b : TickAnswer) → tick_said a ≡ tick_said b → a ≡ b
-tick_said_fixed (tick-answer.Taken t) (tick-answer.Taken u) e = ap tick-answer.Taken (reported_fixes t u (errors_of_lem e))
-tick_said_fixed (tick-answer.Taken t) (tick-answer.Refused s) e = apart (sym e) refl refl
-tick_said_fixed (tick-answer.Refused r) (tick-answer.Taken u) e = apart e refl refl
-tick_said_fixed (tick-answer.Refused r) (tick-answer.Refused s) e = ap tick-answer.Refused (number_fixes (refusal_of e))
+pub tick_said_fixed : (a b : Result DllErrors Refusal) → tick_said a ≡ tick_said b → a ≡ b
+tick_said_fixed (Ok t) (Ok u) e = ap Ok (reported_fixes t u (errors_of_lem e))
+tick_said_fixed (Ok t) (Err s) e = apart (sym e) refl refl
+tick_said_fixed (Err r) (Ok u) e = apart e refl refl
+tick_said_fixed (Err r) (Err s) e = ap Err (number_fixes (refusal_of e))
 
-leaves_same : {a b : TickAnswer} → a ≡ b → (ws ws' : List ℕ) → tick_leaves a ws ws' ≡ tick_leaves b ws ws'
-leaves_same e ws ws' = ap (λ (a : TickAnswer). tick_leaves a ws ws') e
+leaves_same : {a b : Result DllErrors Refusal} → a ≡ b → (ws ws' : List ℕ) → tick_leaves a ws ws' ≡ tick_leaves b ws ws'
+leaves_same e ws ws' = ap (λ (a : Result DllErrors Refusal). tick_leaves a ws ws') e
 
 pub tick_fixes :
-    {ws q m ns ws₁ q₁ m₁ ns₁ ws₂ q₂ m₂ ns₂ : List ℕ} {k t : ℕ} {a b : TickAnswer} →
+    {ws q m ns ws₁ q₁ m₁ ns₁ ws₂ q₂ m₂ ns₂ : List ℕ} {k t : ℕ} {a b : Result DllErrors Refusal} →
     TickedIn ws q m ns k t a ws₁ q₁ m₁ ns₁ →
     TickedIn ws q m ns k t b ws₂ q₂ m₂ ns₂ →
     (a ≡ b) × (ws₁ ≡ ws₂) × (q₁ ≡ q₂) × (m₁ ≡ m₂) × (ns₁ ≡ ns₂)

@@ -34,8 +34,8 @@ use Rattle.node.specs.Refines.{plain, Becomes, Rings, rings, joins, joins_all}
 use Rattle.heartbeats.specs.Parts.{PartLeft, Finishes, Ticks, is_quiet}
 use Rattle.heartbeats.proofs.PartLaws.{Quiet, handled_quiet, quiet_crosses, Alike}
 use Rattle.tick.specs.Ticks.{error_at}
-use Rattle.tick.specs.declared.soc.NextError.{NextError}
-use Rattle.tick.specs.declared.soc.NextError.TheVariants as next
+use Rattle.std.specs.declared.option.Option.{Option}
+use Rattle.std.specs.declared.option.Option.TheVariants.{Some, None}
 use Rattle.watched.specs.Watched.{all_of}
 
 -- where an entry is dropped, no byte is written
@@ -197,9 +197,9 @@ unfolding deal_all
 walk_ends t p e es n = ap (λ (b : Bool). pick b (deal t p e) (behind (deal t p e) (deal_all t (deal t p e).head es))) n
 
 -- the errors from an index on
-abbrev list_of : NextError → List DllError
-list_of (next.Error e) = e ∷ []
-list_of next.None = []
+abbrev list_of : Option DllError → List DllError
+list_of (Some e) = e ∷ []
+list_of None = []
 
 from_index : (es : List DllError) (i : ℕ) → drop i es ≡ list_of (error_at es i) ++ drop (suc i) es
 unfolding error_at
@@ -208,18 +208,18 @@ from_index [] (suc i) = refl
 from_index (x ∷ es) zero = refl
 from_index (x ∷ es) (suc i) = from_index es i
 
-pub none_left : (es : List DllError) (i : ℕ) → error_at es i ≡ next.None → drop i es ≡ []
+pub none_left : (es : List DllError) (i : ℕ) → error_at es i ≡ None → drop i es ≡ []
 unfolding error_at
 none_left [] zero h = refl
 none_left [] (suc i) h = refl
-none_left (x ∷ es) zero h = absurd (let z : ◌≡◌ {A = ℕ} 1 0 = ap (λ (n : NextError). length (list_of n)) h in let f : ⊥ = omega arith in f)
+none_left (x ∷ es) zero h = absurd (let z : ◌≡◌ {A = ℕ} 1 0 = ap (λ (n : Option DllError). length (list_of n)) h in let f : ⊥ = omega arith in f)
 none_left (x ∷ es) (suc i) h = none_left es i h
 
-pub quiet_from : (es : List DllError) (e : DllError) (i : ℕ) → all_of is_quiet es ≡ true → error_at es i ≡ next.Error e → is_quiet e ≡ true
+pub quiet_from : (es : List DllError) (e : DllError) (i : ℕ) → all_of is_quiet es ≡ true → error_at es i ≡ Some e → is_quiet e ≡ true
 unfolding error_at
-quiet_from [] e zero q h = absurd (let z : ◌≡◌ {A = ℕ} 0 1 = ap (λ (n : NextError). length (list_of n)) h in let f : ⊥ = omega arith in f)
-quiet_from [] e (suc i) q h = absurd (let z : ◌≡◌ {A = ℕ} 0 1 = ap (λ (n : NextError). length (list_of n)) h in let f : ⊥ = omega arith in f)
-quiet_from (x ∷ es) e zero q h = by (is_quiet x) q (ap (λ (n : NextError). all_of is_quiet (list_of n)) h)
+quiet_from [] e zero q h = absurd (let z : ◌≡◌ {A = ℕ} 0 1 = ap (λ (n : Option DllError). length (list_of n)) h in let f : ⊥ = omega arith in f)
+quiet_from [] e (suc i) q h = absurd (let z : ◌≡◌ {A = ℕ} 0 1 = ap (λ (n : Option DllError). length (list_of n)) h in let f : ⊥ = omega arith in f)
+quiet_from (x ∷ es) e zero q h = by (is_quiet x) q (ap (λ (n : Option DllError). all_of is_quiet (list_of n)) h)
   where
     by : (b : Bool) → both b (all_of is_quiet es) ≡ true → both b true ≡ both (is_quiet e) true → is_quiet e ≡ true
     by true y z = flat (is_quiet e) (sym z)
@@ -236,37 +236,37 @@ quiet_from (x ∷ es) e (suc i) q h = quiet_from es e i (rest (is_quiet x) q) h
 
 -- the walk's reading of the errors, case by case
 module _ (es : DllErrors) where
-  pub no_error : (i : ℕ) → es ≡ errors.None → next.None ≡ error_at (reported es) i
+  pub no_error : (i : ℕ) → es ≡ errors.None → None ≡ error_at (reported es) i
   unfolding error_at
   no_error i h = sym (ap (λ (es : DllErrors). error_at (reported es) i) h)
 
   module _ (e : DllError) (i : ℕ) (h : es ≡ errors.One e) where
-    pub only_error : i ≡ 0 → next.Error e ≡ error_at (reported es) i
+    pub only_error : i ≡ 0 → Some e ≡ error_at (reported es) i
     unfolding error_at
     only_error z = sym (ap₂ (λ (es : DllErrors) (i : ℕ). error_at (reported es) i) h z)
 
-    pub only_none : (i ≡ 0 → ⊥) → next.None ≡ error_at (reported es) i
+    pub only_none : (i ≡ 0 → ⊥) → None ≡ error_at (reported es) i
     unfolding error_at
     only_none z = behind_one i z ∙ sym (ap (λ (es : DllErrors). error_at (reported es) i) h)
       where
-        behind_one : (i : ℕ) → (i ≡ 0 → ⊥) → next.None ≡ error_at (e ∷ []) i
+        behind_one : (i : ℕ) → (i ≡ 0 → ⊥) → None ≡ error_at (e ∷ []) i
         behind_one zero z = absurd (z refl)
         behind_one (suc i) z = refl
 
   module _ (e f : DllError) (i : ℕ) (h : es ≡ errors.Two e f) where
-    pub first_error : i ≡ 0 → next.Error e ≡ error_at (reported es) i
+    pub first_error : i ≡ 0 → Some e ≡ error_at (reported es) i
     unfolding error_at
     first_error z = sym (ap₂ (λ (es : DllErrors) (i : ℕ). error_at (reported es) i) h z)
 
-    pub second_error : i ≡ 1 → next.Error f ≡ error_at (reported es) i
+    pub second_error : i ≡ 1 → Some f ≡ error_at (reported es) i
     unfolding error_at
     second_error z = sym (ap₂ (λ (es : DllErrors) (i : ℕ). error_at (reported es) i) h z)
 
-    pub two_none : (i ≡ 0 → ⊥) → (i ≡ 1 → ⊥) → next.None ≡ error_at (reported es) i
+    pub two_none : (i ≡ 0 → ⊥) → (i ≡ 1 → ⊥) → None ≡ error_at (reported es) i
     unfolding error_at
     two_none y z = behind_two i y z ∙ sym (ap (λ (es : DllErrors). error_at (reported es) i) h)
       where
-        behind_two : (i : ℕ) → (i ≡ 0 → ⊥) → (i ≡ 1 → ⊥) → next.None ≡ error_at (e ∷ f ∷ []) i
+        behind_two : (i : ℕ) → (i ≡ 0 → ⊥) → (i ≡ 1 → ⊥) → None ≡ error_at (e ∷ f ∷ []) i
         behind_two zero y z = absurd (y refl)
         behind_two (suc zero) y z = absurd (z refl)
         behind_two (suc (suc i)) y z = refl
@@ -304,9 +304,9 @@ module _ (t : ℕ) (es : List DllError) (h₀ : Head) (q₀ m₀ q m : List ℕ)
         joined = w.joined ∙ sym (ap (joins_all (rings h₀ q₀ m₀)) (w.alike.crossings ∙ ap (λ (k : Ticked). k.crossings) s));
       }
 
-  module _ (e : DllError) (here : error_at es i ≡ next.Error e) (r : PartLeft) (q' m' : List ℕ) (k : Ticks d.head q m (deal t (plain d.head q m) e) r q' m') where
+  module _ (e : DllError) (here : error_at es i ≡ Some e) (r : PartLeft) (q' m' : List ℕ) (k : Ticks d.head q m (deal t (plain d.head q m) e) r q' m') where
     front : drop i es ≡ e ∷ drop (i + 1) es
-    front = rw add-one (from_index es i ∙ ap (λ (n : NextError). list_of n ++ drop (suc i) es) here)
+    front = rw add-one (from_index es i ∙ ap (λ (n : Option DllError). list_of n ++ drop (suc i) es) here)
 
     abbrev p : Plain
     p = plain d.head q m

@@ -10,7 +10,12 @@ use lib.ListN.{length}
 use Rattle.types.specs.Pick.{pick}
 use Rattle.types.specs.Errors.{reported}
 use Rattle.types.proofs.Tests.{both_second}
-use Rattle.head.specs.declared.state.Deadline.{Deadline}
+use Rattle.std.specs.declared.result.Result.{Result}
+use Rattle.std.specs.declared.option.Option.{Option}
+use Rattle.std.specs.declared.result.Result.TheVariants.{Ok, Err}
+use Rattle.std.specs.declared.option.Option.TheVariants.{Some, None}
+use Rattle.types.specs.declared.frame.error.types.DllErrors.{DllErrors}
+use Rattle.types.specs.declared.refusals.Refusal.{Refusal}
 use Rattle.head.specs.Head.{Head, head_with_earliest}
 use Rattle.head.specs.Written.{earliest_written}
 use Rattle.head.proofs.Laws.{earliest_written_lem}
@@ -18,19 +23,15 @@ use Rattle.node.specs.Plain.{tick_answer}
 use Rattle.node.specs.Steps.{earliest}
 use Rattle.node.specs.InPlace.{moment_of}
 use Rattle.node.proofs.Moments.{moment_of_lem, all_fit}
-use Rattle.tick.specs.declared.tick.TickAnswer.{TickAnswer}
 use Rattle.types.specs.declared.refusals.Refusal.TheVariants.{WatchedNodes, TimeLimit, BeforeHeard}
 use Rattle.watched.specs.declared.nodes.WatchedNode.{WatchedNode}
 use Rattle.watched.specs.Watched.{in_time, all_of, well_formed, watched_of, Run, run, watching, well_lent, changing}
 use Rattle.node.specs.Tick.{checks_heartbeats, looked, late_ones, beat_all, by_deadline, tick_taken}
 use Rattle.node.specs.Refines.{plain}
 use Rattle.heartbeats.specs.Parts.{looked_first}
-use Rattle.tick.specs.declared.tick.TickAnswer.TheVariants as answer
 use Rattle.watched.proofs.Lists.{each_nodes}
 use Rattle.tick.proofs.TickRefines.{tick_idle, tick_ended, tick_goes_on, TickLeft, tick_unformed, tick_late, tick_before, tick_accepted}
 use Rattle.head.specs.Words.{nmt_of, soc_of, head_of}
-use Rattle.watched.specs.declared.nodes.Tried.{Tried}
-use Rattle.watched.specs.declared.nodes.Tried.TheVariants as tried
 use Rattle.watched.specs.Nodes.{nodes_of, rests, not_before, never, soonest, nodes_tried, seen_of}
 use Rattle.types.specs.declared.nmt.states.NmtState.{NmtState}
 use Rattle.watched.specs.declared.nodes.Seen.{Seen}
@@ -127,18 +128,18 @@ module _ (ws q m : List ℕ) (t : ℕ) (vs : List WatchedNode) where
 
 -- the tick: numbers 3, 5 and 6, and what is taken, whatever form the run has
 module _ (ws q m : List ℕ) (r : Run) (t : ℕ) where
-  pub run_unformed : well_lent r ≡ false → TickedOn ws q m r t (answer.Refused WatchedNodes) ws q m r
+  pub run_unformed : well_lent r ≡ false → TickedOn ws q m r t (Err WatchedNodes) ws q m r
   run_unformed a = let x = tick_unformed (head_of ws) q m r t a in record { refines = x.0; rings = x.1; words = refl }
 
   module _ (a : well_lent r ≡ true) where
-    pub run_late : in_time t ≡ false → TickedOn ws q m r t (answer.Refused TimeLimit) ws q m r
+    pub run_late : in_time t ≡ false → TickedOn ws q m r t (Err TimeLimit) ws q m r
     run_late b = let x = tick_late (head_of ws) q m r t a b in record { refines = x.0; rings = x.1; words = refl }
 
     module _ (b : in_time t ≡ true) where
       abbrev checks : Bool
       checks = checks_heartbeats (nmt_of ws).current_state
 
-      pub run_before : pick checks (all_of (not_before t) (watching r)) true ≡ false → TickedOn ws q m r t (answer.Refused BeforeHeard) ws q m r
+      pub run_before : pick checks (all_of (not_before t) (watching r)) true ≡ false → TickedOn ws q m r t (Err BeforeHeard) ws q m r
       unfolding head_of
       run_before d = let x = tick_before (head_of ws) q m r t a b d in record { refines = x.0; rings = x.1; words = refl }
 
@@ -150,11 +151,11 @@ module _ (ws q m : List ℕ) (r : Run) (t : ℕ) where
           length ws₁ ≡ 60 →
           (l : Run) →
           l ≡ pick checks (changing (map (looked t)) r) r →
-          (x : Deadline) →
+          (x : Option ℕ) →
           x ≡ earliest (watching l) →
           (ws' : List ℕ) →
           ws' ≡ earliest_written ws₁ x →
-          TickedOn ws q m r t (answer.Taken d.logged) ws' q' m' l
+          TickedOn ws q m r t (Ok d.logged) ws' q' m' l
       unfolding head_of
       run_accepted f d ws₁ q' m' h long l n x e ws' w =
           let k = tick_accepted (head_of ws) q m r t a b f (dealt_of ws₁ d) q' m' h.ticks l n in
@@ -165,13 +166,13 @@ module _ (ws q m : List ℕ) (r : Run) (t : ℕ) where
 
 -- where no node asks for anything
 module _ (ws q m : List ℕ) (t s : ℕ) where
-  pub still_late : in_time t ≡ false → StillTicks ws q m t s (answer.Refused TimeLimit) ws q m
+  pub still_late : in_time t ≡ false → StillTicks ws q m t s (Err TimeLimit) ws q m
   still_late b r a h e = run_late ws q m r t a b
 
   pub still_accepted :
       in_time t ≡ true → (d : Dealt) (ws₁ q' m' : List ℕ) →
       TicksIn ws q m (by_deadline (plain (head_of ws) q m) t (soc_of ws).next_tick_us) d ws₁ q' m' (rest_words ws q m t) →
-      length ws₁ ≡ 60 → (x : Deadline) → x ≡ moment_of s → (ws' : List ℕ) → ws' ≡ earliest_written ws₁ x → StillTicks ws q m t s (answer.Taken d.logged) ws' q' m'
+      length ws₁ ≡ 60 → (x : Option ℕ) → x ≡ moment_of s → (ws' : List ℕ) → ws' ≡ earliest_written ws₁ x → StillTicks ws q m t s (Ok d.logged) ws' q' m'
   still_accepted b d ws₁ q' m' k long x y ws' w r a h e =
       let f : well_formed (watching r) ≡ true = both_second (eqb (length r.places) 32) (well_formed (watching r)) a in
       run_accepted ws q m r t a b (still_times ws q m t (watching r) h) d ws₁ q' m' (still_phases ws q m t (watching r) h d ws₁ q' m' k) long r
@@ -186,13 +187,13 @@ module _ (c : Bool) (t : ℕ) (vs : List WatchedNode) where
   pub looks_roused : c ≡ true → (a : Seen) → a ≡ seen_of t vs → a ≡ roused_of c t vs
   looks_roused e a g = g ∙ ap (λ (c : Bool). roused_by c (well_formed vs) (soonest never vs)) (sym e)
 
-  module _ (e : c ≡ false) (a : Tried) (g : a ≡ nodes_tried vs) where
-    pub tried_rests : (x : ℕ) → a ≡ tried.Formed x → seen.Resting x ≡ roused_of c t vs
+  module _ (e : c ≡ false) (a : Option ℕ) (g : a ≡ nodes_tried vs) where
+    pub tried_rests : (x : ℕ) → a ≡ Some x → seen.Resting x ≡ roused_of c t vs
     tried_rests x h =
         let y = tried_formed (well_formed vs) (soonest never vs) a g x h in
         sym (λ i. roused_by (e i) (y.0 i) (sym y.1 i))
 
-    pub tried_none : a ≡ tried.Unformed → seen.Unformed ≡ roused_of c t vs
+    pub tried_none : a ≡ None → seen.Unformed ≡ roused_of c t vs
     tried_none h = sym (ap (λ (f : Bool). roused_by c f (soonest never vs)) (tried_unformed (well_formed vs) (soonest never vs) a g h))
 
 -- the nodes in words
@@ -208,7 +209,7 @@ module _ (ws q m ns : List ℕ) (k t : ℕ) where
     same_checks : c ≡ checks_heartbeats (nmt_of ws).current_state
     same_checks = e ∙ ap checks_heartbeats f
 
-    pub unformed : a ≡ seen.Unformed → TickedIn ws q m ns k t (answer.Refused WatchedNodes) ws q m ns
+    pub unformed : a ≡ seen.Unformed → TickedIn ws q m ns k t (Err WatchedNodes) ws q m ns
     unformed h =
         record {
           on = run_unformed ws q m lent_run t (lent_words ns k ∙ seen_unformed (well_formed vs) (is_still c t vs) (all_of (not_before t) vs) (soonest never vs) a g h);
@@ -226,7 +227,7 @@ module _ (ws q m ns : List ℕ) (k t : ℕ) where
         by false z = absurd (true≢false z)
 
     pub is_still_lem :
-        (x : ℕ) → a ≡ seen.Resting x → (z : TickAnswer) (ws' q' m' : List ℕ) → StillTicks ws q m t x z ws' q' m' →
+        (x : ℕ) → a ≡ seen.Resting x → (z : Result DllErrors Refusal) (ws' q' m' : List ℕ) → StillTicks ws q m t x z ws' q' m' →
         TickedIn ws q m ns k t z ws' q' m' ns
     is_still_lem x h z ws' q' m' y =
         let o = seen_resting (well_formed vs) (is_still c t vs) (all_of (not_before t) vs) (soonest never vs) a g x h in
@@ -235,23 +236,23 @@ module _ (ws q m ns : List ℕ) (k t : ℕ) where
         record { on = y lent_run (lent_words ns k ∙ o.0) still o.2; nodes = stay z still (few ns k o.0) }
       where
         stay :
-            (z : TickAnswer) → is_still (checks_heartbeats (nmt_of ws).current_state) t vs ≡ true → k ≤ 32 →
+            (z : Result DllErrors Refusal) → is_still (checks_heartbeats (nmt_of ws).current_state) t vs ≡ true → k ≤ 32 →
             ns ≡ tick_leaves z ns (pick (checks_heartbeats (nmt_of ws).current_state) (looked_words t k ns) ns)
-        stay (answer.Taken es) still below = still_choice ws q m t vs still (looked_words t k ns) ns (λ r. sym (rest_words_lem t ns k below r))
-        stay (answer.Refused r) still below = refl
+        stay (Ok es) still below = still_choice ws q m t vs still (looked_words t k ns) ns (λ r. sym (rest_words_lem t ns k below r))
+        stay (Err r) still below = refl
 
   module _ (a : well_formed vs ≡ true) (c : checks_heartbeats (nmt_of ws).current_state ≡ true) where
     lent : well_lent lent_run ≡ true
     lent = lent_words ns k ∙ a
 
-    pub late : in_time t ≡ false → TickedIn ws q m ns k t (answer.Refused TimeLimit) ws q m ns
+    pub late : in_time t ≡ false → TickedIn ws q m ns k t (Err TimeLimit) ws q m ns
     late b = record { on = run_late ws q m lent_run t lent b; nodes = refl }
 
     module _ (b : in_time t ≡ true) where
       checked : {A : Type 0} (x y : A) → pick (checks_heartbeats (nmt_of ws).current_state) x y ≡ x
       checked x y = ap (λ (b : Bool). pick b x y) c
 
-      pub before : all_of (not_before t) vs ≡ false → TickedIn ws q m ns k t (answer.Refused BeforeHeard) ws q m ns
+      pub before : all_of (not_before t) vs ≡ false → TickedIn ws q m ns k t (Err BeforeHeard) ws q m ns
       before d = record { on = run_before ws q m lent_run t lent b (checked (all_of (not_before t) vs) true ∙ d); nodes = refl }
 
       pub accepted :
@@ -261,8 +262,8 @@ module _ (ws q m ns : List ℕ) (k t : ℕ) where
           length ws₁ ≡ 60 →
           (ns' : List ℕ) (s : ℕ) →
           (ns' ≡ looked_words t k ns) × (nodes_of ns' ≡ looked_first t k (nodes_of ns)) × (s ≡ soonest never (map (looked t) vs)) →
-          (x : Deadline) → x ≡ moment_of s → (ws' : List ℕ) → ws' ≡ earliest_written ws₁ x →
-          TickedIn ws q m ns k t (answer.Taken d.logged) ws' q' m' ns'
+          (x : Option ℕ) → x ≡ moment_of s → (ws' : List ℕ) → ws' ≡ earliest_written ws₁ x →
+          TickedIn ws q m ns k t (Ok d.logged) ws' q' m' ns'
       accepted f d ws₁ q' m' h long ns' s l x y ws' w =
           let below : k ≤ 32 = few ns k a in
           let left : watched_of (nodes_of ns') k ≡ map (looked t) vs =

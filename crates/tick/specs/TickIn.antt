@@ -18,8 +18,9 @@ use Rattle.head.specs.Written.{earliest_written}
 use Rattle.watched.specs.declared.nodes.WatchedNode.{WatchedNode}
 use Rattle.watched.specs.declared.nodes.Seen.{Seen}
 use Rattle.watched.specs.declared.nodes.Seen.TheVariants as seen
-use Rattle.tick.specs.declared.tick.TickAnswer.{TickAnswer}
-use Rattle.tick.specs.declared.tick.TickAnswer.TheVariants as answer
+use Rattle.std.specs.declared.result.Result.{Result}
+use Rattle.std.specs.declared.result.Result.TheVariants.{Ok, Err}
+use Rattle.types.specs.declared.refusals.Refusal.{Refusal}
 use Rattle.heartbeats.specs.PartWords.{looked_words}
 use Rattle.tick.specs.TickWords.{loss_words, tick_words}
 
@@ -39,29 +40,29 @@ roused_of c t vs =
     seen.Unformed
 
 -- what a tick answers
-abbrev pub tick_said : TickAnswer → Answer
-tick_said (answer.Taken es) = tick_answer (reported es)
-tick_said (answer.Refused r) = refused (refusal_number r)
+abbrev pub tick_said : Result DllErrors Refusal → Answer
+tick_said (Ok es) = tick_answer (reported es)
+tick_said (Err r) = refused (refusal_number r)
 
 -- by a declined tick no word is written
-abbrev pub tick_leaves : TickAnswer → List ℕ → List ℕ → List ℕ
-tick_leaves (answer.Taken es) ws ws' = ws'
-tick_leaves (answer.Refused r) ws ws' = ws
+abbrev pub tick_leaves : Result DllErrors Refusal → List ℕ → List ℕ → List ℕ
+tick_leaves (Ok es) ws ws' = ws'
+tick_leaves (Err r) ws ws' = ws
 
 -- Of a tick at t on the words ws, the memory q and m and the run r, which answered a and left ws', q', m' and r': head, answer and run are the plain
 -- head's; every byte of both memories with the places of both rings, and every word of the head, is known.
-pub record TickedOn (ws q m : List ℕ) (r : Run) (t : ℕ) (a : TickAnswer) (ws' q' m' : List ℕ) (r' : Run) : Type 0 where
+pub record TickedOn (ws q m : List ℕ) (r : Run) (t : ℕ) (a : Result DllErrors Refusal) (ws' q' m' : List ℕ) (r' : Run) : Type 0 where
   pub refines : Refines (head_of ws) q m (Call.tick t r) (left (head_of ws') (tick_said a)) q' m' r'
   pub rings : rings (head_of ws') q' m' ≡ joins_all (rings (head_of ws) q m) (step (plain (head_of ws) q m) (Call.tick t r)).crossings
   pub words : ws' ≡ tick_leaves a ws (earliest_written (tick_words ws q m t (watching r)) (earliest (watching r')))
 
 -- The same of nodes in the words ns, of which the first k are watched; and every word of theirs.
-pub record TickedIn (ws q m ns : List ℕ) (k t : ℕ) (a : TickAnswer) (ws' q' m' ns' : List ℕ) : Type 0 where
+pub record TickedIn (ws q m ns : List ℕ) (k t : ℕ) (a : Result DllErrors Refusal) (ws' q' m' ns' : List ℕ) : Type 0 where
   pub on : TickedOn ws q m (run (nodes_of ns) k) t a ws' q' m' (run (nodes_of ns') k)
   pub nodes : ns' ≡ tick_leaves a ns (pick (checks_heartbeats (nmt_of ws).current_state) (looked_words t k ns) ns)
 
 -- Of a tick at which no node asks for anything, where s is the soonest moment at which one would be late: any run stays as it is.
-abbrev pub StillTicks : List ℕ → List ℕ → List ℕ → ℕ → ℕ → TickAnswer → List ℕ → List ℕ → List ℕ → Type 0
+abbrev pub StillTicks : List ℕ → List ℕ → List ℕ → ℕ → ℕ → Result DllErrors Refusal → List ℕ → List ℕ → List ℕ → Type 0
 StillTicks ws q m t s a ws' q' m' =
     (r : Run) → well_lent r ≡ true → is_still (checks_heartbeats (nmt_of ws).current_state) t (watching r) ≡ true → s ≡ soonest never (watching r) →
     TickedOn ws q m r t a ws' q' m' r

@@ -8,13 +8,13 @@ use Rattle.head.specs.Head.{Head}
 use Rattle.node.specs.Steps.{with_dll}
 use Rattle.node.specs.Tick.{soc_timeout}
 use Rattle.node.specs.Refines.{plain, Becomes}
-use Rattle.tick.specs.declared.soc.NextError.{NextError}
-use Rattle.tick.specs.declared.soc.NextError.TheVariants.{Error, None}
+use Rattle.std.specs.declared.option.Option.{Option}
+use Rattle.std.specs.declared.option.Option.TheVariants.{Some, None}
 
 -- the error at an index of a walk
-unfoldable pub error_at : List DllError → ℕ → NextError
+unfoldable pub error_at : List DllError → ℕ → Option DllError
 error_at [] i = None
-error_at (e ∷ es) zero = Error e
+error_at (e ∷ es) zero = Some e
 error_at (e ∷ es) (suc i) = error_at es i
 
 -- a SocTimeout on the head h left g and reported these errors

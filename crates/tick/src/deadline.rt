@@ -14,14 +14,14 @@ use head::parts::{
     check_of, check_off, deadline_at, dll_of, od_of, set_deadline, set_dll, soc_of, state_at,
     timeout_of, whole,
 };
-use head::state::{Deadline, Head};
+use head::state::Head;
 use heartbeats::dealt::{Dealt, timeout_in_tick};
 use node::timing::{cycle, last_soc, limit, time_since, tolerance_us};
 use types::frame::cs_state_machine::DllCsEvent;
 use types::frame::error::types::DllErrors;
 use types::nmt::states::NmtState;
 
-fn with_deadline(head: &mut Head, deadline: Deadline)
+fn with_deadline(head: &mut Head, deadline: Option<u64>)
     ensures { Turns head.old (λ p. with_deadline p deadline) head.new (deadline_written head.old deadline) }
 {
     whole(head);
@@ -47,7 +47,7 @@ fn reschedule(head: &mut Head, time: u64)
 {
     whole(head);
     if 0 < cycle(od_of(head)) {
-        with_deadline(head, Deadline::At(next_deadline(head, time)));
+        with_deadline(head, Some(next_deadline(head, time)));
         return;
     }
     check_off(head);
@@ -63,7 +63,7 @@ fn within_limit(head: &mut Head, time: u64)
     let at = last + limit(od);
     if 0 < cycle(od) {
         if time < at {
-            with_deadline(head, Deadline::At(at));
+            with_deadline(head, Some(at));
             return;
         }
         reschedule(head, time);
@@ -144,7 +144,7 @@ fn set_basic(head: &mut Head, time: u64)
 {
     let timeout = timeout_of(head) as u64;
     if 0 < timeout {
-        with_deadline(head, Deadline::At(time + timeout));
+        with_deadline(head, Some(time + timeout));
         return;
     }
 }
@@ -169,7 +169,7 @@ pub fn by_deadline(
     ensures { TicksIn head.old queue.old history.old (by_deadline (plain (head_of head.old) queue.old history.old) time (soc_of head.old).next_tick_us) result head.new queue.new history.new (deadline_words head.old queue.old history.old time (soc_of head.old).next_tick_us) }
 {
     let deadline = deadline_at(head);
-    let Deadline::At(at) = deadline else {
+    let Some(at) = deadline else {
         if at_not_active(head) {
             set_basic(head, time);
             return go_on();
@@ -179,7 +179,7 @@ pub fn by_deadline(
     if time < at {
         return go_on();
     }
-    with_deadline(head, Deadline::Nothing);
+    with_deadline(head, None);
     if at_not_active(head) {
         time_out(head);
         return go_on();

@@ -79,32 +79,25 @@ fn deal(
     finish(head, logged, ended)
 }
 
-// The next error of a walk, or none.
-#[derive(Clone, Copy)]
-enum NextError {
-    Error(DllError),
-    None,
-}
-
-fn error_at(errors: DllErrors, i: usize) -> NextError
+fn error_at(errors: DllErrors, i: usize) -> Option<DllError>
     ensures { result ≡ error_at (reported errors) i }
 {
     match errors {
-        DllErrors::None => NextError::None,
+        DllErrors::None => None,
         DllErrors::One(first) => {
             if i == 0 {
-                return NextError::Error(first);
+                return Some(first);
             }
-            NextError::None
+            None
         }
         DllErrors::Two(first, second) => {
             if i == 0 {
-                return NextError::Error(first);
+                return Some(first);
             }
             if i == 1 {
-                return NextError::Error(second);
+                return Some(second);
             }
-            NextError::None
+            None
         }
     }
 }
@@ -127,7 +120,7 @@ pub(crate) fn deal_all(
     let mut i: usize = 0;
     'walk: while i < 2 {
         let found = error_at(errors, i);
-        let NextError::Error(error) = found else {
+        let Some(error) = found else {
             break 'walk;
         };
         dealt = deal(head, queue, history, error, time);

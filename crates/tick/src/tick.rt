@@ -18,15 +18,8 @@ use node::heard::moment;
 use types::frame::error::types::DllErrors;
 use types::nmt::states::NmtState;
 use types::refusals::Refusal;
-use watched::nodes::{NodeWords, Seen, Tried, look, try_nodes};
+use watched::nodes::{NodeWords, Seen, look, try_nodes};
 use watched::time::in_time;
-
-// What a tick answers: what it logged. Head and nodes stand in the words.
-#[derive(Clone, Copy)]
-pub enum TickAnswer {
-    Taken(DllErrors),
-    Refused(Refusal),
-}
 
 // PreOperational2 and the states above it by their numbers, so not CsStopped.
 pub fn checks_heartbeats(state: NmtState) -> bool
@@ -43,8 +36,8 @@ fn roused(checks: bool, nodes: &NodeWords, count: usize, time: u64) -> Seen
         return look(nodes, count, time);
     }
     match try_nodes(nodes, count) {
-        Tried::Formed(soonest) => Seen::Resting(soonest),
-        Tried::Unformed => Seen::Unformed,
+        Some(soonest) => Seen::Resting(soonest),
+        None => Seen::Unformed,
     }
 }
 
@@ -76,24 +69,24 @@ fn tick_roused(
     count: usize,
     time: u64,
     heard: bool,
-) -> TickAnswer
+) -> Result<DllErrors, Refusal>
     requires { (well_formed (watched_of (nodes_of nodes.old) count) ≡ true)
         × (checks_heartbeats (nmt_of head.old).current_state ≡ true)
         × (heard ≡ all_of (not_before time) (watched_of (nodes_of nodes.old) count)) }
     ensures { TickedIn head.old queue.old history.old nodes.old count time result head.new queue.new history.new nodes.new }
 {
     if !in_time(time) {
-        return TickAnswer::Refused(Refusal::TimeLimit);
+        return Err(Refusal::TimeLimit);
     }
     if !heard {
-        return TickAnswer::Refused(Refusal::BeforeHeard);
+        return Err(Refusal::BeforeHeard);
     }
     let dealt = phases(head, queue, history, nodes, count, time);
     let soonest = look_all(nodes, count, time);
     whole(head);
     set_earliest(head, moment(soonest));
     let logged = dealt.logged;
-    TickAnswer::Taken(logged)
+    Ok(logged)
 }
 
 // A tick at which no node asks for anything: the nodes stay as they are, in whatever form, and `late` is the soonest moment at which one would be.
@@ -103,17 +96,17 @@ pub fn tick_still(
     history: &mut [u8; 5080],
     time: u64,
     late: u64,
-) -> TickAnswer
+) -> Result<DllErrors, Refusal>
     ensures { StillTicks head.old queue.old history.old time late result head.new queue.new history.new }
 {
     if !in_time(time) {
-        return TickAnswer::Refused(Refusal::TimeLimit);
+        return Err(Refusal::TimeLimit);
     }
     let dealt = by_deadline(head, queue, history, time);
     whole(head);
     set_earliest(head, moment(late));
     let logged = dealt.logged;
-    TickAnswer::Taken(logged)
+    Ok(logged)
 }
 
 // A tick at a time in microseconds, on a head with its memory and the watched nodes.
@@ -124,7 +117,7 @@ pub fn process_tick(
     nodes: &mut NodeWords,
     count: usize,
     time: u64,
-) -> TickAnswer
+) -> Result<DllErrors, Refusal>
     ensures { TickedIn head.old queue.old history.old nodes.old count time result head.new queue.new history.new nodes.new }
 {
     match roused(checks_heartbeats(state_at(head)), nodes, count, time) {
@@ -135,7 +128,7 @@ pub fn process_tick(
             return tick_still(head, queue, history, time, soonest);
         }
         Seen::Unformed => {
-            return TickAnswer::Refused(Refusal::WatchedNodes);
+            return Err(Refusal::WatchedNodes);
         }
     }
 }

@@ -13,19 +13,18 @@ use Rattle.types.specs.CsEvents.{read_cs_event}
 use Rattle.types.specs.Errors.{read_error}
 use Rattle.types.specs.States.{same_state}
 use Rattle.types.specs.declared.nmt.states.NmtState.TheVariants.{NmtReadyToOperate}
-use Rattle.types.specs.declared.nmt.events.NmtEventRead.{NmtEventRead}
-use Rattle.types.specs.declared.nmt.events.NmtEventRead.TheVariants as event
-use Rattle.types.specs.declared.frame.cs_state_machine.DllCsEventRead.{DllCsEventRead}
-use Rattle.types.specs.declared.frame.cs_state_machine.DllCsEventRead.TheVariants as cs-event
-use Rattle.types.specs.declared.frame.error.types.DllErrorRead.{DllErrorRead}
-use Rattle.types.specs.declared.frame.error.types.DllErrorRead.TheVariants as error_read
+use Rattle.std.specs.declared.result.Result.{Result}
+use Rattle.std.specs.declared.result.Result.TheVariants.{Ok, Err}
+use Rattle.std.specs.declared.option.Option.TheVariants.{None}
+use Rattle.types.specs.declared.nmt.events.NmtEvent.{NmtEvent}
+use Rattle.types.specs.declared.refusals.Refusal.{Refusal}
+use Rattle.types.specs.declared.frame.cs_state_machine.DllCsEvent.{DllCsEvent}
+use Rattle.types.specs.declared.frame.error.types.DllError.{DllError}
 use Rattle.nmt.specs.Resets.{is_reset}
 use Rattle.nmt.specs.Nmt.{processed}
-use Rattle.head.specs.declared.state.Deadline.TheVariants.{Nothing}
 use Rattle.head.specs.declared.state.SocWatch.{SocWatch}
 use Rattle.head.specs.Words.{head_of}
 use Rattle.watched.specs.Watched.{latest, in_time, heard_at, Run, watching, changing}
-use Rattle.node.specs.declared.calls.CallAnswer.TheVariants as answer
 use Rattle.node.specs.Plain.{Plain, Call, nmt_event, dll_event, error, cycle_complete, withdraw, heard, hand_out, load, arm, tick, range, margin, add, remove, Start, taken, range_answer, margin_answer, Step}
 use Rattle.node.specs.Steps.{no_run, forgets, answers, declines, with_nmt, with_soc, nmt_step, dll_step, error_step, withdrawn, heard_tests, add_tests, remove_tests, added, removed, armed, cycle_of, earliest, fresh, started}
 use Rattle.node.specs.Tick.{tick_tests, tick_taken, tick_answered, looked_at, last_soc}
@@ -75,13 +74,13 @@ stopped (c ∷ cs) ds (next {s = s} r d) =
 
 pub demand_3_after_each :
     {s : Start} {l : Run} {ws₀ ws q₀ m₀ q m : List ℕ} {ss : List Said} (cs ds : List Call) →
-    Began s answer.Taken l ws₀ →
+    Began s (Ok tt) l ws₀ →
     Driven ws₀ q₀ m₀ (cs ++ ds) ss ws q m →
     Until s ws₀ q₀ m₀ cs ds ss ws q m
 demand_3_after_each cs ds b d = let k = stopped cs ds d in record { after = k; claim = demand_3 b k.driven }
 
 -- THE EARLIEST MOMENT, "after each accepted start, tick, heard, add or removal, equals the value worked out afresh from the run": start's is none
-pub start_afresh : {s : Start} {l : Run} {ws : List ℕ} → Began s answer.Taken l ws → ((head_of ws).earliest ≡ earliest (watching l)) × ((head_of ws).earliest ≡ Nothing)
+pub start_afresh : {s : Start} {l : Run} {ws : List ℕ} → Began s (Ok tt) l ws → ((head_of ws).earliest ≡ earliest (watching l)) × ((head_of ws).earliest ≡ None)
 unfolding last_left
 start_afresh {s = s} {ws = ws} b =
     let moment : (head_of ws).earliest ≡ earliest (watching (started s).lent) = (demand_3 b (stop {q = []} {m = []})).moment in (
@@ -105,7 +104,7 @@ last_said d p (x ∷ cs) c = last_said (says (step p x).answer (step p x).lent) 
 -- a list that ends with one of the others: what it said last is the run that it left
 pub ends_afresh :
     {s : Start} {l : Run} {ws₀ ws q₀ m₀ q m : List ℕ} (cs : List Call) (c : Call) (ss : List Said) (z : Said) →
-    Began s answer.Taken l ws₀ →
+    Began s (Ok tt) l ws₀ →
     Driven ws₀ q₀ m₀ (cs ++ (c ∷ [])) (ss ++ (z ∷ [])) ws q m →
     works_out c ≡ true →
     accepted z.answer ≡ true →
@@ -126,21 +125,21 @@ abbrev Timed : Step → Type 0
 Timed t = last t.head ≤ latest
 
 module _ (p : Plain) (h : last p ≤ latest) where
-  nmt_timed : (r : NmtEventRead) → Timed (nmt_step p r)
-  nmt_timed (event.Taken e) = by (is_reset e)
+  nmt_timed : (r : Result NmtEvent Refusal) → Timed (nmt_step p r)
+  nmt_timed (Ok e) = by (is_reset e)
     where
       by : (b : Bool) → last (pick b (forgets (with_nmt p (processed p.nmt e).machine)) (with_nmt p (processed p.nmt e).machine)) ≤ latest
       by true = h
       by false = h
-  nmt_timed (event.Refused r) = h
+  nmt_timed (Err r) = h
 
-  dll_timed : (x : Bool) (r : DllCsEventRead) → Timed (dll_step p x r)
-  dll_timed x (cs-event.Taken e) = h
-  dll_timed x (cs-event.Refused r) = h
+  dll_timed : (x : Bool) (r : Result DllCsEvent Refusal) → Timed (dll_step p x r)
+  dll_timed x (Ok e) = h
+  dll_timed x (Err r) = h
 
-  error_timed : (r : DllErrorRead) → Timed (error_step p r)
-  error_timed (error_read.Taken e) = h
-  error_timed (error_read.Refused r) = h
+  error_timed : (r : Result DllError Refusal) → Timed (error_step p r)
+  error_timed (Ok e) = h
+  error_timed (Err r) = h
 
   arm_timed : (t : ℕ) → Timed (step p (arm t))
   unfolding armed
@@ -193,7 +192,7 @@ last_soc_as_it_is s cs = let h = last_soc_in_time s cs in omega arith
 -- nor is it later in the real head
 pub real_last_soc_in_time :
     {s : Start} {l : Run} {ws₀ ws q₀ m₀ q m : List ℕ} {cs : List Call} {ss : List Said} →
-    Began s answer.Taken l ws₀ →
+    Began s (Ok tt) l ws₀ →
     Driven ws₀ q₀ m₀ cs ss ws q m →
     (head_of ws).soc.last_soc_reception_time_us ≤ latest
 real_last_soc_in_time {s = s} {cs = cs} b d = subst (λ (p : Plain). last p ≤ latest) (sym (demand_3 b d).alike) (last_soc_in_time s cs)

@@ -20,17 +20,13 @@ use Rattle.types.specs.CsEvents.{cs_events, cs_event_number, read_cs_event}
 use Rattle.types.specs.Errors.{Kind, kinds, carried, read_error}
 use Rattle.types.specs.declared.refusals.Refusal.{Refusal}
 use Rattle.types.specs.declared.refusals.Refusal.TheVariants.{NodeNumber, UnknownNumber}
-use Rattle.types.specs.declared.types.NodeIdRead.TheVariants as node-id
+use Rattle.std.specs.declared.result.Result.{Result}
+use Rattle.std.specs.declared.result.Result.TheVariants.{Ok, Err}
+use Rattle.types.specs.declared.frame.error.types.DllErrors.{DllErrors}
 use Rattle.types.specs.declared.nmt.states.NmtState.TheVariants.{NmtReadyToOperate}
 use Rattle.types.specs.declared.nmt.events.NmtEvent.{NmtEvent}
-use Rattle.types.specs.declared.nmt.events.NmtEventRead.{NmtEventRead}
-use Rattle.types.specs.declared.nmt.events.NmtEventRead.TheVariants as event
 use Rattle.types.specs.declared.frame.cs_state_machine.DllCsEvent.{DllCsEvent}
-use Rattle.types.specs.declared.frame.cs_state_machine.DllCsEventRead.{DllCsEventRead}
-use Rattle.types.specs.declared.frame.cs_state_machine.DllCsEventRead.TheVariants as cs-event
 use Rattle.types.specs.declared.frame.error.types.DllError.{DllError}
-use Rattle.types.specs.declared.frame.error.types.DllErrorRead.{DllErrorRead}
-use Rattle.types.specs.declared.frame.error.types.DllErrorRead.TheVariants as error_read
 use Rattle.types.proofs.Reading.{Each, reads_holds}
 use Rattle.watched.specs.Watched.{in_time, heard_at, unheard, Run, run as run_of, watching, changing}
 use Rattle.watched.specs.Nodes.{nodes_of}
@@ -45,10 +41,6 @@ use Rattle.node.proofs.Fixed.{parts, apart, refusal_of}
 use Rattle.head.specs.Places as at
 use Rattle.head.specs.Words.{word, state_of, nmt_of, soc_of, od_of, head_of}
 use Rattle.head.specs.Written.{soc_written}
-use Rattle.node.specs.declared.calls.CallAnswer.{CallAnswer}
-use Rattle.node.specs.declared.calls.CallAnswer.TheVariants as answer
-use Rattle.tick.specs.declared.tick.TickAnswer.{TickAnswer}
-use Rattle.tick.specs.declared.tick.TickAnswer.TheVariants as tick-answer
 use Rattle.tick.specs.TickIn.{tick_said, tick_leaves, TickedOn}
 use Rattle.node.proofs.calls.nmt_event.Reads as nmt-event-reads
 use Rattle.node.proofs.calls.dll_event.Reads as dll-event-reads
@@ -89,59 +81,59 @@ each_of P f [] = tt
 each_of P f (x ∷ xs) = (f x, each_of P f xs)
 
 -- the readings: number 4, and of an error's node 1
-abbrev event_fits : NmtEventRead → Type 0
-event_fits (event.Taken e) = Unit
-event_fits (event.Refused r) = Among (4 ∷ []) (refusal_number r)
+abbrev event_fits : Result NmtEvent Refusal → Type 0
+event_fits (Ok e) = Unit
+event_fits (Err r) = Among (4 ∷ []) (refusal_number r)
 
 read_event_lem : (n : ℕ) → event_fits (read_event n)
 unfolding read_event
 read_event_lem n =
-    reads_holds event_number event.Taken (event.Refused UnknownNumber) (λ n r. event_fits r) events n refl
-    (each_of (λ (e : NmtEvent). event_fits (event.Taken e)) (λ e. tt) events)
+    reads_holds event_number Ok (Err UnknownNumber) (λ n r. event_fits r) events n refl
+    (each_of (λ (e : NmtEvent). event_fits (Ok e)) (λ e. tt) events)
 
-abbrev cs_fits : DllCsEventRead → Type 0
-cs_fits (cs-event.Taken e) = Unit
-cs_fits (cs-event.Refused r) = Among (4 ∷ []) (refusal_number r)
+abbrev cs_fits : Result DllCsEvent Refusal → Type 0
+cs_fits (Ok e) = Unit
+cs_fits (Err r) = Among (4 ∷ []) (refusal_number r)
 
 read_cs : (n : ℕ) → cs_fits (read_cs_event n)
 unfolding read_cs_event
 read_cs n =
-    reads_holds cs_event_number cs-event.Taken (cs-event.Refused UnknownNumber) (λ n r. cs_fits r) cs_events n refl
-    (each_of (λ (e : DllCsEvent). cs_fits (cs-event.Taken e)) (λ e. tt) cs_events)
+    reads_holds cs_event_number Ok (Err UnknownNumber) (λ n r. cs_fits r) cs_events n refl
+    (each_of (λ (e : DllCsEvent). cs_fits (Ok e)) (λ e. tt) cs_events)
 
-abbrev error_fits : DllErrorRead → Type 0
-error_fits (error_read.Taken e) = Unit
-error_fits (error_read.Refused r) = Among (4 ∷ 1 ∷ []) (refusal_number r)
+abbrev error_fits : Result DllError Refusal → Type 0
+error_fits (Ok e) = Unit
+error_fits (Err r) = Among (4 ∷ 1 ∷ []) (refusal_number r)
 
 of_node_lem : (a : ℕ) (e : DllError) → error_fits (carried (read_node a) e)
 unfolding read_node
 of_node_lem a e = by (is_node a)
   where
-    by : (b : Bool) → error_fits (carried (pick b (node-id.Taken (node a)) (node-id.Refused NodeNumber)) e)
+    by : (b : Bool) → error_fits (carried (pick b (Ok (node a)) (Err NodeNumber)) e)
     by true = tt
     by false = refl
 
 read_error_lem : (k a b : ℕ) → error_fits (read_error k a b)
 unfolding read_error
 read_error_lem k a b =
-    reads_holds (λ (r : Kind). r.number) (λ (r : Kind). r.answer) (error_read.Refused UnknownNumber) (λ n r. error_fits r) (kinds a b) k refl
+    reads_holds (λ (r : Kind). r.number) (λ (r : Kind). r.answer) (Err UnknownNumber) (λ n r. error_fits r) (kinds a b) k refl
     (tt, (tt, (tt, (tt, (tt, (tt, (tt, (tt, (tt, (of_node_lem a _, (of_node_lem a _, (tt, (of_node_lem a _, (tt, (tt, (tt, (tt, (tt, (tt, (of_node_lem a _, (of_node_lem a _, (of_node_lem a _, tt))))))))))))))))))))))
 
 -- what the plain head does at a call that it declines
 abbrev Plainly : List ℕ → Run → Step → ℕ → Type 0
 Plainly ns l t r = Among ns r × (t.lent ≡ l) × (t.crossings ≡ [])
 
-nmt_declines : (p : Plain) (x : NmtEventRead) → event_fits x → (r : ℕ) → (nmt_step p x).answer ≡ refused r → Plainly (4 ∷ []) no_run (nmt_step p x) r
-nmt_declines p (event.Taken e) f r h = apart (sym h) refl refl
-nmt_declines p (event.Refused x) f r h = (subst (Among (4 ∷ [])) (refusal_of h) f, refl, refl)
+nmt_declines : (p : Plain) (x : Result NmtEvent Refusal) → event_fits x → (r : ℕ) → (nmt_step p x).answer ≡ refused r → Plainly (4 ∷ []) no_run (nmt_step p x) r
+nmt_declines p (Ok e) f r h = apart (sym h) refl refl
+nmt_declines p (Err x) f r h = (subst (Among (4 ∷ [])) (refusal_of h) f, refl, refl)
 
-dll_declines : (p : Plain) (y : Bool) (x : DllCsEventRead) → cs_fits x → (r : ℕ) → (dll_step p y x).answer ≡ refused r → Plainly (4 ∷ []) no_run (dll_step p y x) r
-dll_declines p y (cs-event.Taken e) f r h = apart (sym h) refl refl
-dll_declines p y (cs-event.Refused x) f r h = (subst (Among (4 ∷ [])) (refusal_of h) f, refl, refl)
+dll_declines : (p : Plain) (y : Bool) (x : Result DllCsEvent Refusal) → cs_fits x → (r : ℕ) → (dll_step p y x).answer ≡ refused r → Plainly (4 ∷ []) no_run (dll_step p y x) r
+dll_declines p y (Ok e) f r h = apart (sym h) refl refl
+dll_declines p y (Err x) f r h = (subst (Among (4 ∷ [])) (refusal_of h) f, refl, refl)
 
-error_declines : (p : Plain) (x : DllErrorRead) → error_fits x → (r : ℕ) → (error_step p x).answer ≡ refused r → Plainly (4 ∷ 1 ∷ []) no_run (error_step p x) r
-error_declines p (error_read.Taken e) f r h = apart (sym h) refl refl
-error_declines p (error_read.Refused x) f r h = (subst (Among (4 ∷ 1 ∷ [])) (refusal_of h) f, refl, refl)
+error_declines : (p : Plain) (x : Result DllError Refusal) → error_fits x → (r : ℕ) → (error_step p x).answer ≡ refused r → Plainly (4 ∷ 1 ∷ []) no_run (error_step p x) r
+error_declines p (Ok e) f r h = apart (sym h) refl refl
+error_declines p (Err x) f r h = (subst (Among (4 ∷ 1 ∷ [])) (refusal_of h) f, refl, refl)
 
 tried_declines :
     (ns : List ℕ) (p : Plain) (l : Run) (ts : List (Test ℕ)) (accept : Step) → Each (λ (t : Test ℕ). Among ns t.otherwise) ts → (parts accept.answer).declines ≡ false →
@@ -183,17 +175,17 @@ plain_declines p (remove n l) r h =
     tried_declines (3 ∷ 7 ∷ []) p l (remove_tests n l) (leaves p (removed n l)) (refl, (refl, tt)) refl r h
 
 -- the words that a declined call leaves
-nmt_words_lem : (ws : List ℕ) (p : Plain) (x : NmtEventRead) (r : ℕ) → (nmt_step p x).answer ≡ refused r → nmt_words ws x ≡ ws
-nmt_words_lem ws p (event.Taken e) r h = apart (sym h) refl refl
-nmt_words_lem ws p (event.Refused x) r h = refl
+nmt_words_lem : (ws : List ℕ) (p : Plain) (x : Result NmtEvent Refusal) (r : ℕ) → (nmt_step p x).answer ≡ refused r → nmt_words ws x ≡ ws
+nmt_words_lem ws p (Ok e) r h = apart (sym h) refl refl
+nmt_words_lem ws p (Err x) r h = refl
 
-dll_words_lem : (ws : List ℕ) (p : Plain) (y : Bool) (x : DllCsEventRead) (r : ℕ) → (dll_step p y x).answer ≡ refused r → dll_words ws y x ≡ ws
-dll_words_lem ws p y (cs-event.Taken e) r h = apart (sym h) refl refl
-dll_words_lem ws p y (cs-event.Refused x) r h = refl
+dll_words_lem : (ws : List ℕ) (p : Plain) (y : Bool) (x : Result DllCsEvent Refusal) (r : ℕ) → (dll_step p y x).answer ≡ refused r → dll_words ws y x ≡ ws
+dll_words_lem ws p y (Ok e) r h = apart (sym h) refl refl
+dll_words_lem ws p y (Err x) r h = refl
 
-error_words_lem : (ws : List ℕ) (p : Plain) (x : DllErrorRead) (r : ℕ) → (error_step p x).answer ≡ refused r → error_words ws x ≡ ws
-error_words_lem ws p (error_read.Taken e) r h = apart (sym h) refl refl
-error_words_lem ws p (error_read.Refused x) r h = refl
+error_words_lem : (ws : List ℕ) (p : Plain) (x : Result DllError Refusal) (r : ℕ) → (error_step p x).answer ≡ refused r → error_words ws x ≡ ws
+error_words_lem ws p (Ok e) r h = apart (sym h) refl refl
+error_words_lem ws p (Err x) r h = refl
 
 withdraw_words_lem : (ws q m : List ℕ) (r : ℕ) → (step (plain (head_of ws) q m) withdraw).answer ≡ refused r → withdraw_words ws ≡ ws
 unfolding head_of
@@ -216,17 +208,17 @@ arm_words_lem ws p t r h = by (in_time t) h
     by true g = apart (sym g) refl refl
     by false g = refl
 
-said_leaves : (o : CallAnswer) (n : ℕ) → said o ≡ refused n → (ws ws' : List ℕ) → unless_refused o ws ws' ≡ ws
-said_leaves answer.Taken n h ws ws' = apart (sym h) refl refl
-said_leaves (answer.Refused r) n h ws ws' = refl
+said_leaves : (o : Result (Unit {0}) Refusal) (n : ℕ) → said o ≡ refused n → (ws ws' : List ℕ) → unless_refused o ws ws' ≡ ws
+said_leaves (Ok _) n h ws ws' = apart (sym h) refl refl
+said_leaves (Err r) n h ws ws' = refl
 
-tick_leaves_lem : (o : TickAnswer) (n : ℕ) → tick_said o ≡ refused n → (ws ws' : List ℕ) → tick_leaves o ws ws' ≡ ws
-tick_leaves_lem (tick-answer.Taken es) n h ws ws' = apart (sym h) refl refl
-tick_leaves_lem (tick-answer.Refused r) n h ws ws' = refl
+tick_leaves_lem : (o : Result DllErrors Refusal) (n : ℕ) → tick_said o ≡ refused n → (ws ws' : List ℕ) → tick_leaves o ws ws' ≡ ws
+tick_leaves_lem (Ok es) n h ws ws' = apart (sym h) refl refl
+tick_leaves_lem (Err r) n h ws ws' = refl
 
 -- a declined tick: no entry joins, so both memories stay
 tick_declines :
-    {ws q m ws' q' m' : List ℕ} {l l' : Run} {t : ℕ} (o : TickAnswer) (n : ℕ) →
+    {ws q m ws' q' m' : List ℕ} {l l' : Run} {t : ℕ} (o : Result DllErrors Refusal) (n : ℕ) →
     TickedOn ws q m l t o ws' q' m' l' → tick_said o ≡ refused n → (ws' ≡ ws) × (q' ≡ q) × (m' ≡ m)
 tick_declines {ws = ws} {q = q} {m = m} {l = l} {t = t} o n e h =
     let p = plain_declines (plain (head_of ws) q m) (tick t l) n (sym e.refines.answer ∙ h) in
@@ -248,13 +240,13 @@ declined {ws = ws} {q = q} {m = m} {c = c} n r h w x y z k =
 
 -- heard, add and removal on a run of records
 run_declined :
-    {ws q m ns ws' : List ℕ} {k : ℕ} {c : Call} {l : Run} (n : ℕ) (o : CallAnswer) →
+    {ws q m ns ws' : List ℕ} {k : ℕ} {c : Call} {l : Run} (n : ℕ) (o : Result (Unit {0}) Refusal) →
     OnRun ws c o ws' l → said o ≡ refused n → Declined ws q m ns k c n (record { answer = said o; lent = l }) ws' q m ns k
 run_declined {q = q} {m = m} n o e h = declined n (e.refines q m) h (e.words ∙ said_leaves o n h _ _) refl refl refl refl
 
 -- add and removal on nodes in words: the number stays with the run
 words_declined :
-    {ws q m ns ws' ns' : List ℕ} {k k' : ℕ} {c : Call} (n : ℕ) (o : CallAnswer) →
+    {ws q m ns ws' ns' : List ℕ} {k k' : ℕ} {c : Call} (n : ℕ) (o : Result (Unit {0}) Refusal) →
     OnRun ws c o ws' (run_of (nodes_of ns') k') → said o ≡ refused n → lent_to c ≡ run_of (nodes_of ns) k → (l : List ℕ) → ns' ≡ unless_refused o ns l →
     Declined ws q m ns k c n (record { answer = said o; lent = run_of (nodes_of ns') k' }) ws' q m ns' k'
 words_declined {ws = ws} {q = q} {m = m} {ns = ns} {c = c} n o e h g l z =
@@ -314,7 +306,7 @@ plain_start_numbered s = by (start_tests s) (refl, (refl, (refl, (refl, tt))))
     by (t ∷ ts) f = picked Fits t.holds (by ts f.1) f.0
 
 pub start_numbered :
-    {s : Start} {r : Refusal} {l : Run} {ws : List ℕ} → Began s (answer.Refused r) l ws → is_among (refusal_number r) start_refusals ≡ true
+    {s : Start} {r : Refusal} {l : Run} {ws : List ℕ} → Began s (Err r) l ws → is_among (refusal_number r) start_refusals ≡ true
 start_numbered {s = s} b = subst Numbered (sym (start_declined b).0) (plain_start_numbered s)
 
 -- "with whatever numbers and times": neither a call nor start asks anything of its caller, in either form

@@ -10,8 +10,8 @@ use Rattle.counters.specs.declared.counters.Thresholds.{Thresholds}
 use Rattle.head.specs.declared.state.Dictionary.{Dictionary}
 use Rattle.head.specs.Words.{head_of}
 use Rattle.watched.specs.Watched.{Run}
-use Rattle.node.specs.declared.calls.CallAnswer.{CallAnswer}
-use Rattle.node.specs.declared.calls.CallAnswer.TheVariants as answer
+use Rattle.std.specs.declared.result.Result.{Result}
+use Rattle.std.specs.declared.result.Result.TheVariants.{Ok, Err}
 use Rattle.node.specs.Plain.{Call, Start, declined}
 use Rattle.node.specs.Steps.{started}
 use Rattle.node.specs.Run.{Said}
@@ -64,14 +64,14 @@ and_then stop r = next r stop
 and_then (next f d) r = next f (and_then d r)
 
 -- what start's contract in src/ ensures is `Begins`
-pub begins : {s : Start} {o : CallAnswer} {l : Run} {ws : List ℕ} → Began s o l ws → Begins s o (head_of ws) l
+pub begins : {s : Start} {o : Result (Unit {0}) Refusal} {l : Run} {ws : List ℕ} → Began s o l ws → Begins s o (head_of ws) l
 begins (Began.start n f t c od ts o e) = e.on.begins
 begins (Began.start_run r n f t c od ts o r' e) = e.begins
 
 -- from the words that start wrote, over any list of the calls
 pub demand_3 :
     {s : Start} {l : Run} {ws₀ ws q₀ m₀ q m : List ℕ} {cs : List Call} {ss : List Said} →
-    Began s answer.Taken l ws₀ →
+    Began s (Ok tt) l ws₀ →
     Driven ws₀ q₀ m₀ cs ss ws q m →
     Claim s cs ss (head_of ws) q m
 demand_3 {s = s} {ws₀ = ws₀} {q₀ = q₀} {m₀ = m₀} b d =
@@ -80,21 +80,21 @@ demand_3 {s = s} {ws₀ = ws₀} {q₀ = q₀} {m₀ = m₀} b d =
 -- a start that is declined has no list: its number is the plain start's, and what was lent is unchanged
 pub start_declined :
     {s : Start} {r : Refusal} {l : Run} {ws : List ℕ} →
-    Began s (answer.Refused r) l ws →
+    Began s (Err r) l ws →
     (declined (refusal_number r) ≡ (started s).begun) × (l ≡ s.watched)
 start_declined {s = s} {r = r} b =
     let e : declined (refusal_number r) ≡ (started s).begun = (begins b).begun [] [] in (e, (begins b).lent ∙ declined_lent s (refusal_number r) e)
 
 -- nor is a word of the head written; nor one of the nodes, where it was lent words
 pub start_declined_words :
-    (κs : _) (a : _) (r : Refusal) (x : _) → start-reads.Learnt κs a (answer.Refused r) x → (x.0.now ≡ a.0.now) × (x.1.0.now ≡ a.1.0.now)
-start_declined_words κs a r x e = (e.on.words, start_leaves κs a (answer.Refused r) x e)
+    (κs : _) (a : _) (r : Refusal) (x : _) → start-reads.Learnt κs a (Err r) x → (x.0.now ≡ a.0.now) × (x.1.0.now ≡ a.1.0.now)
+start_declined_words κs a r x e = (e.on.words, start_leaves κs a (Err r) x e)
 
 pub start_declined_run :
     {ws ws' : List ℕ} {l l' : Run} {n t c : ℕ} {f : FeatureFlags} {od : Dictionary} {ts : Thresholds} {r : Refusal} →
-    StartedOn ws l n f t c od ts (answer.Refused r) ws' l' → ws' ≡ ws
+    StartedOn ws l n f t c od ts (Err r) ws' l' → ws' ≡ ws
 start_declined_run e = e.words
 
 -- what was lent to start is left as the plain start leaves it
-pub start_lent : {s : Start} {o : CallAnswer} {l : Run} {ws : List ℕ} → Began s o l ws → l ≡ (started s).lent
+pub start_lent : {s : Start} {o : Result (Unit {0}) Refusal} {l : Run} {ws : List ℕ} → Began s o l ws → l ≡ (started s).lent
 start_lent b = (begins b).lent

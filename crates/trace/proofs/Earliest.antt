@@ -14,16 +14,16 @@ use Rattle.types.specs.Events.{read_event}
 use Rattle.types.specs.CsEvents.{read_cs_event}
 use Rattle.types.specs.Errors.{read_error}
 use Rattle.types.specs.declared.nmt.states.NmtState.TheVariants.{NmtReadyToOperate}
-use Rattle.types.specs.declared.nmt.events.NmtEventRead.{NmtEventRead}
-use Rattle.types.specs.declared.nmt.events.NmtEventRead.TheVariants as event
-use Rattle.types.specs.declared.frame.cs_state_machine.DllCsEventRead.{DllCsEventRead}
-use Rattle.types.specs.declared.frame.cs_state_machine.DllCsEventRead.TheVariants as cs-event
-use Rattle.types.specs.declared.frame.error.types.DllErrorRead.{DllErrorRead}
-use Rattle.types.specs.declared.frame.error.types.DllErrorRead.TheVariants as error_read
+use Rattle.std.specs.declared.result.Result.{Result}
+use Rattle.std.specs.declared.result.Result.TheVariants.{Ok, Err}
+use Rattle.std.specs.declared.option.Option.TheVariants.{Some, None}
+use Rattle.types.specs.declared.nmt.events.NmtEvent.{NmtEvent}
+use Rattle.types.specs.declared.refusals.Refusal.{Refusal}
+use Rattle.types.specs.declared.frame.cs_state_machine.DllCsEvent.{DllCsEvent}
+use Rattle.types.specs.declared.frame.error.types.DllError.{DllError}
 use Rattle.types.proofs.Tests.{both_first}
 use Rattle.nmt.specs.Resets.{is_reset}
 use Rattle.nmt.specs.Nmt.{processed}
-use Rattle.head.specs.declared.state.Deadline.TheVariants.{At, Nothing}
 use Rattle.watched.specs.declared.nodes.WatchedNode.{WatchedNode}
 use Rattle.watched.specs.Watched.{heard_now, heard_at, unheard, Run, watching, well_lent, changing}
 use Rattle.watched.proofs.Lists.{each_nodes}
@@ -38,16 +38,16 @@ use Rattle.trace.proofs.Ticking.{picked}
 use Rattle.trace.proofs.Shares.{tried_by_lem, Leaves, stays, goes, run_call}
 
 -- START: no node was heard, so none would be late
-none_late : (ws : List WatchedNode) → earliest (unheard ws) ≡ Nothing
+none_late : (ws : List WatchedNode) → earliest (unheard ws) ≡ None
 unfolding earliest
 none_late [] = refl
 none_late (w ∷ ws) = by (ltb 0 w.timeout) (none_late ws)
   where
-    by : (b : Bool) → earliest (unheard ws) ≡ Nothing → smaller (pick (both b false) (At (0 + w.timeout + 1)) Nothing) (earliest (unheard ws)) ≡ Nothing
+    by : (b : Bool) → earliest (unheard ws) ≡ None → smaller (pick (both b false) (Some (0 + w.timeout + 1)) None) (earliest (unheard ws)) ≡ None
     by true h = h
     by false h = h
 
-pub start_moment : (r : Run) → well_lent r ≡ true → earliest (watching (changing unheard r)) ≡ Nothing
+pub start_moment : (r : Run) → well_lent r ≡ true → earliest (watching (changing unheard r)) ≡ None
 start_moment r h =
     let long : length r.places ≡ 32 = eqb-true (length r.places) 32 (both_first (eqb (length r.places) 32) _ h) in
     let few : r.number ≤ length r.places = lent_inside r h in
@@ -57,19 +57,19 @@ start_moment r h =
 abbrev Kept : Plain → Step → Type 0
 Kept p t = t.head.earliest ≡ p.earliest
 
-nmt_kept : (p : Plain) (r : NmtEventRead) → Kept p (nmt_step p r)
-nmt_kept p (event.Taken e) =
+nmt_kept : (p : Plain) (r : Result NmtEvent Refusal) → Kept p (nmt_step p r)
+nmt_kept p (Ok e) =
     picked (λ (g : Plain). g.earliest ≡ p.earliest) (is_reset e) {x = forgets (with_nmt p (processed p.nmt e).machine)}
     {y = with_nmt p (processed p.nmt e).machine} refl refl
-nmt_kept p (event.Refused r) = refl
+nmt_kept p (Err r) = refl
 
-dll_kept : (p : Plain) (x : Bool) (r : DllCsEventRead) → Kept p (dll_step p x r)
-dll_kept p x (cs-event.Taken e) = refl
-dll_kept p x (cs-event.Refused r) = refl
+dll_kept : (p : Plain) (x : Bool) (r : Result DllCsEvent Refusal) → Kept p (dll_step p x r)
+dll_kept p x (Ok e) = refl
+dll_kept p x (Err r) = refl
 
-error_kept : (p : Plain) (r : DllErrorRead) → Kept p (error_step p r)
-error_kept p (error_read.Taken e) = refl
-error_kept p (error_read.Refused r) = refl
+error_kept : (p : Plain) (r : Result DllError Refusal) → Kept p (error_step p r)
+error_kept p (Ok e) = refl
+error_kept p (Err r) = refl
 
 -- One of these that is accepted works it out; a declined one leaves it.
 abbrev Renewed : Plain → Step → Type 0

@@ -7,7 +7,7 @@ use mathlib.Core.List.{List, [], ◌∷◌}
 use native.Mathlib.Omega.{arith}
 use Rattle.types.specs.Pick.{pick}
 use Rattle.counters.specs.Counters.{thresholds_fit}
-use Rattle.head.specs.declared.state.Deadline.TheVariants.{Nothing}
+use Rattle.std.specs.declared.option.Option.TheVariants.{None}
 use Rattle.head.specs.Head.{Head}
 use Rattle.watched.specs.Watched.{unheard, Run, watching, changing}
 use Rattle.node.specs.Plain.{Plain, Call, Answer, Start, begins, declined, FirstStep}
@@ -92,7 +92,7 @@ begins_lent s p =
     (λ r. record { begun = declined r; lent = s.watched }) (record { begun = begins (fresh s); lent = changing unheard s.watched })
     (λ r e. absurd (let z : ◌≡◌ {A = ℕ} 0 1 = cc in let f : ⊥ = omega arith in f)) (λ e. refl)
 
-pub begins_unheard : (s : Start) (p : Plain) → begins p ≡ (started s).begun → earliest (watching (started s).lent) ≡ Nothing
+pub begins_unheard : (s : Start) (p : Plain) → begins p ≡ (started s).begun → earliest (watching (started s).lent) ≡ None
 begins_unheard s p e = ap (λ (r : Run). earliest (watching r)) (begins_lent s p e) ∙ start_moment s.watched (begins_tested s p e).1.1.0
 
 -- a plain start that is declined leaves what was lent

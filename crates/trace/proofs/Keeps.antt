@@ -13,7 +13,7 @@ use Rattle.counters.specs.declared.counters.CounterKind.{CounterKind}
 use Rattle.counters.specs.declared.counters.Thresholds.{Thresholds}
 use Rattle.counters.proofs.ByKind.{counter_new, limited}
 use Rattle.counters.proofs.Balance.{Balanced, balanced_none, balanced_then, FromZero, from_zero, count_append}
-use Rattle.head.specs.declared.state.Deadline.TheVariants.{Nothing}
+use Rattle.std.specs.declared.option.Option.TheVariants.{None}
 use Rattle.head.specs.Head.{Head}
 use Rattle.watched.specs.Watched.{watching}
 use Rattle.node.specs.Plain.{Plain, Call, Start, Step}
@@ -104,7 +104,7 @@ each p (c ∷ cs) = (rule p c, each (step p c).head cs)
 pub claimed :
     (s : Start) (cs : List Call) (says : List Said) (h : Head) (q m : List ℕ) →
     thresholds_fit s.thresholds ≡ true →
-    earliest (watching (started s).lent) ≡ Nothing →
+    earliest (watching (started s).lent) ≡ None →
     plain h q m ≡ step_all (fresh s) cs →
     says ≡ said_all (fresh s) cs →
     Claim s cs says h q m

@@ -10,12 +10,11 @@ use Rattle.types.specs.CsEvents.{read_cs_event}
 use Rattle.types.specs.Errors.{read_error}
 use Rattle.types.specs.declared.nmt.states.NmtState.TheVariants.{NmtReadyToOperate}
 use Rattle.types.specs.declared.nmt.events.NmtEvent.{NmtEvent}
-use Rattle.types.specs.declared.nmt.events.NmtEventRead.{NmtEventRead}
-use Rattle.types.specs.declared.nmt.events.NmtEventRead.TheVariants as event
-use Rattle.types.specs.declared.frame.cs_state_machine.DllCsEventRead.{DllCsEventRead}
-use Rattle.types.specs.declared.frame.cs_state_machine.DllCsEventRead.TheVariants as cs-event
-use Rattle.types.specs.declared.frame.error.types.DllErrorRead.{DllErrorRead}
-use Rattle.types.specs.declared.frame.error.types.DllErrorRead.TheVariants as error_read
+use Rattle.std.specs.declared.result.Result.{Result}
+use Rattle.std.specs.declared.result.Result.TheVariants.{Ok, Err}
+use Rattle.types.specs.declared.refusals.Refusal.{Refusal}
+use Rattle.types.specs.declared.frame.cs_state_machine.DllCsEvent.{DllCsEvent}
+use Rattle.types.specs.declared.frame.error.types.DllError.{DllError}
 use Rattle.nmt.specs.Resets.{is_reset}
 use Rattle.nmt.specs.Nmt.{processed}
 use Rattle.nmt.specs.declared.cn_state_machine.CnNmtStateMachine.{CnNmtStateMachine}
@@ -32,7 +31,7 @@ use Rattle.trace.proofs.Shares.{tried_by_lem, Leaves, stays, goes, run_call}
 pub data Moves (p : Plain) (c : Call) : EventMade → CnNmtStateMachine → Type 0 where
   same : Moves p c no_event p.nmt
   takes_back : Moves p c no_event (withdrawn p.nmt)
-  told : (n : ℕ) (e : NmtEvent) → c ≡ nmt_event n → read_event n ≡ event.Taken e → Moves p c (made e) (processed p.nmt e).machine
+  told : (n : ℕ) (e : NmtEvent) → c ≡ nmt_event n → read_event n ≡ Ok e → Moves p c (made e) (processed p.nmt e).machine
   ticks : {e : EventMade} {m : CnNmtStateMachine} → InTick p.nmt e m → Moves p c e m
 
 abbrev MovesTo : Plain → Call → Step → Type 0
@@ -43,17 +42,17 @@ pub forgets_nmt : (b : Bool) (p : Plain) → (pick b (forgets p) p).nmt ≡ p.nm
 forgets_nmt true p = refl
 forgets_nmt false p = refl
 
-nmt_moves : (p : Plain) (n : ℕ) (r : NmtEventRead) → read_event n ≡ r → MovesTo p (nmt_event n) (nmt_step p r)
-nmt_moves p n (event.Taken e) h = subst (Moves p (nmt_event n) (made e)) (sym (forgets_nmt (is_reset e) (with_nmt p (processed p.nmt e).machine))) (told n e refl h)
-nmt_moves p n (event.Refused r) h = same
+nmt_moves : (p : Plain) (n : ℕ) (r : Result NmtEvent Refusal) → read_event n ≡ r → MovesTo p (nmt_event n) (nmt_step p r)
+nmt_moves p n (Ok e) h = subst (Moves p (nmt_event n) (made e)) (sym (forgets_nmt (is_reset e) (with_nmt p (processed p.nmt e).machine))) (told n e refl h)
+nmt_moves p n (Err r) h = same
 
-dll_moves : (p : Plain) (n : ℕ) (x : Bool) (r : DllCsEventRead) → MovesTo p (dll_event n x) (dll_step p x r)
-dll_moves p n x (cs-event.Taken e) = same
-dll_moves p n x (cs-event.Refused r) = same
+dll_moves : (p : Plain) (n : ℕ) (x : Bool) (r : Result DllCsEvent Refusal) → MovesTo p (dll_event n x) (dll_step p x r)
+dll_moves p n x (Ok e) = same
+dll_moves p n x (Err r) = same
 
-error_moves : (p : Plain) (k a b : ℕ) (r : DllErrorRead) → MovesTo p (error k a b) (error_step p r)
-error_moves p k a b (error_read.Taken e) = same
-error_moves p k a b (error_read.Refused r) = same
+error_moves : (p : Plain) (k a b : ℕ) (r : Result DllError Refusal) → MovesTo p (error k a b) (error_step p r)
+error_moves p k a b (Ok e) = same
+error_moves p k a b (Err r) = same
 
 withdraw_moves : (p : Plain) (b : Bool) → MovesTo p withdraw (pick b (answers (with_nmt p (withdrawn p.nmt)) taken no_run) (declines p no_run 8))
 withdraw_moves p true = takes_back

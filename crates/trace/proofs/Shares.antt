@@ -14,21 +14,20 @@ use Rattle.types.specs.CsEvents.{read_cs_event}
 use Rattle.types.specs.Errors.{read_error}
 use Rattle.types.specs.Refusals.{refusal_number}
 use Rattle.types.specs.declared.nmt.states.NmtState.TheVariants.{NmtReadyToOperate}
-use Rattle.types.specs.declared.nmt.events.NmtEventRead.{NmtEventRead}
-use Rattle.types.specs.declared.nmt.events.NmtEventRead.TheVariants as event
-use Rattle.types.specs.declared.frame.cs_state_machine.DllCsEventRead.{DllCsEventRead}
-use Rattle.types.specs.declared.frame.cs_state_machine.DllCsEventRead.TheVariants as cs-event
-use Rattle.types.specs.declared.frame.error.types.DllErrorRead.{DllErrorRead}
-use Rattle.types.specs.declared.frame.error.types.DllErrorRead.TheVariants as error_read
+use Rattle.std.specs.declared.result.Result.{Result}
+use Rattle.std.specs.declared.option.Option.{Option}
+use Rattle.std.specs.declared.result.Result.TheVariants.{Ok, Err}
+use Rattle.std.specs.declared.option.Option.TheVariants.{Some, None}
+use Rattle.types.specs.declared.nmt.events.NmtEvent.{NmtEvent}
+use Rattle.types.specs.declared.refusals.Refusal.{Refusal}
+use Rattle.types.specs.declared.frame.cs_state_machine.DllCsEvent.{DllCsEvent}
+use Rattle.types.specs.declared.frame.error.types.DllError.{DllError}
 use Rattle.nmt.specs.Resets.{is_reset}
 use Rattle.nmt.specs.Nmt as Nmt
 use Rattle.counters.specs.Counters.{top}
 use Rattle.counters.specs.Marks.{is_crossing, count_of}
 use Rattle.entries.specs.Ring.{nth, rest}
 use Rattle.entries.specs.declared.status_response.ErrorEntry.{ErrorEntry}
-use Rattle.entries.specs.declared.status_response.FoundEntry.TheVariants.{None}
-use Rattle.node.specs.declared.load.CounterUpdate.{CounterUpdate}
-use Rattle.node.specs.declared.load.CounterUpdate.TheVariants.{Set, Keep}
 use Rattle.node.specs.declared.load.DictionaryUpdate.{DictionaryUpdate}
 use Rattle.watched.specs.Watched.{heard_at, Run, watching, changing}
 use Rattle.node.specs.Plain.{Plain, HistoryUpdate, Call, nmt_event, dll_event, error, cycle_complete, withdraw, heard, hand_out, load, arm, tick, range, margin, add, remove, Answer, taken, nmt_answer, hand_out_answer, range_answer, margin_answer, made, Step}
@@ -147,8 +146,8 @@ pub tried_by_lem :
 tried_by_lem P [] refuse accept d a = a
 tried_by_lem P (t ∷ ts) refuse accept d a = picked P t.holds (tried_by_lem P ts refuse accept d a) (d t.otherwise)
 
-nmt_shares : (p : Plain) (n : ℕ) (r : NmtEventRead) → read_event n ≡ r → Shares p (nmt_event n) (nmt_step p r)
-nmt_shares p n (event.Taken e) h = by (is_reset e)
+nmt_shares : (p : Plain) (n : ℕ) (r : Result NmtEvent Refusal) → read_event n ≡ r → Shares p (nmt_event n) (nmt_step p r)
+nmt_shares p n (Ok e) h = by (is_reset e)
   where
     o : Nmt.Outcome
     o = Nmt.processed p.nmt e
@@ -163,20 +162,20 @@ nmt_shares p n (event.Taken e) h = by (is_reset e)
     by false =
         quiet p (nmt_event n) _ (record { queue = refl; crossings = refl; crossed = refl; handed = refl; lost = λ l. refl })
         (λ w g. mode_event p.nmt e w g) (counting_none p.errors)
-nmt_shares p n (event.Refused r) h = declined p (nmt_event n) no_run (refusal_number r) (λ w. refl)
+nmt_shares p n (Err r) h = declined p (nmt_event n) no_run (refusal_number r) (λ w. refl)
 
-dll_shares : (p : Plain) (n : ℕ) (x : Bool) (r : DllCsEventRead) → Shares p (dll_event n x) (dll_step p x r)
-dll_shares p n x (cs-event.Taken e) =
-    untouched p (dll_event n x) (dll_step p x (cs-event.Taken e))
+dll_shares : (p : Plain) (n : ℕ) (x : Bool) (r : Result DllCsEvent Refusal) → Shares p (dll_event n x) (dll_step p x r)
+dll_shares p n x (Ok e) =
+    untouched p (dll_event n x) (dll_step p x (Ok e))
     (record { queue = refl; crossings = refl; crossed = refl; handed = refl; lost = λ l. refl }) refl (λ w. refl) refl refl
-dll_shares p n x (cs-event.Refused r) = declined p (dll_event n x) no_run (refusal_number r) (λ w. refl)
+dll_shares p n x (Err r) = declined p (dll_event n x) no_run (refusal_number r) (λ w. refl)
 
-error_shares : (p : Plain) (k a b : ℕ) (r : DllErrorRead) → Shares p (error k a b) (error_step p r)
-error_shares p k a b (error_read.Taken e) =
-    quiet p (error k a b) (error_step p (error_read.Taken e))
+error_shares : (p : Plain) (k a b : ℕ) (r : Result DllError Refusal) → Shares p (error k a b) (error_step p r)
+error_shares p k a b (Ok e) =
+    quiet p (error k a b) (error_step p (Ok e))
     (record { queue = refl; crossings = refl; crossed = refl; handed = refl; lost = λ l. refl }) (λ w g. g)
     (counting_handled p.errors e)
-error_shares p k a b (error_read.Refused r) = declined p (error k a b) no_run (refusal_number r) (λ w. refl)
+error_shares p k a b (Err r) = declined p (error k a b) no_run (refusal_number r) (λ w. refl)
 
 cycle_shares : (p : Plain) → Shares p cycle_complete (step p cycle_complete)
 cycle_shares p =
@@ -227,9 +226,9 @@ hand_out_shares p =
     }
 
 -- a counter that is not loaded stays
-counter_kept : (x : ℕ) (u : CounterUpdate) → is_set u ≡ false → updated_counter x u ≡ x
-counter_kept x (Set n) h = let z : ◌≡◌ {A = ℕ} 0 1 = cc in absurd (let f : ⊥ = omega arith in f)
-counter_kept x Keep h = refl
+counter_kept : (x : ℕ) (u : Option ℕ) → is_set u ≡ false → updated_counter x u ≡ x
+counter_kept x (Some n) h = let z : ◌≡◌ {A = ℕ} 0 1 = cc in absurd (let f : ⊥ = omega arith in f)
+counter_kept x None h = refl
 
 load_shares : (p : Plain) (v : DictionaryUpdate) (h : HistoryUpdate) → Shares p (load v h) (step p (load v h))
 unfolding updated

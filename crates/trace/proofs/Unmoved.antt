@@ -27,7 +27,9 @@ use Rattle.watched.specs.Watched.{Run}
 use Rattle.node.specs.Plain.{Plain, Call}
 use Rattle.node.specs.Run.{step, Said}
 use Rattle.node.specs.Refines.{plain, Rings, rings, joins, joins_all, history_update, loaded_places, loaded_memory}
-use Rattle.tick.specs.declared.tick.TickAnswer.{TickAnswer}
+use Rattle.std.specs.declared.result.Result.{Result}
+use Rattle.types.specs.declared.frame.error.types.DllErrors.{DllErrors}
+use Rattle.types.specs.declared.refusals.Refusal.{Refusal}
 use Rattle.tick.specs.TickIn.{TickedOn}
 use Rattle.trace.specs.Tally.{is_full, dropped_by}
 use Rattle.trace.specs.Claim.{Queued, still, kept, dropped, handed}
@@ -175,7 +177,7 @@ brings_crossed h h' q m q' m' cs (one e) long r = by (is_full (plain h q m)) ref
         }
 
 brings_ticked :
-    {ws q m ws' q' m' : List ℕ} {r r' : Run} {t : ℕ} {o : TickAnswer} →
+    {ws q m ws' q' m' : List ℕ} {r r' : Run} {t : ℕ} {o : Result DllErrors Refusal} →
     length m ≡ 5080 →
     TickedOn ws q m r t o ws' q' m' r' →
     Brings (head_of ws).history m (brought_by (plain (head_of ws) q m) (Call.tick t r)) (head_of ws').history m'

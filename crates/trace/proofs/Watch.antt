@@ -5,13 +5,11 @@ use mathlib.Core.Path.{◌≡◌, refl, sym, ap, subst, ◌∙◌}
 use mathlib.Core.List.{List}
 use native.Mathlib.Omega.{arith}
 use Rattle.types.specs.declared.frame.error.types.DllError.{DllError}
-use Rattle.head.specs.declared.state.Deadline.TheVariants.{At}
-use Rattle.head.specs.declared.state.ObjectValue.TheVariants.{Unsigned32}
+use Rattle.std.specs.declared.option.Option.{Option}
+use Rattle.std.specs.declared.option.Option.TheVariants.{Some, None}
 use Rattle.head.specs.declared.state.SocWatch.{SocWatch}
 use Rattle.head.specs.Words.{head_of}
 use Rattle.watched.specs.Watched.{Run, watching}
-use Rattle.node.specs.declared.load.ObjectUpdate.{ObjectUpdate}
-use Rattle.node.specs.declared.load.ObjectUpdate.TheVariants as object
 use Rattle.node.specs.declared.load.DictionaryUpdate.{DictionaryUpdate}
 use Rattle.node.specs.Plain.{Plain, HistoryUpdate, Call, Step, taken, tick_answer}
 use Rattle.node.specs.Steps.{no_run, declines, answers, with_soc, updated_object, updated, value_or, cycle_of, tolerance_of, arm_tests, armed}
@@ -72,14 +70,14 @@ arm_moves {ws = ws} {vs = vs} {vs' = vs'} {t = t} {d = d} f a g b c e =
 pub load_raises :
     {ws q m ns ws' q' m' ns' : List ℕ} {k k' d : ℕ} {v : DictionaryUpdate} {h : HistoryUpdate} {s : Said} →
     Made ws q m ns k (Call.load v h) s ws' q' m' ns' k' →
-    v.cycle_time ≡ object.Keep →
-    v.tolerance ≡ object.Set (Unsigned32 (tolerance_of (head_of ws).od + d)) →
+    v.cycle_time ≡ None →
+    v.tolerance ≡ Some (Some (tolerance_of (head_of ws).od + d)) →
     Raised d (head_of ws).od (head_of ws').od
 unfolding updated
 load_raises {ws = ws} {ws' = ws'} {v = v} r c e =
     record {
-      cycle = ap cycle_of o ∙ ap (λ (x : ObjectUpdate). value_or 0 (updated_object (head_of ws).od.cycle_time x)) c;
-      tolerance = ap tolerance_of o ∙ ap (λ (x : ObjectUpdate). value_or 100000 (updated_object (head_of ws).od.tolerance x)) e;
+      cycle = ap cycle_of o ∙ ap (λ (x : Option (Option ℕ)). value_or 0 (updated_object (head_of ws).od.cycle_time x)) c;
+      tolerance = ap tolerance_of o ∙ ap (λ (x : Option (Option ℕ)). value_or 100000 (updated_object (head_of ws).od.tolerance x)) e;
     }
   where
     o : (head_of ws').od ≡ updated (head_of ws).od v
@@ -94,8 +92,8 @@ pub load_moves :
     Made ws₁ q₁ m₁ ns₁ i (Call.arm t) r ws₂ q₂ m₂ ns₂ i₂ →
     r.answer ≡ taken →
     0 < cycle_of (head_of ws).od →
-    v.cycle_time ≡ object.Keep →
-    v.tolerance ≡ object.Set (Unsigned32 (tolerance_of (head_of ws).od + d)) →
+    v.cycle_time ≡ None →
+    v.tolerance ≡ Some (Some (tolerance_of (head_of ws).od + d)) →
     Moves d (head_of ws').soc (head_of ws₂).soc
 load_moves f a l g b c x y = arm_moves f a g b c (load_raises l x y)
 
@@ -105,6 +103,6 @@ pub soon_of_the_head :
     Sleeps p t d s →
     d ≤ t →
     (e : ℕ) →
-    s.next_tick_us ≡ At e →
+    s.next_tick_us ≡ Some e →
     e ≤ max t p.soc.last_soc_reception_time_us + (cycle_of p.od + tolerance_of p.od / 1000)
 soon_of_the_head s f e g = let z = s.soon f e g in omega arith

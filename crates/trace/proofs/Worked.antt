@@ -20,8 +20,7 @@ use Rattle.entries.specs.Entry.{crossing_entry}
 use Rattle.entries.specs.Ring.{listed, nth}
 use Rattle.entries.specs.History.{error_history, joined}
 use Rattle.entries.specs.declared.status_response.ErrorEntry.{ErrorEntry}
-use Rattle.head.specs.declared.state.Deadline.TheVariants.{At, Nothing}
-use Rattle.head.specs.declared.state.ObjectValue.TheVariants.{Unsigned32}
+use Rattle.std.specs.declared.option.Option.TheVariants.{Some, None}
 use Rattle.watched.specs.Watched.{well_formed, watched_node, Run, holding}
 use Rattle.node.specs.Plain.{Plain, Call, nmt_event, dll_event, withdraw, heard, hand_out, arm, tick, add, remove, Start}
 use Rattle.node.specs.Steps.{earliest, fresh, started, armed}
@@ -78,8 +77,8 @@ begun n c =
       od =
           record {
             error_register = 0;
-            cycle_time = Unsigned32 1000;
-            tolerance = Unsigned32 100000;
+            cycle_time = Some 1000;
+            tolerance = Some 100000;
             counter_1 = 0;
             counter_2 = 0;
             counter_3 = c;
@@ -159,9 +158,9 @@ abbrev arrives : List Call → List Call
 arrives cs = add 5 50 (holding []) ∷ heard 5 100 (partner 0) ∷ nmt_event 5 ∷ remove 6 (partner 0) ∷ cs
 
 partners :
-    ((step_all (fresh (begun 1 0)) (arrives [])).earliest ≡ At 151)
+    ((step_all (fresh (begun 1 0)) (arrives [])).earliest ≡ Some 151)
     × (run_after (begun 1 0) (arrives []) ≡ partner 100)
-    × ((step_all (fresh (begun 1 0)) (arrives (remove 5 (partner 100) ∷ []))).earliest ≡ Nothing)
+    × ((step_all (fresh (begun 1 0)) (arrives (remove 5 (partner 100) ∷ []))).earliest ≡ None)
     × (run_after (begun 1 0) (arrives (remove 5 (partner 100) ∷ [])) ≡ holding [])
 unfolding step_all last_left earliest fresh started read_event processed reset_by applied enter row_of is_reset states_entered listed well_formed
 partners = (refl, refl, refl, refl)

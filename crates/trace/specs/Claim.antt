@@ -6,7 +6,7 @@ use Rattle.counters.specs.Counters.{counter, top, threshold_for}
 use Rattle.counters.specs.Marks.{Mark, level, is_crossing, count_of, E, N, D}
 use Rattle.counters.specs.declared.counters.CounterKind.{CounterKind}
 use Rattle.entries.specs.declared.status_response.ErrorEntry.{ErrorEntry}
-use Rattle.entries.specs.declared.status_response.FoundEntry.TheVariants.{None}
+use Rattle.std.specs.declared.option.Option.TheVariants.{None}
 use Rattle.head.specs.Head.{Head}
 use Rattle.watched.specs.Watched.{watching}
 use Rattle.node.specs.Plain.{Plain, Call, hand_out, Start, hand_out_answer}

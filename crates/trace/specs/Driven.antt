@@ -3,7 +3,7 @@
 -- another one (`Learnt`), so what each contract ensures is written here, and held to it by `refl`: proofs/Contracts.antt of this crate does that for the calls on
 -- words, crates/lent/proofs/Links.antt for those over a run of records.
 -- Assumes nothing.
-use Rattle.std.specs.Prelude.{ℕ, ◌≡◌, Bool, List, [], ◌∷◌}
+use Rattle.std.specs.Prelude.{ℤ, ℕ, ◌≡◌, Bool, List, [], ◌∷◌}
 use Rattle.types.specs.Events.{read_event}
 use Rattle.types.specs.CsEvents.{read_cs_event}
 use Rattle.types.specs.Errors.{read_error}
@@ -11,8 +11,14 @@ use Rattle.types.specs.declared.nmt.flags.FeatureFlags.{FeatureFlags}
 use Rattle.counters.specs.declared.counters.Thresholds.{Thresholds}
 use Rattle.head.specs.declared.state.Dictionary.{Dictionary}
 use Rattle.head.specs.Words.{head_of}
-use Rattle.entries.specs.declared.status_response.FoundEntry.{FoundEntry}
-use Rattle.node.specs.declared.calls.CallAnswer.{CallAnswer}
+use Rattle.std.specs.declared.result.Result.{Result}
+use Rattle.std.specs.declared.option.Option.{Option}
+use Rattle.entries.specs.declared.status_response.ErrorEntry.{ErrorEntry}
+use Rattle.types.specs.declared.refusals.Refusal.{Refusal}
+use Rattle.node.specs.declared.calls.NmtTaken.{NmtTaken}
+use Rattle.types.specs.declared.frame.error.types.DllErrors.{DllErrors}
+use Rattle.node.specs.declared.calls.ErrorTaken.{ErrorTaken}
+use Rattle.node.specs.declared.range.SocVerdict.{SocVerdict}
 use Rattle.watched.specs.Watched.{Run, run}
 use Rattle.node.specs.Plain.{Call, Answer, Start, taken, cycle_answer, hand_out_answer}
 use Rattle.node.specs.Steps.{no_run}
@@ -23,12 +29,6 @@ use Rattle.node.specs.InPlace.{InPlace, Reading, OnRun, said, nmt_said, dll_said
 use Rattle.node.specs.Heard.{Heard, HeardOn}
 use Rattle.node.specs.Loaded.{LoadedIn}
 use Rattle.node.specs.declared.load.DictionaryUpdate.{DictionaryUpdate}
-use Rattle.node.specs.declared.calls.NmtEventAnswer.{NmtEventAnswer}
-use Rattle.node.specs.declared.calls.DllEventAnswer.{DllEventAnswer}
-use Rattle.node.specs.declared.calls.ErrorAnswer.{ErrorAnswer}
-use Rattle.node.specs.declared.range.RangeAnswer.{RangeAnswer}
-use Rattle.node.specs.declared.range.MarginAnswer.{MarginAnswer}
-use Rattle.tick.specs.declared.tick.TickAnswer.{TickAnswer}
 use Rattle.tick.specs.TickIn.{tick_said, TickedIn, TickedOn}
 use Rattle.partners.specs.Partners.{Added, Removed}
 use Rattle.start.specs.Started.{start_of, StartedIn, StartedOn}
@@ -44,15 +44,15 @@ says_only a = says a no_run
 -- what it said; the five after it. A call that is not lent a memory leaves it, and add and removal alone are lent the number to change.
 pub data Made : List ℕ → List ℕ → List ℕ → List ℕ → ℕ → Call → Said → List ℕ → List ℕ → List ℕ → List ℕ → ℕ → Type 0 where
   nmt_event :
-      {ws q m ns ws' : List ℕ} {k : ℕ} (n : ℕ) (o : NmtEventAnswer) →
+      {ws q m ns ws' : List ℕ} {k : ℕ} (n : ℕ) (o : Result NmtTaken Refusal) →
       InPlace ws (Call.nmt_event n) (nmt_said o) ws' (nmt_words ws (read_event n)) →
       Made ws q m ns k (Call.nmt_event n) (says_only (nmt_said o)) ws' q m ns k
   dll_event :
-      {ws q m ns ws' : List ℕ} {k : ℕ} (n : ℕ) (b : Bool) (o : DllEventAnswer) →
+      {ws q m ns ws' : List ℕ} {k : ℕ} (n : ℕ) (b : Bool) (o : Result DllErrors Refusal) →
       InPlace ws (Call.dll_event n b) (dll_said o) ws' (dll_words ws b (read_cs_event n)) →
       Made ws q m ns k (Call.dll_event n b) (says_only (dll_said o)) ws' q m ns k
   error :
-      {ws q m ns ws' : List ℕ} {k : ℕ} (n a b : ℕ) (o : ErrorAnswer) →
+      {ws q m ns ws' : List ℕ} {k : ℕ} (n a b : ℕ) (o : Result ErrorTaken Refusal) →
       InPlace ws (Call.error n a b) (error_said o) ws' (error_words ws (read_error n a b)) →
       Made ws q m ns k (Call.error n a b) (says_only (error_said o)) ws' q m ns k
   cycle_complete :
@@ -60,20 +60,20 @@ pub data Made : List ℕ → List ℕ → List ℕ → List ℕ → ℕ → Call
       InPlace ws Call.cycle_complete (cycle_answer o) ws' (cycle_words ws) →
       Made ws q m ns k Call.cycle_complete (says_only (cycle_answer o)) ws' q m ns k
   withdraw :
-      {ws q m ns ws' : List ℕ} {k : ℕ} (o : CallAnswer) →
+      {ws q m ns ws' : List ℕ} {k : ℕ} (o : Result (Unit {0}) Refusal) →
       InPlace ws Call.withdraw (said o) ws' (withdraw_words ws) →
       Made ws q m ns k Call.withdraw (says_only (said o)) ws' q m ns k
   heard :
-      {ws q m ns ws' ns' : List ℕ} {k : ℕ} (n t : ℕ) (o : CallAnswer) →
+      {ws q m ns ws' ns' : List ℕ} {k : ℕ} (n t : ℕ) (o : Result (Unit {0}) Refusal) →
       Heard ws ns k n t o ws' ns' →
       Made ws q m ns k (Call.heard n t (run (nodes_of ns) k)) (says (said o) (run (nodes_of ns') k)) ws' q m ns' k
   -- on a run of records: the words of nodes are not lent
   heard_run :
-      {ws q m ns ws' : List ℕ} {k : ℕ} (r : Run) (n t : ℕ) (o : CallAnswer) (r' : Run) →
+      {ws q m ns ws' : List ℕ} {k : ℕ} (r : Run) (n t : ℕ) (o : Result (Unit {0}) Refusal) (r' : Run) →
       HeardOn ws r n t o ws' r' →
       Made ws q m ns k (Call.heard n t r) (says (said o) r') ws' q m ns k
   hand_out :
-      {ws q m ns ws' : List ℕ} {k : ℕ} (o : FoundEntry) →
+      {ws q m ns ws' : List ℕ} {k : ℕ} (o : Option ErrorEntry) →
       ((h : List ℕ) → Refines (head_of ws) q h Call.hand_out (left (head_of ws') (hand_out_answer o)) q h no_run) × (ws' ≡ hand_out_words ws q) →
       Made ws q m ns k Call.hand_out (says_only (hand_out_answer o)) ws' q m ns k
   load :
@@ -81,52 +81,52 @@ pub data Made : List ℕ → List ℕ → List ℕ → List ℕ → ℕ → Call
       LoadedIn ws m u named es ws' m' →
       Made ws q m ns k (Call.load u (history_update named es)) (says_only taken) ws' q m' ns k
   arm :
-      {ws q m ns ws' : List ℕ} {k : ℕ} (t : ℕ) (o : CallAnswer) →
+      {ws q m ns ws' : List ℕ} {k : ℕ} (t : ℕ) (o : Result (Unit {0}) Refusal) →
       InPlace ws (Call.arm t) (said o) ws' (arm_words ws t) →
       Made ws q m ns k (Call.arm t) (says_only (said o)) ws' q m ns k
   tick :
-      {ws q m ns ws' q' m' ns' : List ℕ} {k : ℕ} (t : ℕ) (o : TickAnswer) →
+      {ws q m ns ws' q' m' ns' : List ℕ} {k : ℕ} (t : ℕ) (o : Result DllErrors Refusal) →
       TickedIn ws q m ns k t o ws' q' m' ns' →
       Made ws q m ns k (Call.tick t (run (nodes_of ns) k)) (says (tick_said o) (run (nodes_of ns') k)) ws' q' m' ns' k
   tick_run :
-      {ws q m ns ws' q' m' : List ℕ} {k : ℕ} (r : Run) (t : ℕ) (o : TickAnswer) (r' : Run) →
+      {ws q m ns ws' q' m' : List ℕ} {k : ℕ} (r : Run) (t : ℕ) (o : Result DllErrors Refusal) (r' : Run) →
       TickedOn ws q m r t o ws' q' m' r' →
       Made ws q m ns k (Call.tick t r) (says (tick_said o) r') ws' q' m' ns k
   -- these two are lent the head to read alone
   range :
-      {ws q m ns : List ℕ} {k : ℕ} (a b : ℕ) (o : RangeAnswer) →
+      {ws q m ns : List ℕ} {k : ℕ} (a b : ℕ) (o : Result SocVerdict Refusal) →
       Reading ws (Call.range a b) (range_said o) →
       Made ws q m ns k (Call.range a b) (says_only (range_said o)) ws q m ns k
   margin :
-      {ws q m ns : List ℕ} {k : ℕ} (t : ℕ) (o : MarginAnswer) →
+      {ws q m ns : List ℕ} {k : ℕ} (t : ℕ) (o : Result ℤ Refusal) →
       Reading ws (Call.margin t) (margin_said o) →
       Made ws q m ns k (Call.margin t) (says_only (margin_said o)) ws q m ns k
   -- partners come and go
   add :
-      {ws q m ns ws' ns' : List ℕ} {k k' : ℕ} (n t : ℕ) (o : CallAnswer) →
+      {ws q m ns ws' ns' : List ℕ} {k k' : ℕ} (n t : ℕ) (o : Result (Unit {0}) Refusal) →
       Added ws ns k n t o ws' ns' k' →
       Made ws q m ns k (Call.add n t (run (nodes_of ns) k)) (says (said o) (run (nodes_of ns') k')) ws' q m ns' k'
   add_run :
-      {ws q m ns ws' : List ℕ} {k : ℕ} (r : Run) (n t : ℕ) (o : CallAnswer) (r' : Run) →
+      {ws q m ns ws' : List ℕ} {k : ℕ} (r : Run) (n t : ℕ) (o : Result (Unit {0}) Refusal) (r' : Run) →
       OnRun ws (Call.add n t r) o ws' r' →
       Made ws q m ns k (Call.add n t r) (says (said o) r') ws' q m ns k
   remove :
-      {ws q m ns ws' ns' : List ℕ} {k k' : ℕ} (n : ℕ) (o : CallAnswer) →
+      {ws q m ns ws' ns' : List ℕ} {k k' : ℕ} (n : ℕ) (o : Result (Unit {0}) Refusal) →
       Removed ws ns k n o ws' ns' k' →
       Made ws q m ns k (Call.remove n (run (nodes_of ns) k)) (says (said o) (run (nodes_of ns') k')) ws' q m ns' k'
   remove_run :
-      {ws q m ns ws' : List ℕ} {k : ℕ} (r : Run) (n : ℕ) (o : CallAnswer) (r' : Run) →
+      {ws q m ns ws' : List ℕ} {k : ℕ} (r : Run) (n : ℕ) (o : Result (Unit {0}) Refusal) (r' : Run) →
       OnRun ws (Call.remove n r) o ws' r' →
       Made ws q m ns k (Call.remove n r) (says (said o) r') ws' q m ns k
 
 -- Of a start: what it was given, what it answered, the run as it left it, and the words that it left.
-pub data Began : Start → CallAnswer → Run → List ℕ → Type 0 where
+pub data Began : Start → Result (Unit {0}) Refusal → Run → List ℕ → Type 0 where
   start :
-      {ws ns ws' ns' : List ℕ} {k : ℕ} (n : ℕ) (f : FeatureFlags) (t c : ℕ) (od : Dictionary) (ts : Thresholds) (o : CallAnswer) →
+      {ws ns ws' ns' : List ℕ} {k : ℕ} (n : ℕ) (f : FeatureFlags) (t c : ℕ) (od : Dictionary) (ts : Thresholds) (o : Result (Unit {0}) Refusal) →
       StartedIn ws ns k n f t c od ts o ws' ns' →
       Began (start_of n f t c od ts (run (nodes_of ns) k)) o (run (nodes_of ns') k) ws'
   start_run :
-      {ws ws' : List ℕ} (r : Run) (n : ℕ) (f : FeatureFlags) (t c : ℕ) (od : Dictionary) (ts : Thresholds) (o : CallAnswer) (r' : Run) →
+      {ws ws' : List ℕ} (r : Run) (n : ℕ) (f : FeatureFlags) (t c : ℕ) (od : Dictionary) (ts : Thresholds) (o : Result (Unit {0}) Refusal) (r' : Run) →
       StartedOn ws r n f t c od ts o ws' r' →
       Began (start_of n f t c od ts r) o r' ws'
 

@@ -7,7 +7,7 @@ use Rattle.types.specs.declared.nmt.states.NmtState.{NmtState}
 use Rattle.types.specs.declared.nmt.states.NmtState.TheVariants.{NmtPreOperational2, NmtReadyToOperate}
 use Rattle.types.specs.declared.nmt.events.NmtEvent.{NmtEvent}
 use Rattle.types.specs.declared.nmt.events.NmtEvent.TheVariants.{CnConfigurationComplete}
-use Rattle.types.specs.declared.nmt.events.NmtEventRead.TheVariants.{Taken}
+use Rattle.std.specs.declared.result.Result.TheVariants.{Ok}
 use Rattle.nmt.specs.Resets.{is_reset}
 use Rattle.node.specs.Plain.{Plain, Call, nmt_event, dll_event, error, cycle_complete, withdraw, heard, hand_out, load, arm, tick, range, margin, add, remove, Answer, refused, taken, nmt_answer, dll_answer, error_answer, cycle_answer, hand_out_answer, tick_answer, range_answer, margin_answer, EventMade, made, no_event}
 use Rattle.node.specs.Run.{step, step_all}
@@ -26,7 +26,7 @@ pub record InVisit (test : NmtEvent → Type 0) (p : Plain) (c : Call) : Type 0 
   pub number : ℕ
   pub event : NmtEvent
   pub call : c ≡ nmt_event number
-  pub read : read_event number ≡ Taken event
+  pub read : read_event number ≡ Ok event
   pub passes : test event
   pub visit : nmt_state p ≡ NmtPreOperational2
 

@@ -9,32 +9,29 @@ use Rattle.types.specs.Events.{read_event}
 use Rattle.types.specs.CsEvents.{read_cs_event}
 use Rattle.types.specs.declared.nmt.states.NmtState.{NmtState}
 use Rattle.types.specs.declared.nmt.states.NmtState.TheVariants.{NmtGsOff}
-use Rattle.types.specs.declared.nmt.states.NmtStateRead.{NmtStateRead}
-use Rattle.types.specs.declared.nmt.states.NmtStateRead.TheVariants as state
+use Rattle.std.specs.declared.result.Result.{Result}
+use Rattle.std.specs.declared.result.Result.TheVariants.{Ok, Err}
+use Rattle.types.specs.declared.refusals.Refusal.{Refusal}
 use Rattle.types.specs.declared.nmt.events.NmtEvent.{NmtEvent}
 use Rattle.types.specs.declared.nmt.events.NmtEvent.TheVariants.{StartNode}
-use Rattle.types.specs.declared.nmt.events.NmtEventRead.{NmtEventRead}
-use Rattle.types.specs.declared.nmt.events.NmtEventRead.TheVariants as event
 use Rattle.types.specs.declared.frame.cs_state_machine.DllCsEvent.{DllCsEvent}
 use Rattle.types.specs.declared.frame.cs_state_machine.DllCsEvent.TheVariants.{Soc}
-use Rattle.types.specs.declared.frame.cs_state_machine.DllCsEventRead.{DllCsEventRead}
-use Rattle.types.specs.declared.frame.cs_state_machine.DllCsEventRead.TheVariants as cs-event
 use Rattle.nmt.specs.declared.cn_state_machine.CnNmtStateMachine.{CnNmtStateMachine}
 use Rattle.dll.specs.Dll.{cs_state_number}
 use Rattle.dll.specs.declared.cs_state_machine.DllCsState.{DllCsState}
 use Rattle.dll.specs.declared.cs_state_machine.DllCsState.TheVariants.{NonCyclic, WaitSoc, WaitPreq, WaitSoa}
 
-abbrev pub state_of : NmtStateRead → NmtState
-state_of (state.Taken s) = s
-state_of (state.Refused r) = NmtGsOff
+abbrev pub state_of : Result NmtState Refusal → NmtState
+state_of (Ok s) = s
+state_of (Err r) = NmtGsOff
 
-abbrev pub event_of : NmtEventRead → NmtEvent
-event_of (event.Taken e) = e
-event_of (event.Refused r) = StartNode
+abbrev pub event_of : Result NmtEvent Refusal → NmtEvent
+event_of (Ok e) = e
+event_of (Err r) = StartNode
 
-abbrev pub cs_event_of : DllCsEventRead → DllCsEvent
-cs_event_of (cs-event.Taken e) = e
-cs_event_of (cs-event.Refused r) = Soc
+abbrev pub cs_event_of : Result DllCsEvent Refusal → DllCsEvent
+cs_event_of (Ok e) = e
+cs_event_of (Err r) = Soc
 
 -- the state whose number stands at a place of the twelve
 abbrev pub state_at : ℕ → NmtState

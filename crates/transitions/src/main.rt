@@ -10,11 +10,11 @@ use forms::output::Output;
 use nmt::cn_state_machine::{CnNmtStateMachine, NmtAnswer};
 use nmt::state_machine::{EnteredStates, IndexRange, ResetSequence, RestoredRanges, is_reset};
 use std::io;
-use types::frame::cs_state_machine::{DllCsEvent, DllCsEventRead};
+use types::frame::cs_state_machine::DllCsEvent;
 use types::frame::error::types::{DllError, DllErrors};
-use types::nmt::events::{NmtEvent, NmtEventRead};
+use types::nmt::events::NmtEvent;
 use types::nmt::flags::FeatureFlags;
-use types::nmt::states::{NmtState, NmtStateRead};
+use types::nmt::states::NmtState;
 use types::types::NodeId;
 
 fn say(out: &mut Output, text: &[u8]) {
@@ -77,8 +77,8 @@ fn state_at(i: usize) -> NmtState
     ensures { result ≡ state_at i }
 {
     match NmtState::try_from(STATES[i % 12]) {
-        NmtStateRead::Taken(state) => state,
-        NmtStateRead::Refused(_) => NmtState::NmtGsOff,
+        Ok(state) => state,
+        Err(_) => NmtState::NmtGsOff,
     }
 }
 
@@ -86,8 +86,8 @@ fn event_at(i: usize) -> NmtEvent
     ensures { result ≡ event_at i }
 {
     match NmtEvent::try_from(i as u64) {
-        NmtEventRead::Taken(event) => event,
-        NmtEventRead::Refused(_) => NmtEvent::StartNode,
+        Ok(event) => event,
+        Err(_) => NmtEvent::StartNode,
     }
 }
 
@@ -95,8 +95,8 @@ fn cs_event_at(i: usize) -> DllCsEvent
     ensures { result ≡ cs_event_at i }
 {
     match DllCsEvent::try_from(i as u64) {
-        DllCsEventRead::Taken(event) => event,
-        DllCsEventRead::Refused(_) => DllCsEvent::Soc,
+        Ok(event) => event,
+        Err(_) => DllCsEvent::Soc,
     }
 }
 

@@ -11,8 +11,9 @@ use Rattle.types.specs.Refusals.{refusal_number}
 use Rattle.types.specs.Kinds.{kind_place, kind_code, error_kinds, kind_at, put_if, with_code, kind_number, refused_by, single, kind_behind, kind_said, Names}
 use Rattle.types.specs.declared.frame.error.kinds.DllErrorKind.{DllErrorKind}
 use Rattle.types.specs.declared.frame.error.kinds.DllErrorKind.TheVariants.{LossOfLink, BadPhysicalMode, MacBuffer, Crc, Collision, InvalidFormat, LossOfSoc, LossOfSoa, LossOfPreq, LossOfPres, LossOfStatusRes, CycleTimeExceeded, LatePres, SoCJitter, MsWaitSoc, MultipleMn, AddressConflict, MevAsndTimeout, UnexpectedEventInState, PdoMapVersion, PdoPayloadShort, HeartbeatTimeout}
-use Rattle.types.specs.declared.frame.error.kinds.DllErrorKindRead.{DllErrorKindRead}
-use Rattle.types.specs.declared.frame.error.kinds.DllErrorKindRead.TheVariants.{Taken, Refused}
+use Rattle.std.specs.declared.result.Result.{Result}
+use Rattle.std.specs.declared.result.Result.TheVariants.{Ok, Err}
+use Rattle.types.specs.declared.refusals.Refusal.{Refusal}
 use Rattle.types.proofs.Cases.{DllErrorKinds, everywhere, each_item}
 use Rattle.types.proofs.Reading.{Each}
 use Rattle.types.proofs.Refused.{number_fixes}
@@ -58,13 +59,13 @@ place_fixes : (j k : DllErrorKind) → kind_place j ≡ kind_place k → j ≡ k
 place_fixes j k e = sym (at_place j) ∙ ap kind_at e ∙ at_place k
 
 -- the promise fixes the answer
-pub said_fixes : (r s : DllErrorKindRead) → kind_said r ≡ kind_said s → r ≡ s
-said_fixes (Taken j) (Taken k) e = let p : kind_place j ≡ kind_place k = cc in ap Taken (place_fixes j k p)
-said_fixes (Taken j) (Refused r) e = let z : ◌≡◌ {A = ℕ} 0 1 = cc in absurd (omega arith)
-said_fixes (Refused r) (Taken k) e = let z : ◌≡◌ {A = ℕ} 0 1 = cc in absurd (omega arith)
-said_fixes (Refused r) (Refused s) e =
+pub said_fixes : (r s : Result DllErrorKind Refusal) → kind_said r ≡ kind_said s → r ≡ s
+said_fixes (Ok j) (Ok k) e = let p : kind_place j ≡ kind_place k = cc in ap Ok (place_fixes j k p)
+said_fixes (Ok j) (Err r) e = let z : ◌≡◌ {A = ℕ} 0 1 = cc in absurd (omega arith)
+said_fixes (Err r) (Ok k) e = let z : ◌≡◌ {A = ℕ} 0 1 = cc in absurd (omega arith)
+said_fixes (Err r) (Err s) e =
     let n : refusal_number r ≡ refusal_number s = cc in
-    ap Refused (number_fixes {r = r} {s = s} n)
+    ap Err (number_fixes {r = r} {s = s} n)
 
 taken_one : (ks : List DllErrorKind) (k : DllErrorKind) → single ks ≡ kind_number (kind_place k) → ks ≡ k ∷ []
 taken_one [] k e = let z : ◌≡◌ {A = ℕ} 0 1 = cc in absurd (omega arith)

@@ -5,8 +5,9 @@ use Rattle.types.specs.Pick.{read_by}
 use Rattle.types.specs.declared.refusals.Refusal.TheVariants.{UnknownNumber}
 use Rattle.types.specs.declared.frame.cs_state_machine.DllCsEvent.{DllCsEvent}
 use Rattle.types.specs.declared.frame.cs_state_machine.DllCsEvent.TheVariants.{Soc, Preq, Pres, Soa, Asnd, SocTimeout}
-use Rattle.types.specs.declared.frame.cs_state_machine.DllCsEventRead.{DllCsEventRead}
-use Rattle.types.specs.declared.frame.cs_state_machine.DllCsEventRead.TheVariants.{Taken, Refused}
+use Rattle.std.specs.declared.result.Result.{Result}
+use Rattle.std.specs.declared.result.Result.TheVariants.{Ok, Err}
+use Rattle.types.specs.declared.refusals.Refusal.{Refusal}
 
 -- an event's number is its place in the enum, from 0
 abbrev pub cs_event_number : DllCsEvent → ℕ
@@ -21,5 +22,5 @@ cs_event_number SocTimeout = 5
 abbrev pub cs_events : List DllCsEvent
 cs_events = Soc ∷ Preq ∷ Pres ∷ Soa ∷ Asnd ∷ SocTimeout ∷ []
 
-unfoldable pub read_cs_event : ℕ → DllCsEventRead
-read_cs_event n = read_by cs_event_number Taken (Refused UnknownNumber) cs_events n
+unfoldable pub read_cs_event : ℕ → Result DllCsEvent Refusal
+read_cs_event n = read_by cs_event_number Ok (Err UnknownNumber) cs_events n

@@ -5,16 +5,16 @@ use Rattle.types.specs.Pick.{read_by}
 use Rattle.types.specs.Types.{node, read_node}
 use Rattle.types.specs.Kinds.{kind_place, kind_code}
 use Rattle.types.specs.declared.refusals.Refusal.TheVariants.{UnknownNumber}
-use Rattle.types.specs.declared.types.NodeIdRead.{NodeIdRead}
-use Rattle.types.specs.declared.types.NodeIdRead.TheVariants as node-id
+use Rattle.std.specs.declared.result.Result.{Result}
+use Rattle.std.specs.declared.result.Result.TheVariants.{Ok, Err}
+use Rattle.types.specs.declared.types.NodeId.{NodeId}
+use Rattle.types.specs.declared.refusals.Refusal.{Refusal}
 use Rattle.types.specs.declared.frame.error.kinds.DllErrorKind.{DllErrorKind}
 use Rattle.types.specs.declared.frame.error.kinds.DllErrorKind.TheVariants as error_kind
 use Rattle.types.specs.declared.frame.error.types.DllError.{DllError}
 use Rattle.types.specs.declared.frame.error.types.DllError.TheVariants.{LossOfLink, BadPhysicalMode, MacBuffer, Crc, Collision, InvalidFormat, LossOfSoc, LossOfSoa, LossOfPreq, LossOfPres, LossOfStatusRes, CycleTimeExceeded, LatePres, SoCJitter, MsWaitSoc, MultipleMn, AddressConflict, MevAsndTimeout, UnexpectedEventInState, PdoMapVersion, PdoPayloadShort, HeartbeatTimeout}
 use Rattle.types.specs.declared.frame.error.types.DllErrors.{DllErrors}
 use Rattle.types.specs.declared.frame.error.types.DllErrors.TheVariants.{None, One, Two}
-use Rattle.types.specs.declared.frame.error.types.DllErrorRead.{DllErrorRead}
-use Rattle.types.specs.declared.frame.error.types.DllErrorRead.TheVariants.{Taken, Refused}
 
 -- an error's kind: the error without what it carries
 abbrev pub kind_of : DllError → DllErrorKind
@@ -55,43 +55,43 @@ reported (One a) = a ∷ []
 reported (Two a b) = a ∷ b ∷ []
 
 -- an error that carries a node is taken where its node is, and refused as its node is
-abbrev pub carried : NodeIdRead → DllError → DllErrorRead
-carried (node-id.Taken n) e = Taken e
-carried (node-id.Refused r) e = Refused r
+abbrev pub carried : Result NodeId Refusal → DllError → Result DllError Refusal
+carried (Ok n) e = Ok e
+carried (Err r) e = Err r
 
 pub record Kind : Type 0 where
   pub number : ℕ
-  pub answer : DllErrorRead
+  pub answer : Result DllError Refusal
 
-abbrev pub kind : ℕ → DllErrorRead → Kind
+abbrev pub kind : ℕ → Result DllError Refusal → Kind
 kind k r = record { number = k; answer = r }
 
 -- the answer for each kind: a is its node, or a and b are its state and event
 abbrev pub kinds : ℕ → ℕ → List Kind
 kinds a b =
-    kind 0 (Taken LossOfLink) ∷
-    kind 1 (Taken BadPhysicalMode) ∷
-    kind 2 (Taken MacBuffer) ∷
-    kind 3 (Taken Crc) ∷
-    kind 4 (Taken Collision) ∷
-    kind 5 (Taken InvalidFormat) ∷
-    kind 6 (Taken LossOfSoc) ∷
-    kind 7 (Taken LossOfSoa) ∷
-    kind 8 (Taken LossOfPreq) ∷
+    kind 0 (Ok LossOfLink) ∷
+    kind 1 (Ok BadPhysicalMode) ∷
+    kind 2 (Ok MacBuffer) ∷
+    kind 3 (Ok Crc) ∷
+    kind 4 (Ok Collision) ∷
+    kind 5 (Ok InvalidFormat) ∷
+    kind 6 (Ok LossOfSoc) ∷
+    kind 7 (Ok LossOfSoa) ∷
+    kind 8 (Ok LossOfPreq) ∷
     kind 9 (carried (read_node a) (LossOfPres (node a))) ∷
     kind 10 (carried (read_node a) (LossOfStatusRes (node a))) ∷
-    kind 11 (Taken CycleTimeExceeded) ∷
+    kind 11 (Ok CycleTimeExceeded) ∷
     kind 12 (carried (read_node a) (LatePres (node a))) ∷
-    kind 13 (Taken SoCJitter) ∷
-    kind 14 (Taken MsWaitSoc) ∷
-    kind 15 (Taken MultipleMn) ∷
-    kind 16 (Taken AddressConflict) ∷
-    kind 17 (Taken MevAsndTimeout) ∷
-    kind 18 (Taken (UnexpectedEventInState a b)) ∷
+    kind 13 (Ok SoCJitter) ∷
+    kind 14 (Ok MsWaitSoc) ∷
+    kind 15 (Ok MultipleMn) ∷
+    kind 16 (Ok AddressConflict) ∷
+    kind 17 (Ok MevAsndTimeout) ∷
+    kind 18 (Ok (UnexpectedEventInState a b)) ∷
     kind 19 (carried (read_node a) (PdoMapVersion (node a))) ∷
     kind 20 (carried (read_node a) (PdoPayloadShort (node a))) ∷
     kind 21 (carried (read_node a) (HeartbeatTimeout (node a))) ∷
     []
 
-unfoldable pub read_error : ℕ → ℕ → ℕ → DllErrorRead
-read_error k a b = read_by (λ (r : Kind). r.number) (λ (r : Kind). r.answer) (Refused UnknownNumber) (kinds a b) k
+unfoldable pub read_error : ℕ → ℕ → ℕ → Result DllError Refusal
+read_error k a b = read_by (λ (r : Kind). r.number) (λ (r : Kind). r.answer) (Err UnknownNumber) (kinds a b) k

@@ -5,16 +5,13 @@ use Rattle.types.specs.Pick.{read_by}
 use Rattle.types.specs.declared.refusals.Refusal.TheVariants.{UnknownNumber}
 use Rattle.types.specs.declared.nmt.events.NmtEvent.{NmtEvent}
 use Rattle.types.specs.declared.nmt.events.NmtEvent.TheVariants.{StartNode, StopNode, EnterPreOperational2, EnableReadyToOperate, Reset, SwReset, ResetNode, ResetCommunication, ResetConfiguration, EnterEplMode, Timeout, Error, SoAReceived, SocReceived, PowerlinkFrameReceived, CnConfigurationComplete, AllCnsIdentified, ConfigurationCompleteCnsReady, AllMandatoryCnsOperational}
-use Rattle.types.specs.declared.nmt.events.NmtEventRead.{NmtEventRead}
-use Rattle.types.specs.declared.nmt.events.NmtEventRead.TheVariants as event
+use Rattle.std.specs.declared.result.Result.{Result}
+use Rattle.std.specs.declared.result.Result.TheVariants.{Ok, Err}
+use Rattle.types.specs.declared.refusals.Refusal.{Refusal}
 use Rattle.types.specs.declared.nmt.events.NmtStateCommand.{NmtStateCommand}
 use Rattle.types.specs.declared.nmt.events.NmtStateCommand.TheVariants as command
-use Rattle.types.specs.declared.nmt.events.NmtStateCommandRead.{NmtStateCommandRead}
-use Rattle.types.specs.declared.nmt.events.NmtStateCommandRead.TheVariants as state-command
 use Rattle.types.specs.declared.nmt.events.NmtManagingCommand.{NmtManagingCommand}
 use Rattle.types.specs.declared.nmt.events.NmtManagingCommand.TheVariants.{NmtNetHostNameSet, NmtFlushArpEntry}
-use Rattle.types.specs.declared.nmt.events.NmtManagingCommandRead.{NmtManagingCommandRead}
-use Rattle.types.specs.declared.nmt.events.NmtManagingCommandRead.TheVariants as managing
 
 -- DS 301, Appendix 3.7: 0x20 to 0x3F
 abbrev pub command_number : NmtStateCommand → ℕ
@@ -40,8 +37,8 @@ commands =
     command.SwReset ∷
     []
 
-unfoldable pub read_command : ℕ → NmtStateCommandRead
-read_command n = read_by command_number state-command.Taken (state-command.Refused UnknownNumber) commands n
+unfoldable pub read_command : ℕ → Result NmtStateCommand Refusal
+read_command n = read_by command_number Ok (Err UnknownNumber) commands n
 
 -- DS 301, Appendix 3.7: 0x60 to 0x7F
 abbrev pub managing_number : NmtManagingCommand → ℕ
@@ -52,8 +49,8 @@ managing_number NmtFlushArpEntry = 0x63
 abbrev pub managings : List NmtManagingCommand
 managings = NmtNetHostNameSet ∷ NmtFlushArpEntry ∷ []
 
-unfoldable pub read_managing : ℕ → NmtManagingCommandRead
-read_managing n = read_by managing_number managing.Taken (managing.Refused UnknownNumber) managings n
+unfoldable pub read_managing : ℕ → Result NmtManagingCommand Refusal
+read_managing n = read_by managing_number Ok (Err UnknownNumber) managings n
 
 -- an event's number is its place in the enum, from 0
 abbrev pub event_number : NmtEvent → ℕ
@@ -104,8 +101,8 @@ events =
 abbrev pub same_event : NmtEvent → NmtEvent → Bool
 same_event d e = eqb (event_number d) (event_number e)
 
-unfoldable pub read_event : ℕ → NmtEventRead
-read_event n = read_by event_number event.Taken (event.Refused UnknownNumber) events n
+unfoldable pub read_event : ℕ → Result NmtEvent Refusal
+read_event n = read_by event_number Ok (Err UnknownNumber) events n
 
 -- the event that a received command is: the one of its name
 abbrev pub command_event : NmtStateCommand → NmtEvent

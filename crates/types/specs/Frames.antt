@@ -4,10 +4,9 @@ use Rattle.std.specs.Prelude.{ℕ, List, [], ◌∷◌}
 use Rattle.types.specs.Pick.{read_by}
 use Rattle.types.specs.declared.types.MessageType.{MessageType}
 use Rattle.types.specs.declared.types.MessageType.TheVariants.{SoC, PReq, PRes, SoA, ASnd}
-use Rattle.types.specs.declared.types.MessageTypeRead.{MessageTypeRead}
-use Rattle.types.specs.declared.types.MessageTypeRead.TheVariants.{Taken, Unknown}
-use Rattle.types.specs.declared.frame.FrameNmtEvent.{FrameNmtEvent}
-use Rattle.types.specs.declared.frame.FrameNmtEvent.TheVariants.{Some, None}
+use Rattle.std.specs.declared.option.Option.{Option}
+use Rattle.std.specs.declared.option.Option.TheVariants.{Some, None}
+use Rattle.types.specs.declared.nmt.events.NmtEvent.{NmtEvent}
 use Rattle.types.specs.declared.frame.cs_state_machine.DllCsEvent.{DllCsEvent}
 use Rattle.types.specs.declared.frame.cs_state_machine.DllCsEvent.TheVariants.{Soc, Preq, Pres, Soa, Asnd}
 use Rattle.types.specs.declared.nmt.events.NmtEvent.TheVariants.{SoAReceived, SocReceived}
@@ -23,8 +22,8 @@ message_number ASnd = 0x06
 abbrev pub messages : List MessageType
 messages = SoC ∷ PReq ∷ PRes ∷ SoA ∷ ASnd ∷ []
 
-unfoldable pub read_message : ℕ → MessageTypeRead
-read_message n = read_by message_number Taken Unknown messages n
+unfoldable pub read_message : ℕ → Option MessageType
+read_message n = read_by message_number Some None messages n
 
 -- the event of the cycle of a controlled node: the one of the frame's name
 abbrev pub frame_cs_event : MessageType → DllCsEvent
@@ -35,7 +34,7 @@ frame_cs_event SoA = Soa
 frame_cs_event ASnd = Asnd
 
 -- the NMT event: SoC and SoA have one, the other frames none
-abbrev pub frame_nmt_event : MessageType → FrameNmtEvent
+abbrev pub frame_nmt_event : MessageType → Option NmtEvent
 frame_nmt_event SoC = Some SocReceived
 frame_nmt_event PReq = None
 frame_nmt_event PRes = None

@@ -4,8 +4,9 @@ use Rattle.std.specs.Prelude.{ℕ, ◌≡◌, Bool, true, false, List, [], ◌�
 use Rattle.types.specs.Refusals.{refusal_number}
 use Rattle.types.specs.declared.frame.error.kinds.DllErrorKind.{DllErrorKind}
 use Rattle.types.specs.declared.frame.error.kinds.DllErrorKind.TheVariants.{LossOfLink, BadPhysicalMode, MacBuffer, Crc, Collision, InvalidFormat, LossOfSoc, LossOfSoa, LossOfPreq, LossOfPres, LossOfStatusRes, CycleTimeExceeded, LatePres, SoCJitter, MsWaitSoc, MultipleMn, AddressConflict, MevAsndTimeout, UnexpectedEventInState, PdoMapVersion, PdoPayloadShort, HeartbeatTimeout}
-use Rattle.types.specs.declared.frame.error.kinds.DllErrorKindRead.{DllErrorKindRead}
-use Rattle.types.specs.declared.frame.error.kinds.DllErrorKindRead.TheVariants.{Taken, Refused}
+use Rattle.std.specs.declared.result.Result.{Result}
+use Rattle.std.specs.declared.result.Result.TheVariants.{Ok, Err}
+use Rattle.types.specs.declared.refusals.Refusal.{Refusal}
 
 -- a kind's place in the enum, from 0
 abbrev pub kind_place : DllErrorKind → ℕ
@@ -111,9 +112,9 @@ unfoldable pub kind_behind : ℕ → CodeAnswer
 kind_behind c = single (with_code c error_kinds)
 
 -- the answer
-abbrev pub kind_said : DllErrorKindRead → CodeAnswer
-kind_said (Taken k) = kind_number (kind_place k)
-kind_said (Refused r) = refused_by (refusal_number r)
+abbrev pub kind_said : Result DllErrorKind Refusal → CodeAnswer
+kind_said (Ok k) = kind_number (kind_place k)
+kind_said (Err r) = refused_by (refusal_number r)
 
 -- k is the one kind that has the code c
 abbrev pub Names : ℕ → DllErrorKind → Type 0

@@ -5,8 +5,9 @@ use Rattle.types.specs.Pick.{read_by}
 use Rattle.types.specs.declared.refusals.Refusal.TheVariants.{UnknownNumber}
 use Rattle.types.specs.declared.nmt.states.NmtState.{NmtState}
 use Rattle.types.specs.declared.nmt.states.NmtState.TheVariants.{NmtGsOff, NmtGsInitialising, NmtGsResetApplication, NmtGsResetCommunication, NmtGsResetConfiguration, NmtNotActive, NmtPreOperational1, NmtPreOperational2, NmtReadyToOperate, NmtOperational, NmtCsStopped, NmtBasicEthernet}
-use Rattle.types.specs.declared.nmt.states.NmtStateRead.{NmtStateRead}
-use Rattle.types.specs.declared.nmt.states.NmtStateRead.TheVariants.{Taken, Refused}
+use Rattle.std.specs.declared.result.Result.{Result}
+use Rattle.std.specs.declared.result.Result.TheVariants.{Ok, Err}
+use Rattle.types.specs.declared.refusals.Refusal.{Refusal}
 
 abbrev pub state_number : NmtState → ℕ
 state_number NmtGsOff = 0x00
@@ -42,5 +43,5 @@ states =
 abbrev pub same_state : NmtState → NmtState → Bool
 same_state s t = eqb (state_number s) (state_number t)
 
-unfoldable pub read_state : ℕ → NmtStateRead
-read_state n = read_by state_number Taken (Refused UnknownNumber) states n
+unfoldable pub read_state : ℕ → Result NmtState Refusal
+read_state n = read_by state_number Ok (Err UnknownNumber) states n

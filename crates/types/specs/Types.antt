@@ -4,8 +4,9 @@ use Rattle.std.specs.Prelude.{ℕ, Bool, leb}
 use Rattle.types.specs.Pick.{pick, both, either}
 use Rattle.types.specs.declared.refusals.Refusal.TheVariants.{NodeNumber}
 use Rattle.types.specs.declared.types.NodeId.{NodeId}
-use Rattle.types.specs.declared.types.NodeIdRead.{NodeIdRead}
-use Rattle.types.specs.declared.types.NodeIdRead.TheVariants.{Taken, Refused}
+use Rattle.std.specs.declared.result.Result.{Result}
+use Rattle.std.specs.declared.result.Result.TheVariants.{Ok, Err}
+use Rattle.types.specs.declared.refusals.Refusal.{Refusal}
 
 abbrev pub node : ℕ → NodeId
 node n = record { 0 = n }
@@ -14,5 +15,5 @@ node n = record { 0 = n }
 abbrev pub is_node : ℕ → Bool
 is_node n = either (both (leb 1 n) (leb n 240)) (both (leb 253 n) (leb n 255))
 
-unfoldable pub read_node : ℕ → NodeIdRead
-read_node n = pick (is_node n) (Taken (node n)) (Refused NodeNumber)
+unfoldable pub read_node : ℕ → Result NodeId Refusal
+read_node n = pick (is_node n) (Ok (node n)) (Err NodeNumber)

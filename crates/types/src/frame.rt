@@ -9,12 +9,6 @@ use crate::frame::cs_state_machine::DllCsEvent;
 use crate::nmt::events::NmtEvent;
 use crate::types::MessageType;
 
-#[derive(Clone, Copy)]
-pub enum FrameNmtEvent {
-    Some(NmtEvent),
-    None,
-}
-
 impl MessageType {
     // The DLL event for a controlled node.
     pub fn dll_cn_event(self) -> DllCsEvent
@@ -30,14 +24,14 @@ impl MessageType {
     }
 
     // The NMT event, if any.
-    pub fn nmt_event(self) -> FrameNmtEvent
+    pub fn nmt_event(self) -> Option<NmtEvent>
         ensures { result ≡ frame_nmt_event self }
     {
         match self {
-            MessageType::SoC => FrameNmtEvent::Some(NmtEvent::SocReceived),
-            MessageType::SoA => FrameNmtEvent::Some(NmtEvent::SoAReceived),
+            MessageType::SoC => Some(NmtEvent::SocReceived),
+            MessageType::SoA => Some(NmtEvent::SoAReceived),
             // PReq and PRes are part of the cycle; the command that an ASnd may carry is in its payload.
-            _ => FrameNmtEvent::None,
+            _ => None,
         }
     }
 }

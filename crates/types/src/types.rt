@@ -17,22 +17,16 @@ pub const C_ADR_BROADCAST_NODE_ID: u8 = 255;
 #[derive(Clone, Copy)]
 pub struct NodeId(pub u8);
 
-#[derive(Clone, Copy)]
-pub enum NodeIdRead {
-    Taken(NodeId),
-    Refused(Refusal),
-}
-
 impl NodeId {
-    pub fn try_from(value: u8) -> NodeIdRead
+    pub fn try_from(value: u8) -> Result<NodeId, Refusal>
         ensures { result ≡ read_node value }
     {
         match value {
-            1..=C_ADR_MN_DEF_NODE_ID => NodeIdRead::Taken(NodeId(value)),
+            1..=C_ADR_MN_DEF_NODE_ID => Ok(NodeId(value)),
             C_ADR_DIAG_DEF_NODE_ID | C_ADR_RT1_DEF_NODE_ID | C_ADR_BROADCAST_NODE_ID => {
-                NodeIdRead::Taken(NodeId(value))
+                Ok(NodeId(value))
             }
-            _ => NodeIdRead::Refused(Refusal::NodeNumber),
+            _ => Err(Refusal::NodeNumber),
         }
     }
 }
@@ -45,13 +39,6 @@ pub enum MessageType {
     PRes,
     SoA,
     ASnd,
-}
-
-// A number that is no message type is answered without a refusal's number: no call of document 01 reads one.
-#[derive(Clone, Copy)]
-pub enum MessageTypeRead {
-    Taken(MessageType),
-    Unknown,
 }
 
 impl MessageType {
@@ -67,16 +54,16 @@ impl MessageType {
         }
     }
 
-    pub fn try_from(value: u8) -> MessageTypeRead
+    pub fn try_from(value: u8) -> Option<MessageType>
         ensures { result ≡ read_message value }
     {
         match value {
-            0x01 => MessageTypeRead::Taken(MessageType::SoC),
-            0x03 => MessageTypeRead::Taken(MessageType::PReq),
-            0x04 => MessageTypeRead::Taken(MessageType::PRes),
-            0x05 => MessageTypeRead::Taken(MessageType::SoA),
-            0x06 => MessageTypeRead::Taken(MessageType::ASnd),
-            _ => MessageTypeRead::Unknown,
+            0x01 => Some(MessageType::SoC),
+            0x03 => Some(MessageType::PReq),
+            0x04 => Some(MessageType::PRes),
+            0x05 => Some(MessageType::SoA),
+            0x06 => Some(MessageType::ASnd),
+            _ => None,
         }
     }
 }

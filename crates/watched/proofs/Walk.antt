@@ -14,9 +14,8 @@ use Rattle.types.specs.Pick.{pick, both}
 use Rattle.types.proofs.Tests.{both_first}
 use Rattle.watched.specs.declared.nodes.WatchedNode.{WatchedNode}
 use Rattle.watched.specs.declared.nodes.Climbed.{Climbed}
-use Rattle.watched.specs.declared.nodes.Tried.{Tried}
-use Rattle.watched.specs.declared.nodes.Tried.TheVariants as tried
-use Rattle.watched.specs.declared.nodes.Found.TheVariants as found
+use Rattle.std.specs.declared.option.Option.{Option}
+use Rattle.std.specs.declared.option.Option.TheVariants.{Some, None}
 use Rattle.watched.specs.Watched.{latest, in_time, all_of, timed, heard_now, heard_at, place_of, watched_of}
 use Rattle.watched.specs.Nodes.{node_at, nodes_of, climbing, numbered, never, sooner_by, soonest, found_of}
 use Rattle.watched.specs.Climb.{one_less, sum_of, three_before, climbed, over, climb_of, climbed_of, first_heard, heard_climbed}
@@ -272,12 +271,12 @@ module _ (ns : List ℕ) (k : ℕ) (below : k ≤ 32) (m p n : ℕ) (r : Climbed
         ∙ ap₂ (λ (r : Climbed) (q : List WatchedNode). soonest (min s (sum_of r.soonest 3)) (f q)) (sym e) rest
 
     -- all were walked
-    pub climbed_all : in_time r.times ≡ true → k ≤ r.place → (x : ℕ) → x ≡ min s (sum_of r.soonest 3) → tried.Formed x ≡ climbed_of n s ahead
+    pub climbed_all : in_time r.times ≡ true → k ≤ r.place → (x : ℕ) → x ≡ min s (sum_of r.soonest 3) → Some x ≡ climbed_of n s ahead
     climbed_all i end x g =
         let z : behind ≡ [] = at_end (nodes_of ns) k (places ns) below r.place end in
         let b : climbing n ahead ≡ true = climbs_all i (ap (climbing r.last) z) in
         let y : soonest s ahead ≡ x = soonest_by (λ l. l) (λ w ws _. refl) ∙ ap (soonest (min s (sum_of r.soonest 3))) z ∙ sym g in
-        sym (ap₂ (λ (b : Bool) (x : ℕ). pick b (tried.Formed x) tried.Unformed) b y)
+        sym (ap₂ (λ (b : Bool) (x : ℕ). pick b (Some x) None) b y)
 
   pub heard_by_walk :
       climbing r.last behind ≡ true → (t x : ℕ) → x ≡ soonest (sum_of r.soonest 3) (first_heard t behind) → soonest never (heard_at m t ahead) ≡ x
@@ -308,30 +307,30 @@ module _ (ns : List ℕ) (k : ℕ) (below : k ≤ 32) (p n : ℕ) (r : Climbed) 
           absurd (omega (arith, w, u))
       by false c = refl
 
-  pub climbed_not : (s : ℕ) → climbing n (left ns k below p) ≡ false → tried.Unformed ≡ climbed_of n s (left ns k below p)
-  climbed_not s h = sym (ap (λ (b : Bool). pick b (tried.Formed (soonest s (left ns k below p))) tried.Unformed) h)
+  pub climbed_not : (s : ℕ) → climbing n (left ns k below p) ≡ false → None ≡ climbed_of n s (left ns k below p)
+  climbed_not s h = sym (ap (λ (b : Bool). pick b (Some (soonest s (left ns k below p))) None) h)
 
-  pub climbed_short : (s : ℕ) → r.place < k → tried.Unformed ≡ climbed_of n s (left ns k below p)
+  pub climbed_short : (s : ℕ) → r.place < k → None ≡ climbed_of n s (left ns k below p)
   climbed_short s h = climbed_not s (climbs_none ns k below 0 p n r e (not_all h))
 
-  pub climbed_late : (s : ℕ) → in_time r.times ≡ false → tried.Unformed ≡ climbed_of n s (left ns k below p)
+  pub climbed_late : (s : ℕ) → in_time r.times ≡ false → None ≡ climbed_of n s (left ns k below p)
   climbed_late s h = climbed_not s (climbs_late ns k below 0 p n r e h)
 
 -- the first of the nodes from the place p on heard at t
 module _ (ns : List ℕ) (k : ℕ) (below : k ≤ 32) (p n s t : ℕ) where
-  pub first_none : k ≤ p → tried.Formed s ≡ heard_climbed n s t (left ns k below p)
+  pub first_none : k ≤ p → Some s ≡ heard_climbed n s t (left ns k below p)
   first_none h = sym (ap (heard_climbed n s t) (at_end (nodes_of ns) k (places ns) below p h))
 
   module _ (inside : p < k) (z : Bool) (f : z ≡ both (ltb n (get_or ns (3 * p) 0)) (timed (node_at ns p))) where
-    abbrev heard_if : Bool → Tried
+    abbrev heard_if : Bool → Option ℕ
     heard_if z =
         pick (both z (climbing (get_or ns (3 * p) 0) (left ns k below (p + 1))))
-        (tried.Formed (soonest (sooner_by s (heard_now t (node_at ns p))) (left ns k below (p + 1)))) tried.Unformed
+        (Some (soonest (sooner_by s (heard_now t (node_at ns p))) (left ns k below (p + 1)))) None
 
     first_turn : (y : Bool) → z ≡ y → heard_climbed n s t (left ns k below p) ≡ heard_if y
     first_turn y h = ap (heard_climbed n s t) (turn_at ns k below p inside) ∙ ap heard_if (sym f ∙ h)
 
-    pub first_stops : z ≡ false → tried.Unformed ≡ heard_climbed n s t (left ns k below p)
+    pub first_stops : z ≡ false → None ≡ heard_climbed n s t (left ns k below p)
     first_stops h = sym (first_turn false h)
 
     pub first_next :
@@ -346,25 +345,25 @@ module _ (ns : List ℕ) (k : ℕ) (below : k ≤ 32) (m t : ℕ) (r : Climbed) 
   abbrev all : List WatchedNode
   all = left ns k below 0
 
-  pub seek_late : in_time r.times ≡ false → found.Unformed ≡ found_of m t vs
+  pub seek_late : in_time r.times ≡ false → None ≡ found_of m t vs
   seek_late h = find_unformed ns k m t (formed_begins ns k below ∙ not_climbing 0 all (climbs_late ns k below m 0 0 r e h))
 
-  module _ (s : ℕ) (g : s ≡ sum_of r.soonest 3) (a : Tried) (f : a ≡ heard_climbed r.last s t (left ns k below r.place)) where
-    pub seek_unformed : a ≡ tried.Unformed → found.Unformed ≡ found_of m t vs
+  module _ (s : ℕ) (g : s ≡ sum_of r.soonest 3) (a : Option ℕ) (f : a ≡ heard_climbed r.last s t (left ns k below r.place)) where
+    pub seek_unformed : a ≡ None → None ≡ found_of m t vs
     seek_unformed h =
         find_unformed ns k m t (formed_begins ns k below ∙ not_climbing 0 all (climbs_none ns k below m 0 0 r e (tried_unformed _ _ a f h)))
 
-    module _ (i : in_time r.times ≡ true) (x : ℕ) (h : a ≡ tried.Formed x) where
+    module _ (i : in_time r.times ≡ true) (x : ℕ) (h : a ≡ Some x) where
       formed : (climbing r.last (left ns k below r.place) ≡ true) × (x ≡ soonest s (first_heard t (left ns k below r.place)))
       formed = tried_formed (climbing r.last (left ns k below r.place)) (soonest s (first_heard t (left ns k below r.place))) a f x h
 
       pub seek_climbs : climbing 0 all ≡ true
       seek_climbs = climbs_all ns k below m 0 0 r e i formed.0
 
-      pub seek_unnumbered : all_of numbered all ≡ false → found.Unformed ≡ found_of m t vs
+      pub seek_unnumbered : all_of numbered all ≡ false → None ≡ found_of m t vs
       seek_unnumbered n = find_unformed ns k m t (formed_begins ns k below ∙ not_numbered 0 all seek_climbs n)
 
-      pub seek_found : all_of numbered all ≡ true → found.Formed r.place x ≡ found_of m t vs
+      pub seek_found : all_of numbered all ≡ true → Some (r.place, x) ≡ found_of m t vs
       seek_found n =
           let w : vs ≡ all = whole (nodes_of ns) k (places ns) below in
           let p : place_of m all ≡ r.place = omega (arith, sought_at ns k below m 0 0 r e formed.0) in

@@ -18,10 +18,8 @@ use Rattle.types.proofs.Tests.{both_first, both_second}
 use Rattle.watched.specs.Watched.{latest, in_time, all_of, fits, well_formed, no_node, heard_now, heard_at, watched_node, watched_of, place_of, Run, run, well_lent}
 use Rattle.watched.proofs.Lists as Lists
 use Rattle.watched.proofs.Lists.{too_many, tests_begin, from_here, at_end}
-use Rattle.watched.specs.declared.nodes.Tried.{Tried}
-use Rattle.watched.specs.declared.nodes.Tried.TheVariants as tried
-use Rattle.watched.specs.declared.nodes.Found.{Found}
-use Rattle.watched.specs.declared.nodes.Found.TheVariants as found
+use Rattle.std.specs.declared.option.Option.{Option}
+use Rattle.std.specs.declared.option.Option.TheVariants.{Some, None}
 use Rattle.watched.specs.declared.nodes.Seen.{Seen}
 use Rattle.watched.specs.declared.nodes.Seen.TheVariants as seen
 use Rattle.watched.specs.Nodes.{node_at, nodes_of, rests, not_before, rising, never, sooner_by, rest_until, soonest, roused_from, nodes_tried, found_of, seen_of}
@@ -44,18 +42,18 @@ listed_set f g (suc n) (suc i) h same =
     (ap (λ (l : List _). f 0 ∷ l) (listed_set (λ (j : ℕ). f (suc j)) (λ (j : ℕ). g (suc j)) n i (omega arith) (λ j apart. same (suc j) (λ e. apart (omega arith)))))
 
 -- what an answer of climb_from or try_nodes says
-module _ (b : Bool) (s : ℕ) (a : Tried) (e : a ≡ pick b (tried.Formed s) tried.Unformed) where
-  pub tried_unformed : a ≡ tried.Unformed → b ≡ false
+module _ (b : Bool) (s : ℕ) (a : Option ℕ) (e : a ≡ pick b (Some s) None) where
+  pub tried_unformed : a ≡ None → b ≡ false
   tried_unformed h = by b (sym h ∙ e)
     where
-      by : (b : Bool) → tried.Unformed ≡ pick b (tried.Formed s) tried.Unformed → b ≡ false
+      by : (b : Bool) → None ≡ pick b (Some s) None → b ≡ false
       by true x = cc
       by false x = refl
 
-  pub tried_formed : (x : ℕ) → a ≡ tried.Formed x → (b ≡ true) × (x ≡ s)
+  pub tried_formed : (x : ℕ) → a ≡ Some x → (b ≡ true) × (x ≡ s)
   tried_formed y h = by b (sym h ∙ e)
     where
-      by : (b : Bool) → tried.Formed y ≡ pick b (tried.Formed s) tried.Unformed → (b ≡ true) × (y ≡ s)
+      by : (b : Bool) → Some y ≡ pick b (Some s) None → (b ≡ true) × (y ≡ s)
       by true x = (refl, cc)
       by false x = (cc, cc)
 
@@ -346,40 +344,40 @@ module _ (ws : List ℕ) where
             pub all_next : p (node_at ws i) ≡ true → b ≡ all_of p (left (i + 1))
             all_next = all_turn true
 
-    pub nodes_unformed : well_formed vs ≡ false → tried.Unformed ≡ nodes_tried vs
-    nodes_unformed h = sym (ap (λ (b : Bool). pick b (tried.Formed (soonest never vs)) tried.Unformed) h)
+    pub nodes_unformed : well_formed vs ≡ false → None ≡ nodes_tried vs
+    nodes_unformed h = sym (ap (λ (b : Bool). pick b (Some (soonest never vs)) None) h)
 
-    pub nodes_formed : well_formed vs ≡ true → (x : ℕ) → soonest never vs ≡ x → tried.Formed x ≡ nodes_tried vs
-    nodes_formed h x e = sym (ap₂ (λ (b : Bool) (x : ℕ). pick b (tried.Formed x) tried.Unformed) h e)
+    pub nodes_formed : well_formed vs ≡ true → (x : ℕ) → soonest never vs ≡ x → Some x ≡ nodes_tried vs
+    nodes_formed h x e = sym (ap₂ (λ (b : Bool) (x : ℕ). pick b (Some x) None) h e)
 
     -- what find answers, and what that says
     module _ (n t : ℕ) where
-      abbrev found_by : Bool → ℕ → ℕ → Found
-      found_by b p s = pick b (found.Formed p s) found.Unformed
+      abbrev found_by : Bool → ℕ → ℕ → Option (ℕ × ℕ)
+      found_by b p s = pick b (Some (p, s)) None
 
       abbrev soonest_heard : ℕ
       soonest_heard = soonest never (heard_at n t vs)
 
-      pub find_unformed : well_formed vs ≡ false → found.Unformed ≡ found_of n t vs
+      pub find_unformed : well_formed vs ≡ false → None ≡ found_of n t vs
       find_unformed h = sym (ap (λ (b : Bool). found_by b (place_of n vs) soonest_heard) h)
 
-      pub find_formed : well_formed vs ≡ true → (p s : ℕ) → place_of n vs ≡ p → soonest_heard ≡ s → found.Formed p s ≡ found_of n t vs
+      pub find_formed : well_formed vs ≡ true → (p s : ℕ) → place_of n vs ≡ p → soonest_heard ≡ s → Some (p, s) ≡ found_of n t vs
       find_formed h p s e f = sym (λ i. found_by (h i) (e i) (f i))
 
-      module _ (a : Found) (e : a ≡ found_of n t vs) where
-        pub found_unformed : a ≡ found.Unformed → well_formed vs ≡ false
+      module _ (a : Option (ℕ × ℕ)) (e : a ≡ found_of n t vs) where
+        pub found_unformed : a ≡ None → well_formed vs ≡ false
         found_unformed h = by (well_formed vs) (sym h ∙ e)
           where
-            by : (b : Bool) → found.Unformed ≡ found_by b (place_of n vs) soonest_heard → b ≡ false
+            by : (b : Bool) → None ≡ found_by b (place_of n vs) soonest_heard → b ≡ false
             by true x = cc
             by false x = refl
 
-        pub found_formed : (p s : ℕ) → a ≡ found.Formed p s → (well_formed vs ≡ true) × (p ≡ place_of n vs) × (s ≡ soonest_heard)
+        pub found_formed : (p s : ℕ) → a ≡ Some (p, s) → (well_formed vs ≡ true) × (p ≡ place_of n vs) × (s ≡ soonest_heard)
         found_formed p s h = by (well_formed vs) (sym h ∙ e)
           where
-            by : (b : Bool) → found.Formed p s ≡ found_by b (place_of n vs) soonest_heard → (b ≡ true) × (p ≡ place_of n vs) × (s ≡ soonest_heard)
-            by true x = (refl, cc, cc)
-            by false x = (cc, cc, cc)
+            by : (b : Bool) → Some (p, s) ≡ found_by b (place_of n vs) soonest_heard → (b ≡ true) × (p ≡ place_of n vs) × (s ≡ soonest_heard)
+            by true x = let q : (p, s) ≡ (place_of n vs, soonest_heard) = cc in (refl, ap (λ (z : ℕ × ℕ). z.0) q, ap (λ (z : ℕ × ℕ). z.1) q)
+            by false x = let z : ◌≡◌ {A = ℕ} 0 1 = cc in absurd (omega arith)
 
     -- what look answers
     module _ (t : ℕ) where

@@ -5,8 +5,8 @@ use Rattle.std.specs.Int.Bits.{bit_or}
 use Rattle.types.specs.Pick.{pick}
 use Rattle.watched.specs.declared.nodes.WatchedNode.{WatchedNode}
 use Rattle.watched.specs.declared.nodes.Climbed.{Climbed}
-use Rattle.watched.specs.declared.nodes.Tried.{Tried}
-use Rattle.watched.specs.declared.nodes.Tried.TheVariants as tried
+use Rattle.std.specs.declared.option.Option.{Option}
+use Rattle.std.specs.declared.option.Option.TheVariants.{Some, None}
 use Rattle.watched.specs.Watched.{heard_now}
 use Rattle.watched.specs.Nodes.{climbing, never, soonest}
 
@@ -33,12 +33,12 @@ climb_of m c [] = c
 climb_of m c (w ∷ ws) = pick (leb w.node c.last) c (pick (eqb w.node m) c (climb_of m (over c w) ws))
 
 -- whether the nodes behind one of number n climb, and the soonest moment, where s is the soonest so far; then the same with the first of them heard at t
-abbrev pub climbed_of : ℕ → ℕ → List WatchedNode → Tried
-climbed_of n s ws = pick (climbing n ws) (tried.Formed (soonest s ws)) tried.Unformed
+abbrev pub climbed_of : ℕ → ℕ → List WatchedNode → Option ℕ
+climbed_of n s ws = pick (climbing n ws) (Some (soonest s ws)) None
 
 abbrev pub first_heard : ℕ → List WatchedNode → List WatchedNode
 first_heard t [] = []
 first_heard t (w ∷ ws) = heard_now t w ∷ ws
 
-abbrev pub heard_climbed : ℕ → ℕ → ℕ → List WatchedNode → Tried
-heard_climbed n s t ws = pick (climbing n ws) (tried.Formed (soonest s (first_heard t ws))) tried.Unformed
+abbrev pub heard_climbed : ℕ → ℕ → ℕ → List WatchedNode → Option ℕ
+heard_climbed n s t ws = pick (climbing n ws) (Some (soonest s (first_heard t ws))) None

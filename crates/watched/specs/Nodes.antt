@@ -7,10 +7,8 @@ use Rattle.types.specs.Types.{is_node}
 use Rattle.entries.specs.Ring.{listed}
 use Rattle.watched.specs.declared.nodes.WatchedNode.{WatchedNode}
 use Rattle.watched.specs.Watched.{all_of, timed, fits, well_formed, watched_node, heard_at, place_of}
-use Rattle.watched.specs.declared.nodes.Tried.{Tried}
-use Rattle.watched.specs.declared.nodes.Tried.TheVariants as tried
-use Rattle.watched.specs.declared.nodes.Found.{Found}
-use Rattle.watched.specs.declared.nodes.Found.TheVariants as found
+use Rattle.std.specs.declared.option.Option.{Option}
+use Rattle.std.specs.declared.option.Option.TheVariants.{Some, None}
 use Rattle.watched.specs.declared.nodes.Seen.{Seen}
 use Rattle.watched.specs.declared.nodes.Seen.TheVariants as seen
 
@@ -65,11 +63,11 @@ abbrev pub roused_from : ℕ → ℕ → List WatchedNode → Seen
 roused_from n t ws = pick (rising n ws) (seen.Roused (all_of (not_before t) ws)) seen.Unformed
 
 -- of nodes that pass number 3: their soonest; where the node n is, and the soonest with it heard at t; and whether one does not rest at t
-abbrev pub nodes_tried : List WatchedNode → Tried
-nodes_tried vs = pick (well_formed vs) (tried.Formed (soonest never vs)) tried.Unformed
+abbrev pub nodes_tried : List WatchedNode → Option ℕ
+nodes_tried vs = pick (well_formed vs) (Some (soonest never vs)) None
 
-abbrev pub found_of : ℕ → ℕ → List WatchedNode → Found
-found_of n t vs = pick (well_formed vs) (found.Formed (place_of n vs) (soonest never (heard_at n t vs))) found.Unformed
+abbrev pub found_of : ℕ → ℕ → List WatchedNode → Option (ℕ × ℕ)
+found_of n t vs = pick (well_formed vs) (Some (place_of n vs, soonest never (heard_at n t vs))) None
 
 abbrev pub seen_of : ℕ → List WatchedNode → Seen
 seen_of t vs =

@@ -97,13 +97,6 @@ fn all_heard_by(before: bool, timeout: u64, last_heard: u64, time: u64) -> bool
 // No moment: the walks carry the earliest one as a number.
 pub const NEVER: u64 = 18446744073709551615;
 
-// Whether nodes are well formed, and the soonest moment at which one would be late.
-#[derive(Clone, Copy)]
-pub enum Tried {
-    Unformed,
-    Formed(u64),
-}
-
 // One less; of 0, NEVER.
 fn one_less(time: u64) -> u64
     ensures { result ≡ one_less time }
@@ -192,18 +185,18 @@ fn climb(nodes: &NodeWords, count: usize, place: usize, last: u64, sought: u64) 
 }
 
 // The nodes from a place on, where `last` is the number before them and `before` the soonest moment: whether they climb, and the soonest moment then.
-fn climb_from(nodes: &NodeWords, count: usize, place: usize, last: u64, before: u64) -> Tried
+fn climb_from(nodes: &NodeWords, count: usize, place: usize, last: u64, before: u64) -> Option<u64>
     requires { count ≤ 32 }
     ensures { result ≡ climbed_of last before (drop place (take count (nodes_of nodes.now))) }
 {
     let climbed = climb(nodes, count, place, last, 0);
     if climbed.place < count {
-        return Tried::Unformed;
+        return None;
     }
     if !in_time(climbed.times) {
-        return Tried::Unformed;
+        return None;
     }
-    Tried::Formed(smaller(before, sum(climbed.soonest, 3)))
+    Some(smaller(before, sum(climbed.soonest, 3)))
 }
 
 // Whether all nodes from a place on, which climb, have a node's number: from the last one back to one of at most 240, since those before it are below it.
@@ -226,36 +219,29 @@ fn have_numbers(nodes: &NodeWords, count: usize, place: usize, last: u64) -> boo
 }
 
 // Whether the first nodes are few enough, ascending, and each within its limits; and their soonest moment.
-pub fn try_nodes(nodes: &NodeWords, count: usize) -> Tried
+pub fn try_nodes(nodes: &NodeWords, count: usize) -> Option<u64>
     ensures { result ≡ nodes_tried (watched_of (nodes_of nodes.now) count) }
 {
     if 32 < count {
-        return Tried::Unformed;
+        return None;
     }
     let climbed = climb_from(nodes, count, 0, 0, NEVER);
-    let Tried::Formed(soonest) = climbed else {
-        return Tried::Unformed;
+    let Some(soonest) = climbed else {
+        return None;
     };
     if !have_numbers(nodes, count, 0, 0) {
-        return Tried::Unformed;
+        return None;
     }
-    Tried::Formed(soonest)
+    Some(soonest)
 }
 
 pub fn well_formed(nodes: &NodeWords, count: usize) -> bool
     ensures { result ≡ well_formed (watched_of (nodes_of nodes.now) count) }
 {
     match try_nodes(nodes, count) {
-        Tried::Formed(_) => true,
-        Tried::Unformed => false,
+        Some(_) => true,
+        None => false,
     }
-}
-
-// The place of a node among well formed ones, their number where it is not watched; and the soonest moment with that node heard at a time.
-#[derive(Clone, Copy)]
-pub enum Found {
-    Unformed,
-    Formed(usize, u64),
 }
 
 // The nodes from a place on, the first of which is heard at a time: whether they climb, and the soonest moment then.
@@ -266,43 +252,43 @@ fn hear_first(
     last: u64,
     before: u64,
     time: u64,
-) -> Tried
+) -> Option<u64>
     requires { count ≤ 32 }
     ensures { result ≡ heard_climbed last before time (drop place (take count (nodes_of nodes.now))) }
 {
     if count <= place {
-        return Tried::Formed(before);
+        return Some(before);
     }
     let at = 3 * place;
     let number = nodes[at];
     let timeout = nodes[at + 1];
     if !climbs(last, number, timeout, nodes[at + 2]) {
-        return Tried::Unformed;
+        return None;
     }
     let soonest = sooner(before, timeout, time);
     climb_from(nodes, count, place + 1, number, soonest)
 }
 
 // Up to the node that is sought in one walk, behind it in another.
-pub fn find(nodes: &NodeWords, count: usize, node: u64, time: u64) -> Found
+pub fn find(nodes: &NodeWords, count: usize, node: u64, time: u64) -> Option<(usize, u64)>
     ensures { result ≡ found_of node time (watched_of (nodes_of nodes.now) count) }
 {
     if 32 < count {
-        return Found::Unformed;
+        return None;
     }
     let front = climb(nodes, count, 0, 0, node);
     if !in_time(front.times) {
-        return Found::Unformed;
+        return None;
     }
     let place = front.place;
     let heard = hear_first(nodes, count, place, front.last, sum(front.soonest, 3), time);
-    let Tried::Formed(soonest) = heard else {
-        return Found::Unformed;
+    let Some(soonest) = heard else {
+        return None;
     };
     if !have_numbers(nodes, count, 0, 0) {
-        return Found::Unformed;
+        return None;
     }
-    Found::Formed(place, soonest)
+    Some((place, soonest))
 }
 
 // The sooner of the soonest moment so far and that of a node which was heard, not after now, and is not late; 0 where it does not rest so.

@@ -2,10 +2,10 @@
 -- Assumes nothing.
 use Rattle.answers.proofs.call.Goals as goal
 
-pub returns-in-Taken : goal.returns-in-Taken
-returns-in-Taken c =
-    rw c.in-Taken.is c.put_taken.ensures
+pub returns-in-Ok : goal.returns-in-Ok
+returns-in-Ok c =
+    rw c.in-Ok.is c.put_taken.ensures
 
-pub returns-in-Refused : goal.returns-in-Refused
-returns-in-Refused c =
-    rw c.in-Refused.is c.declined.ensures
+pub returns-in-Err : goal.returns-in-Err
+returns-in-Err c =
+    rw c.in-Err.is c.declined.ensures

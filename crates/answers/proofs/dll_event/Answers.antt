@@ -3,12 +3,12 @@
 use Rattle.answers.specs.Numbers.{numbers_of}
 use Rattle.answers.proofs.dll_event.Goals as goal
 
-pub returns-in-Taken : goal.returns-in-Taken
+pub returns-in-Ok : goal.returns-in-Ok
 unfolding numbers_of
-returns-in-Taken c =
-    rw c.in-Taken.is c.logged.ensures
+returns-in-Ok c =
+    rw c.in-Ok.is c.logged.ensures
 
-pub returns-in-Refused : goal.returns-in-Refused
+pub returns-in-Err : goal.returns-in-Err
 unfolding numbers_of
-returns-in-Refused c =
-    rw c.in-Refused.is c.declined.ensures
+returns-in-Err c =
+    rw c.in-Err.is c.declined.ensures

@@ -3,6 +3,6 @@
 use mathlib.Core.Path.{refl}
 use Rattle.answers.proofs.found.Goals as goal
 
-pub returns-in-Entry : goal.returns-in-Entry
-returns-in-Entry c =
-    rw c.in-Entry.is (refl, c.serialize.ensures)
+pub returns-in-Some : goal.returns-in-Some
+returns-in-Some c =
+    rw c.in-Some.is (refl, c.serialize.ensures)

@@ -5,10 +5,10 @@ use Rattle.types.specs.Kinds.{kind_said}
 use Rattle.calls.specs.Calls.{read_numbers, kind_numbers}
 use Rattle.calls.proofs.read_kind.Goals as goal
 
-pub returns-in-Taken : goal.returns-in-Taken
-returns-in-Taken c =
-    c.put_read.ensures ∙ ap read_numbers c.place.ensures ∙ ap kind_numbers (ap kind_said (sym c.in-Taken.is) ∙ c.from_error_code.ensures)
+pub returns-in-Ok : goal.returns-in-Ok
+returns-in-Ok c =
+    c.put_read.ensures ∙ ap read_numbers c.place.ensures ∙ ap kind_numbers (ap kind_said (sym c.in-Ok.is) ∙ c.from_error_code.ensures)
 
-pub returns-in-Refused : goal.returns-in-Refused
-returns-in-Refused c =
-    c.declined.ensures ∙ ap kind_numbers (ap kind_said (sym c.in-Refused.is) ∙ c.from_error_code.ensures)
+pub returns-in-Err : goal.returns-in-Err
+returns-in-Err c =
+    c.declined.ensures ∙ ap kind_numbers (ap kind_said (sym c.in-Err.is) ∙ c.from_error_code.ensures)

@@ -4,10 +4,10 @@ use mathlib.Core.Path.{sym, ap, ◌∙◌}
 use Rattle.chart.proofs.Reading.{event_of, event_read}
 use Rattle.chart.proofs.event_at.Goals as goal
 
-pub returns-in-Taken : goal.returns-in-Taken
-returns-in-Taken c =
-    ap event_of (sym c.in-Taken.is ∙ c.try_from.ensures) ∙ event_read _
+pub returns-in-Ok : goal.returns-in-Ok
+returns-in-Ok c =
+    ap event_of (sym c.in-Ok.is ∙ c.try_from.ensures) ∙ event_read _
 
-pub returns-in-Refused : goal.returns-in-Refused
-returns-in-Refused c =
-    ap event_of (sym c.in-Refused.is ∙ c.try_from.ensures) ∙ event_read _
+pub returns-in-Err : goal.returns-in-Err
+returns-in-Err c =
+    ap event_of (sym c.in-Err.is ∙ c.try_from.ensures) ∙ event_read _

@@ -3,10 +3,10 @@
 use Rattle.drive.proofs.Playing.{ran, declined}
 use Rattle.drive.proofs.drive.Goals as goal
 
-pub returns-in-Taken : goal.returns-in-Taken
-returns-in-Taken c =
-    ran c.args.script.now c.args.bytes.now c.start.ensures c.in-Taken.is c.play_all.ensures
+pub returns-in-Ok : goal.returns-in-Ok
+returns-in-Ok c =
+    ran c.args.script.now c.args.bytes.now c.start.ensures c.in-Ok.is c.play_all.ensures
 
-pub returns-in-Refused : goal.returns-in-Refused
-returns-in-Refused c =
-    declined c.args.script.now c.args.bytes.now c.start.ensures c.in-Refused.is
+pub returns-in-Err : goal.returns-in-Err
+returns-in-Err c =
+    declined c.args.script.now c.args.bytes.now c.start.ensures c.in-Err.is

@@ -16,18 +16,18 @@ returns-in_default c =
 pub overflow_add-count : goal.overflow_add-count
 overflow_add-count c =
     let a = c.args in
-    let x = found_formed a.nodes.now a.count.now a.node 0 c.find-found.result c.find-found.ensures _ _ c.in-Formed.is in
-    omega (arith, add_room a.head.now a.nodes.now a.count.now a.node x.0 _ x.1 _ refl a.timeout c.is_known-known.result c.is_known-known.ensures c.try_add-answer.result c.try_add-answer.ensures c.in-Taken.is)
+    let x = found_formed a.nodes.now a.count.now a.node 0 c.find-found.result c.find-found.ensures _ _ c.in-Some.is in
+    omega (arith, add_room a.head.now a.nodes.now a.count.now a.node x.0 _ x.1 _ refl a.timeout c.is_known-known.result c.is_known-known.ensures c.try_add-answer.result c.try_add-answer.ensures c.in-Ok.is)
 
-pub returns-in-Taken : goal.returns-in-Taken
-returns-in-Taken c =
+pub returns-in-Ok : goal.returns-in-Ok
+returns-in-Ok c =
     let a = c.args in
-    let x = found_formed a.nodes.now a.count.now a.node 0 c.find-found.result c.find-found.ensures _ _ c.in-Formed.is in
-    add_taken a.head.now a.nodes.now a.count.now a.node x.0 _ x.1 _ refl a.timeout c.is_known-known.result c.is_known-known.ensures c.try_add-answer.result c.try_add-answer.ensures c.in-Taken.is
+    let x = found_formed a.nodes.now a.count.now a.node 0 c.find-found.result c.find-found.ensures _ _ c.in-Some.is in
+    add_taken a.head.now a.nodes.now a.count.now a.node x.0 _ x.1 _ refl a.timeout c.is_known-known.result c.is_known-known.ensures c.try_add-answer.result c.try_add-answer.ensures c.in-Ok.is
     c.whole.ensures _ c.insert.ensures c.all_places.ensures _ x.2 c.moment.result c.moment.ensures _ c.set_earliest.ensures
 
-pub returns-in-Refused : goal.returns-in-Refused
-returns-in-Refused c =
+pub returns-in-Err : goal.returns-in-Err
+returns-in-Err c =
     let a = c.args in
-    let x = found_formed a.nodes.now a.count.now a.node 0 c.find-found.result c.find-found.ensures _ _ c.in-Formed.is in
-    add_declined a.head.now a.nodes.now a.count.now a.node x.0 _ x.1 _ refl a.timeout c.is_known-known.result c.is_known-known.ensures c.try_add-answer.result c.try_add-answer.ensures _ c.in-Refused.is
+    let x = found_formed a.nodes.now a.count.now a.node 0 c.find-found.result c.find-found.ensures _ _ c.in-Some.is in
+    add_declined a.head.now a.nodes.now a.count.now a.node x.0 _ x.1 _ refl a.timeout c.is_known-known.result c.is_known-known.ensures c.try_add-answer.result c.try_add-answer.ensures _ c.in-Err.is

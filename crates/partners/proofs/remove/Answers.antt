@@ -16,25 +16,25 @@ returns-in_default c =
 pub close-requires : goal.close-requires
 close-requires c =
     let a = c.args in
-    let x = found_formed a.nodes.now a.count.now a.node 0 c.find-found.result c.find-found.ensures _ _ c.in-Formed.is in
-    remove_inside a.head.now a.nodes.now a.count.now a.node x.0 _ x.1 _ refl c.try_remove-answer.result c.try_remove-answer.ensures c.in-Taken.is
+    let x = found_formed a.nodes.now a.count.now a.node 0 c.find-found.result c.find-found.ensures _ _ c.in-Some.is in
+    remove_inside a.head.now a.nodes.now a.count.now a.node x.0 _ x.1 _ refl c.try_remove-answer.result c.try_remove-answer.ensures c.in-Ok.is
 
 pub overflow_sub-count : goal.overflow_sub-count
 overflow_sub-count c =
     let a = c.args in
-    let x = found_formed a.nodes.now a.count.now a.node 0 c.find-found.result c.find-found.ensures _ _ c.in-Formed.is in
-    let r = remove_inside a.head.now a.nodes.now a.count.now a.node x.0 _ x.1 _ refl c.try_remove-answer.result c.try_remove-answer.ensures c.in-Taken.is in
+    let x = found_formed a.nodes.now a.count.now a.node 0 c.find-found.result c.find-found.ensures _ _ c.in-Some.is in
+    let r = remove_inside a.head.now a.nodes.now a.count.now a.node x.0 _ x.1 _ refl c.try_remove-answer.result c.try_remove-answer.ensures c.in-Ok.is in
     omega (arith, r.0)
 
-pub returns-in-Taken : goal.returns-in-Taken
-returns-in-Taken c =
+pub returns-in-Ok : goal.returns-in-Ok
+returns-in-Ok c =
     let a = c.args in
-    let x = found_formed a.nodes.now a.count.now a.node 0 c.find-found.result c.find-found.ensures _ _ c.in-Formed.is in
-    remove_taken a.head.now a.nodes.now a.count.now a.node x.0 _ x.1 _ refl c.try_remove-answer.result c.try_remove-answer.ensures c.in-Taken.is
+    let x = found_formed a.nodes.now a.count.now a.node 0 c.find-found.result c.find-found.ensures _ _ c.in-Some.is in
+    remove_taken a.head.now a.nodes.now a.count.now a.node x.0 _ x.1 _ refl c.try_remove-answer.result c.try_remove-answer.ensures c.in-Ok.is
     c.whole.ensures _ c.close.ensures c.all_places.ensures _ x.2 c.moment.result c.moment.ensures _ c.set_earliest.ensures
 
-pub returns-in-Refused : goal.returns-in-Refused
-returns-in-Refused c =
+pub returns-in-Err : goal.returns-in-Err
+returns-in-Err c =
     let a = c.args in
-    let x = found_formed a.nodes.now a.count.now a.node 0 c.find-found.result c.find-found.ensures _ _ c.in-Formed.is in
-    remove_declined a.head.now a.nodes.now a.count.now a.node x.0 _ x.1 _ refl c.try_remove-answer.result c.try_remove-answer.ensures _ c.in-Refused.is
+    let x = found_formed a.nodes.now a.count.now a.node 0 c.find-found.result c.find-found.ensures _ _ c.in-Some.is in
+    remove_declined a.head.now a.nodes.now a.count.now a.node x.0 _ x.1 _ refl c.try_remove-answer.result c.try_remove-answer.ensures _ c.in-Err.is

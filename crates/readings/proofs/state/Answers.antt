@@ -2,13 +2,13 @@
 -- Assumes nothing.
 use mathlib.Core.Path.{sym, ap, ◌∙◌}
 use Rattle.readings.specs.Shown.{of_state}
-use Rattle.readings.specs.declared.Reading.TheVariants.{Number}
+use Rattle.std.specs.declared.option.Option.TheVariants.{Some}
 use Rattle.readings.proofs.state.Goals as goal
 
-pub returns-in-Taken : goal.returns-in-Taken
-returns-in-Taken c =
-    ap Number c.as_u8.ensures ∙ ap of_state (sym c.in-Taken.is ∙ c.try_from.ensures)
+pub returns-in-Ok : goal.returns-in-Ok
+returns-in-Ok c =
+    ap Some c.as_u8.ensures ∙ ap of_state (sym c.in-Ok.is ∙ c.try_from.ensures)
 
-pub returns-in-Refused : goal.returns-in-Refused
-returns-in-Refused c =
-    ap of_state (sym c.in-Refused.is ∙ c.try_from.ensures)
+pub returns-in-Err : goal.returns-in-Err
+returns-in-Err c =
+    ap of_state (sym c.in-Err.is ∙ c.try_from.ensures)

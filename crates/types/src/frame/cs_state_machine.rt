@@ -14,12 +14,6 @@ pub enum DllCsEvent {
     SocTimeout,
 }
 
-#[derive(Clone, Copy)]
-pub enum DllCsEventRead {
-    Taken(DllCsEvent),
-    Refused(Refusal),
-}
-
 impl DllCsEvent {
     // The event's place in the enum, from 0.
     pub fn as_u8(self) -> u8
@@ -35,17 +29,17 @@ impl DllCsEvent {
         }
     }
 
-    pub fn try_from(value: u64) -> DllCsEventRead
+    pub fn try_from(value: u64) -> Result<DllCsEvent, Refusal>
         ensures { result ≡ read_cs_event value }
     {
         match value {
-            0 => DllCsEventRead::Taken(DllCsEvent::Soc),
-            1 => DllCsEventRead::Taken(DllCsEvent::Preq),
-            2 => DllCsEventRead::Taken(DllCsEvent::Pres),
-            3 => DllCsEventRead::Taken(DllCsEvent::Soa),
-            4 => DllCsEventRead::Taken(DllCsEvent::Asnd),
-            5 => DllCsEventRead::Taken(DllCsEvent::SocTimeout),
-            _ => DllCsEventRead::Refused(Refusal::UnknownNumber),
+            0 => Ok(DllCsEvent::Soc),
+            1 => Ok(DllCsEvent::Preq),
+            2 => Ok(DllCsEvent::Pres),
+            3 => Ok(DllCsEvent::Soa),
+            4 => Ok(DllCsEvent::Asnd),
+            5 => Ok(DllCsEvent::SocTimeout),
+            _ => Err(Refusal::UnknownNumber),
         }
     }
 }

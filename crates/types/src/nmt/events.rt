@@ -17,21 +17,9 @@ pub enum NmtStateCommand {
 }
 
 #[derive(Clone, Copy)]
-pub enum NmtStateCommandRead {
-    Taken(NmtStateCommand),
-    Refused(Refusal),
-}
-
-#[derive(Clone, Copy)]
 pub enum NmtManagingCommand {
     NmtNetHostNameSet,
     NmtFlushArpEntry,
-}
-
-#[derive(Clone, Copy)]
-pub enum NmtManagingCommandRead {
-    Taken(NmtManagingCommand),
-    Refused(Refusal),
 }
 
 #[derive(Clone, Copy)]
@@ -62,12 +50,6 @@ pub enum NmtEvent {
     AllMandatoryCnsOperational,
 }
 
-#[derive(Clone, Copy)]
-pub enum NmtEventRead {
-    Taken(NmtEvent),
-    Refused(Refusal),
-}
-
 impl NmtStateCommand {
     pub fn as_u8(self) -> u8
         ensures { result ≡ command_number self }
@@ -84,19 +66,19 @@ impl NmtStateCommand {
         }
     }
 
-    pub fn try_from(value: u64) -> NmtStateCommandRead
+    pub fn try_from(value: u64) -> Result<NmtStateCommand, Refusal>
         ensures { result ≡ read_command value }
     {
         match value {
-            0x21 => NmtStateCommandRead::Taken(NmtStateCommand::StartNode),
-            0x22 => NmtStateCommandRead::Taken(NmtStateCommand::StopNode),
-            0x23 => NmtStateCommandRead::Taken(NmtStateCommand::EnterPreOperational2),
-            0x24 => NmtStateCommandRead::Taken(NmtStateCommand::EnableReadyToOperate),
-            0x28 => NmtStateCommandRead::Taken(NmtStateCommand::ResetNode),
-            0x29 => NmtStateCommandRead::Taken(NmtStateCommand::ResetCommunication),
-            0x2A => NmtStateCommandRead::Taken(NmtStateCommand::ResetConfiguration),
-            0x2B => NmtStateCommandRead::Taken(NmtStateCommand::SwReset),
-            _ => NmtStateCommandRead::Refused(Refusal::UnknownNumber),
+            0x21 => Ok(NmtStateCommand::StartNode),
+            0x22 => Ok(NmtStateCommand::StopNode),
+            0x23 => Ok(NmtStateCommand::EnterPreOperational2),
+            0x24 => Ok(NmtStateCommand::EnableReadyToOperate),
+            0x28 => Ok(NmtStateCommand::ResetNode),
+            0x29 => Ok(NmtStateCommand::ResetCommunication),
+            0x2A => Ok(NmtStateCommand::ResetConfiguration),
+            0x2B => Ok(NmtStateCommand::SwReset),
+            _ => Err(Refusal::UnknownNumber),
         }
     }
 
@@ -127,13 +109,13 @@ impl NmtManagingCommand {
         }
     }
 
-    pub fn try_from(value: u64) -> NmtManagingCommandRead
+    pub fn try_from(value: u64) -> Result<NmtManagingCommand, Refusal>
         ensures { result ≡ read_managing value }
     {
         match value {
-            0x62 => NmtManagingCommandRead::Taken(NmtManagingCommand::NmtNetHostNameSet),
-            0x63 => NmtManagingCommandRead::Taken(NmtManagingCommand::NmtFlushArpEntry),
-            _ => NmtManagingCommandRead::Refused(Refusal::UnknownNumber),
+            0x62 => Ok(NmtManagingCommand::NmtNetHostNameSet),
+            0x63 => Ok(NmtManagingCommand::NmtFlushArpEntry),
+            _ => Err(Refusal::UnknownNumber),
         }
     }
 }
@@ -166,30 +148,30 @@ impl NmtEvent {
         }
     }
 
-    pub fn try_from(value: u64) -> NmtEventRead
+    pub fn try_from(value: u64) -> Result<NmtEvent, Refusal>
         ensures { result ≡ read_event value }
     {
         match value {
-            0 => NmtEventRead::Taken(NmtEvent::StartNode),
-            1 => NmtEventRead::Taken(NmtEvent::StopNode),
-            2 => NmtEventRead::Taken(NmtEvent::EnterPreOperational2),
-            3 => NmtEventRead::Taken(NmtEvent::EnableReadyToOperate),
-            4 => NmtEventRead::Taken(NmtEvent::Reset),
-            5 => NmtEventRead::Taken(NmtEvent::SwReset),
-            6 => NmtEventRead::Taken(NmtEvent::ResetNode),
-            7 => NmtEventRead::Taken(NmtEvent::ResetCommunication),
-            8 => NmtEventRead::Taken(NmtEvent::ResetConfiguration),
-            9 => NmtEventRead::Taken(NmtEvent::EnterEplMode),
-            10 => NmtEventRead::Taken(NmtEvent::Timeout),
-            11 => NmtEventRead::Taken(NmtEvent::Error),
-            12 => NmtEventRead::Taken(NmtEvent::SoAReceived),
-            13 => NmtEventRead::Taken(NmtEvent::SocReceived),
-            14 => NmtEventRead::Taken(NmtEvent::PowerlinkFrameReceived),
-            15 => NmtEventRead::Taken(NmtEvent::CnConfigurationComplete),
-            16 => NmtEventRead::Taken(NmtEvent::AllCnsIdentified),
-            17 => NmtEventRead::Taken(NmtEvent::ConfigurationCompleteCnsReady),
-            18 => NmtEventRead::Taken(NmtEvent::AllMandatoryCnsOperational),
-            _ => NmtEventRead::Refused(Refusal::UnknownNumber),
+            0 => Ok(NmtEvent::StartNode),
+            1 => Ok(NmtEvent::StopNode),
+            2 => Ok(NmtEvent::EnterPreOperational2),
+            3 => Ok(NmtEvent::EnableReadyToOperate),
+            4 => Ok(NmtEvent::Reset),
+            5 => Ok(NmtEvent::SwReset),
+            6 => Ok(NmtEvent::ResetNode),
+            7 => Ok(NmtEvent::ResetCommunication),
+            8 => Ok(NmtEvent::ResetConfiguration),
+            9 => Ok(NmtEvent::EnterEplMode),
+            10 => Ok(NmtEvent::Timeout),
+            11 => Ok(NmtEvent::Error),
+            12 => Ok(NmtEvent::SoAReceived),
+            13 => Ok(NmtEvent::SocReceived),
+            14 => Ok(NmtEvent::PowerlinkFrameReceived),
+            15 => Ok(NmtEvent::CnConfigurationComplete),
+            16 => Ok(NmtEvent::AllCnsIdentified),
+            17 => Ok(NmtEvent::ConfigurationCompleteCnsReady),
+            18 => Ok(NmtEvent::AllMandatoryCnsOperational),
+            _ => Err(Refusal::UnknownNumber),
         }
     }
 }

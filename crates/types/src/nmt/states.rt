@@ -20,12 +20,6 @@ pub enum NmtState {
     NmtBasicEthernet,
 }
 
-#[derive(Clone, Copy)]
-pub enum NmtStateRead {
-    Taken(NmtState),
-    Refused(Refusal),
-}
-
 impl NmtState {
     pub fn as_u8(self) -> u8
         ensures { result ≡ state_number self }
@@ -46,23 +40,23 @@ impl NmtState {
         }
     }
 
-    pub fn try_from(value: u64) -> NmtStateRead
+    pub fn try_from(value: u64) -> Result<NmtState, Refusal>
         ensures { result ≡ read_state value }
     {
         match value {
-            0x00 => NmtStateRead::Taken(NmtState::NmtGsOff),
-            0x19 => NmtStateRead::Taken(NmtState::NmtGsInitialising),
-            0x29 => NmtStateRead::Taken(NmtState::NmtGsResetApplication),
-            0x39 => NmtStateRead::Taken(NmtState::NmtGsResetCommunication),
-            0x79 => NmtStateRead::Taken(NmtState::NmtGsResetConfiguration),
-            0x1C => NmtStateRead::Taken(NmtState::NmtNotActive),
-            0x1D => NmtStateRead::Taken(NmtState::NmtPreOperational1),
-            0x5D => NmtStateRead::Taken(NmtState::NmtPreOperational2),
-            0x6D => NmtStateRead::Taken(NmtState::NmtReadyToOperate),
-            0xFD => NmtStateRead::Taken(NmtState::NmtOperational),
-            0x4D => NmtStateRead::Taken(NmtState::NmtCsStopped),
-            0x1E => NmtStateRead::Taken(NmtState::NmtBasicEthernet),
-            _ => NmtStateRead::Refused(Refusal::UnknownNumber),
+            0x00 => Ok(NmtState::NmtGsOff),
+            0x19 => Ok(NmtState::NmtGsInitialising),
+            0x29 => Ok(NmtState::NmtGsResetApplication),
+            0x39 => Ok(NmtState::NmtGsResetCommunication),
+            0x79 => Ok(NmtState::NmtGsResetConfiguration),
+            0x1C => Ok(NmtState::NmtNotActive),
+            0x1D => Ok(NmtState::NmtPreOperational1),
+            0x5D => Ok(NmtState::NmtPreOperational2),
+            0x6D => Ok(NmtState::NmtReadyToOperate),
+            0xFD => Ok(NmtState::NmtOperational),
+            0x4D => Ok(NmtState::NmtCsStopped),
+            0x1E => Ok(NmtState::NmtBasicEthernet),
+            _ => Err(Refusal::UnknownNumber),
         }
     }
 }

@@ -4,9 +4,9 @@ use mathlib.Core.Path.{refl}
 use Rattle.examples.proofs.Answering.{always, nothing_pair, nothing_lost}
 use Rattle.examples.proofs.answers.is_nothing.Goals as goal
 
-pub returns-in-Nothing : goal.returns-in-Nothing
-returns-in-Nothing c =
-    rw c.in-Nothing.is (always refl)
+pub returns-in-None : goal.returns-in-None
+returns-in-None c =
+    rw c.in-None.is (always refl)
 
 pub returns-in-Unexpected : goal.returns-in-Unexpected
 returns-in-Unexpected c =

@@ -3,9 +3,9 @@
 use Rattle.examples.proofs.Answering.{one_nothing, one_more_lem}
 use Rattle.examples.proofs.answers.is_only.Goals as goal
 
-pub returns-in-Nothing : goal.returns-in-Nothing
-returns-in-Nothing c =
-    rw c.in-Nothing.is (one_nothing c.args.error)
+pub returns-in-None : goal.returns-in-None
+returns-in-None c =
+    rw c.in-None.is (one_nothing c.args.error)
 
 pub returns-in-Unexpected : goal.returns-in-Unexpected
 returns-in-Unexpected c =

@@ -4,10 +4,10 @@ use mathlib.Core.Path.{refl}
 use Rattle.examples.proofs.Answering.{always, never_taken}
 use Rattle.examples.proofs.answers.is_taken.Goals as goal
 
-pub returns-in-Taken : goal.returns-in-Taken
-returns-in-Taken c =
-    rw c.in-Taken.is (always refl)
+pub returns-in-Ok : goal.returns-in-Ok
+returns-in-Ok c =
+    rw c.in-Ok.is (always refl)
 
-pub returns-in-Refused : goal.returns-in-Refused
-returns-in-Refused c =
-    rw c.in-Refused.is (never_taken _)
+pub returns-in-Err : goal.returns-in-Err
+returns-in-Err c =
+    rw c.in-Err.is (never_taken _)

@@ -3,9 +3,9 @@
 use Rattle.examples.proofs.Holding.{exact_found, not_found}
 use Rattle.examples.proofs.memory.is_found.Goals as goal
 
-pub returns-in-Entry : goal.returns-in-Entry
-returns-in-Entry c =
-    rw c.in-Entry.is (exact_found _ _ c.is_entry.ensures)
+pub returns-in-Some : goal.returns-in-Some
+returns-in-Some c =
+    rw c.in-Some.is (exact_found _ _ c.is_entry.ensures)
 
 pub returns-in-None : goal.returns-in-None
 returns-in-None c =

@@ -5,9 +5,9 @@ use Rattle.examples.proofs.Answering.{always}
 use Rattle.examples.proofs.Holding.{not_none}
 use Rattle.examples.proofs.memory.is_none.Goals as goal
 
-pub returns-in-Entry : goal.returns-in-Entry
-returns-in-Entry c =
-    rw c.in-Entry.is (not_none _)
+pub returns-in-Some : goal.returns-in-Some
+returns-in-Some c =
+    rw c.in-Some.is (not_none _)
 
 pub returns-in-None : goal.returns-in-None
 returns-in-None c =

@@ -2,6 +2,6 @@
 -- Assumes nothing.
 use Rattle.examples.proofs.same.same_deadline.Goals as goal
 
-pub returns-in-At-y : goal.returns-in-At-y
-returns-in-At-y c =
-    rw (c.in-At-y.is, c.in-At.is)
+pub returns-in-Some-y : goal.returns-in-Some-y
+returns-in-Some-y c =
+    rw (c.in-Some-y.is, c.in-Some.is)

@@ -2,6 +2,6 @@
 -- Assumes nothing.
 use Rattle.examples.proofs.same.same_object.Goals as goal
 
-pub returns-in-Unsigned32-y : goal.returns-in-Unsigned32-y
-returns-in-Unsigned32-y c =
-    rw (c.in-Unsigned32-y.is, c.in-Unsigned32.is)
+pub returns-in-Some-y : goal.returns-in-Some-y
+returns-in-Some-y c =
+    rw (c.in-Some-y.is, c.in-Some.is)

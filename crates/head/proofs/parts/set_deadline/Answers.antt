@@ -2,10 +2,10 @@
 -- Assumes nothing.
 use Rattle.head.proofs.parts.set_deadline.Goals as goal
 
-pub returns-in-At : goal.returns-in-At
-returns-in-At c =
-    rw (c.low.ensures, c.high.ensures, c.in-At.is)
+pub returns-in-Some : goal.returns-in-Some
+returns-in-Some c =
+    rw (c.low.ensures, c.high.ensures, c.in-Some.is)
 
-pub returns-in-Nothing : goal.returns-in-Nothing
-returns-in-Nothing c =
-    rw c.in-Nothing.is
+pub returns-in-None : goal.returns-in-None
+returns-in-None c =
+    rw c.in-None.is

@@ -2,10 +2,10 @@
 -- Assumes nothing.
 use Rattle.head.proofs.parts.set_earliest.Goals as goal
 
-pub returns-in-At : goal.returns-in-At
-returns-in-At c =
-    rw (c.low.ensures, c.high.ensures, c.in-At.is)
+pub returns-in-Some : goal.returns-in-Some
+returns-in-Some c =
+    rw (c.low.ensures, c.high.ensures, c.in-Some.is)
 
 pub returns : goal.returns
 returns c =
-    rw c.in-Nothing.is
+    rw c.in-None.is

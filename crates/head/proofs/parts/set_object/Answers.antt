@@ -2,10 +2,10 @@
 -- Assumes nothing.
 use Rattle.head.proofs.parts.set_object.Goals as goal
 
-pub returns-in-Unsigned32 : goal.returns-in-Unsigned32
-returns-in-Unsigned32 c =
-    rw (c.object_place-place.ensures.0, c.in-Unsigned32.is)
+pub returns-in-Some : goal.returns-in-Some
+returns-in-Some c =
+    rw (c.object_place-place.ensures.0, c.in-Some.is)
 
-pub returns-in-Missing : goal.returns-in-Missing
-returns-in-Missing c =
-    rw (c.object_place-place.ensures.0, c.in-Missing.is)
+pub returns-in-None : goal.returns-in-None
+returns-in-None c =
+    rw (c.object_place-place.ensures.0, c.in-None.is)

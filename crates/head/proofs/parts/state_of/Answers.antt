@@ -4,10 +4,10 @@ use Rattle.std.proofs.Common.{sym, ap, ◌∙◌}
 use Rattle.head.specs.Words.{state_read}
 use Rattle.head.proofs.parts.state_of.Goals as goal
 
-pub returns-in-Taken : goal.returns-in-Taken
-returns-in-Taken c =
-    ap state_read (sym c.in-Taken.is ∙ c.try_from.ensures)
+pub returns-in-Ok : goal.returns-in-Ok
+returns-in-Ok c =
+    ap state_read (sym c.in-Ok.is ∙ c.try_from.ensures)
 
-pub returns-in-Refused : goal.returns-in-Refused
-returns-in-Refused c =
-    ap state_read (sym c.in-Refused.is ∙ c.try_from.ensures)
+pub returns-in-Err : goal.returns-in-Err
+returns-in-Err c =
+    ap state_read (sym c.in-Err.is ∙ c.try_from.ensures)

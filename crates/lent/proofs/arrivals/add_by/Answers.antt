@@ -3,14 +3,14 @@
 use Rattle.lent.proofs.ArrivalLaws.{add_declined, add_taken}
 use Rattle.lent.proofs.arrivals.add_by.Goals as goal
 
-pub returns-in-Taken : goal.returns-in-Taken
-returns-in-Taken c =
+pub returns-in-Ok : goal.returns-in-Ok
+returns-in-Ok c =
     let a = c.args in
     add_taken a.head.now c.whole.ensures a.number.now a.node a.seen c.passes.result c.passes.ensures c.try_add-answer.result _ c.keep_moment.ensures
-    a.timeout c.is_known.result c.is_known.ensures c.try_add-answer.ensures c.in-Taken.is
+    a.timeout c.is_known.result c.is_known.ensures c.try_add-answer.ensures c.in-Ok.is
 
-pub returns-in-Refused : goal.returns-in-Refused
-returns-in-Refused c =
+pub returns-in-Err : goal.returns-in-Err
+returns-in-Err c =
     let a = c.args in
     add_declined a.head.now c.whole.ensures a.number.now a.node a.seen c.passes.result c.passes.ensures c.try_add-answer.result _ c.keep_moment.ensures
-    a.timeout c.is_known.result c.is_known.ensures c.try_add-answer.ensures _ c.in-Refused.is c.no_node.result
+    a.timeout c.is_known.result c.is_known.ensures c.try_add-answer.ensures _ c.in-Err.is c.no_node.result

@@ -4,13 +4,13 @@ use mathlib.Core.Path.{sym, ◌∙◌}
 use Rattle.node.proofs.Refining.{error_no, error_yes}
 use Rattle.node.proofs.calls.handle_error.Goals as goal
 
-pub returns-in-Taken : goal.returns-in-Taken
-returns-in-Taken c =
+pub returns-in-Ok : goal.returns-in-Ok
+returns-in-Ok c =
     let a = c.args in
     error_yes a.head.now c.whole.ensures _ a.kind a.a a.b _ c.handled.result
-    (sym c.try_from.ensures ∙ c.in-Taken.is) c.handled.ensures.0 c.handled.ensures.1
+    (sym c.try_from.ensures ∙ c.in-Ok.is) c.handled.ensures.0 c.handled.ensures.1
 
-pub returns-in-Refused : goal.returns-in-Refused
-returns-in-Refused c =
+pub returns-in-Err : goal.returns-in-Err
+returns-in-Err c =
     let a = c.args in
-    error_no a.head.now a.kind a.a a.b _ (sym c.try_from.ensures ∙ c.in-Refused.is)
+    error_no a.head.now a.kind a.a a.b _ (sym c.try_from.ensures ∙ c.in-Err.is)

@@ -4,12 +4,12 @@ use mathlib.Core.Path.{sym, ◌∙◌}
 use Rattle.node.proofs.Refining.{nmt_no, nmt_yes}
 use Rattle.node.proofs.calls.nmt_event.Goals as goal
 
-pub returns-in-Taken : goal.returns-in-Taken
-returns-in-Taken c =
+pub returns-in-Ok : goal.returns-in-Ok
+returns-in-Ok c =
     let a = c.args in
-    nmt_yes a.head.now c.whole.ensures _ a.event _ c.process_event-taken.result (sym c.try_from.ensures ∙ c.in-Taken.is) c.process_event-taken.ensures
+    nmt_yes a.head.now c.whole.ensures _ a.event _ c.process_event-taken.result (sym c.try_from.ensures ∙ c.in-Ok.is) c.process_event-taken.ensures
 
-pub returns-in-Refused : goal.returns-in-Refused
-returns-in-Refused c =
+pub returns-in-Err : goal.returns-in-Err
+returns-in-Err c =
     let a = c.args in
-    nmt_no a.head.now a.event _ (sym c.try_from.ensures ∙ c.in-Refused.is)
+    nmt_no a.head.now a.event _ (sym c.try_from.ensures ∙ c.in-Err.is)

@@ -15,19 +15,19 @@ returns-in_default c =
 pub set_heard-requires : goal.set_heard-requires
 set_heard-requires c =
     let a = c.args in
-    let x = found_formed a.nodes.now a.count a.node a.time c.find-found.result c.find-found.ensures _ _ c.in-Formed.is in
-    omega (arith, few a.nodes.now a.count x.0, inside a.head.now a.nodes.now a.count a.node a.time x.0 _ x.1 _ refl c.try_heard-answer.result c.try_heard-answer.ensures c.in-Taken.is)
+    let x = found_formed a.nodes.now a.count a.node a.time c.find-found.result c.find-found.ensures _ _ c.in-Some.is in
+    omega (arith, few a.nodes.now a.count x.0, inside a.head.now a.nodes.now a.count a.node a.time x.0 _ x.1 _ refl c.try_heard-answer.result c.try_heard-answer.ensures c.in-Ok.is)
 
-pub returns-in-Taken : goal.returns-in-Taken
-returns-in-Taken c =
+pub returns-in-Ok : goal.returns-in-Ok
+returns-in-Ok c =
     let a = c.args in
-    let x = found_formed a.nodes.now a.count a.node a.time c.find-found.result c.find-found.ensures _ _ c.in-Formed.is in
-    there a.head.now a.nodes.now a.count a.node a.time x.0 _ x.1 _ refl c.try_heard-answer.result c.try_heard-answer.ensures c.in-Taken.is c.whole.ensures c.all_places.ensures _ c.set_heard.ensures _
+    let x = found_formed a.nodes.now a.count a.node a.time c.find-found.result c.find-found.ensures _ _ c.in-Some.is in
+    there a.head.now a.nodes.now a.count a.node a.time x.0 _ x.1 _ refl c.try_heard-answer.result c.try_heard-answer.ensures c.in-Ok.is c.whole.ensures c.all_places.ensures _ c.set_heard.ensures _
     x.2
     c.moment.result c.moment.ensures _ c.set_earliest.ensures
 
-pub returns-in-Refused : goal.returns-in-Refused
-returns-in-Refused c =
+pub returns-in-Err : goal.returns-in-Err
+returns-in-Err c =
     let a = c.args in
-    let x = found_formed a.nodes.now a.count a.node a.time c.find-found.result c.find-found.ensures _ _ c.in-Formed.is in
-    declined a.head.now a.nodes.now a.count a.node a.time x.0 _ x.1 _ refl c.try_heard-answer.result c.try_heard-answer.ensures _ c.in-Refused.is
+    let x = found_formed a.nodes.now a.count a.node a.time c.find-found.result c.find-found.ensures _ _ c.in-Some.is in
+    declined a.head.now a.nodes.now a.count a.node a.time x.0 _ x.1 _ refl c.try_heard-answer.result c.try_heard-answer.ensures _ c.in-Err.is

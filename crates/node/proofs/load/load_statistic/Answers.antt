@@ -2,10 +2,10 @@
 -- Assumes nothing.
 use Rattle.node.proofs.load.load_statistic.Goals as goal
 
-pub returns-in-Set : goal.returns-in-Set
-returns-in-Set c =
-    rw c.in-Set.is c.set_statistic.ensures
+pub returns-in-Some : goal.returns-in-Some
+returns-in-Some c =
+    rw c.in-Some.is c.set_statistic.ensures
 
-pub returns-in-Keep : goal.returns-in-Keep
-returns-in-Keep c =
-    rw c.in-Keep.is
+pub returns-in-None : goal.returns-in-None
+returns-in-None c =
+    rw c.in-None.is

@@ -2,13 +2,13 @@
 -- Assumes nothing.
 use mathlib.Core.Path.{sym, ap, ◌∙◌}
 use Rattle.readings.specs.Shown.{of_message}
-use Rattle.readings.specs.declared.Reading.TheVariants.{Number}
+use Rattle.std.specs.declared.option.Option.TheVariants.{Some}
 use Rattle.readings.proofs.frames.message.Goals as goal
 
-pub returns-in-Taken : goal.returns-in-Taken
-returns-in-Taken c =
-    ap Number c.as_u8.ensures ∙ ap of_message (sym c.in-Taken.is ∙ c.try_from.ensures)
+pub returns-in-Ok : goal.returns-in-Ok
+returns-in-Ok c =
+    ap Some c.as_u8.ensures ∙ ap of_message (sym c.in-Ok.is ∙ c.try_from.ensures)
 
-pub returns-in-Unknown : goal.returns-in-Unknown
-returns-in-Unknown c =
-    ap of_message (sym c.in-Unknown.is ∙ c.try_from.ensures)
+pub returns-in-None : goal.returns-in-None
+returns-in-None c =
+    ap of_message (sym c.in-None.is ∙ c.try_from.ensures)

@@ -13,12 +13,12 @@ walk-init c =
 
 pub deal-dealt-requires : goal.deal-dealt-requires
 deal-dealt-requires c =
-    quiet_from (reported c.args.errors) _ c.walk.i c.walk.invariant.1 (sym c.error_at-found.ensures ∙ c.in-Error.is)
+    quiet_from (reported c.args.errors) _ c.walk.i c.walk.invariant.1 (sym c.error_at-found.ensures ∙ c.in-Some.is)
 
 pub walk-preserved : goal.walk-preserved
 walk-preserved c = (
   walk_goes_on c.args.time (reported c.args.errors) c.args.head.now c.args.queue.now c.args.history.now c.walk.head c.walk.queue c.walk.history c.walk.dealt c.walk.i c.walk.invariant.0
-      _ (sym c.error_at-found.ensures ∙ c.in-Error.is) c.deal-dealt.result _ _ _ c.deal-dealt.ensures c.walk.invariant.1 c.if-dealt.false,
+      _ (sym c.error_at-found.ensures ∙ c.in-Some.is) c.deal-dealt.result _ _ _ c.deal-dealt.ensures c.walk.invariant.1 c.if-dealt.false,
   c.walk.invariant.1,
   omega arith,
 )
@@ -36,4 +36,4 @@ returns-in_default c =
 pub returns-then-dealt : goal.returns-then-dealt
 returns-then-dealt c =
     walk_stops c.args.time (reported c.args.errors) c.args.head.now c.args.queue.now c.args.history.now c.walk.head c.walk.queue c.walk.history c.walk.dealt c.walk.i c.walk.invariant.0
-    _ (sym c.error_at-found.ensures ∙ c.in-Error.is) c.deal-dealt.result _ _ _ c.deal-dealt.ensures c.if-dealt.true
+    _ (sym c.error_at-found.ensures ∙ c.in-Some.is) c.deal-dealt.result _ _ _ c.deal-dealt.ensures c.if-dealt.true

@@ -10,12 +10,12 @@ returns-then-checks c =
     let a = c.args in
     looks_roused a.checks a.time (watched_of (nodes_of a.nodes.now) a.count) c.if-checks.true c.look.result c.look.ensures
 
-pub returns-in-Formed : goal.returns-in-Formed
-returns-in-Formed c =
+pub returns-in-Some : goal.returns-in-Some
+returns-in-Some c =
     let a = c.args in
-    tried_rests a.checks a.time (watched_of (nodes_of a.nodes.now) a.count) c.if-checks.false c.try_nodes.result c.try_nodes.ensures _ c.in-Formed.is
+    tried_rests a.checks a.time (watched_of (nodes_of a.nodes.now) a.count) c.if-checks.false c.try_nodes.result c.try_nodes.ensures _ c.in-Some.is
 
-pub returns-in-Unformed : goal.returns-in-Unformed
-returns-in-Unformed c =
+pub returns-in-None : goal.returns-in-None
+returns-in-None c =
     let a = c.args in
-    tried_none a.checks a.time (watched_of (nodes_of a.nodes.now) a.count) c.if-checks.false c.try_nodes.result c.try_nodes.ensures c.in-Unformed.is
+    tried_none a.checks a.time (watched_of (nodes_of a.nodes.now) a.count) c.if-checks.false c.try_nodes.result c.try_nodes.ensures c.in-None.is

@@ -32,12 +32,6 @@ pub enum DllErrorKind {
     HeartbeatTimeout,
 }
 
-#[derive(Clone, Copy)]
-pub enum DllErrorKindRead {
-    Taken(DllErrorKind),
-    Refused(Refusal),
-}
-
 // All kinds, each at its place.
 const KINDS: [DllErrorKind; 22] = [
     DllErrorKind::LossOfLink,
@@ -152,17 +146,17 @@ impl DllErrorKind {
     }
 
     // The one kind that has the code.
-    pub fn from_error_code(code: u64) -> DllErrorKindRead
+    pub fn from_error_code(code: u64) -> Result<DllErrorKind, Refusal>
         ensures { kind_said result ≡ kind_behind code }
     {
         let first = next_with(code, 0);
         if first == 22 {
-            return DllErrorKindRead::Refused(Refusal::NoSingleKind);
+            return Err(Refusal::NoSingleKind);
         }
         if next_with(code, first + 1) < 22 {
-            return DllErrorKindRead::Refused(Refusal::NoSingleKind);
+            return Err(Refusal::NoSingleKind);
         }
-        DllErrorKindRead::Taken(KINDS[first])
+        Ok(KINDS[first])
     }
 }
 

@@ -5,7 +5,7 @@ ghost use Rattle.types.specs.Types.{read_node};
 
 use crate::frame::error::kinds::DllErrorKind;
 use crate::refusals::Refusal;
-use crate::types::{NodeId, NodeIdRead};
+use crate::types::NodeId;
 
 // What NMT is asked for after an error.
 #[derive(Clone, Copy)]
@@ -49,12 +49,6 @@ pub enum DllErrors {
     Two(DllError, DllError),
 }
 
-#[derive(Clone, Copy)]
-pub enum DllErrorRead {
-    Taken(DllError),
-    Refused(Refusal),
-}
-
 impl DllError {
     // The kind: the error's place in the enum, from 0.
     pub fn kind(self) -> u8
@@ -70,43 +64,43 @@ impl DllError {
     }
 
     // An error from its kind; a is its node, or a and b are its state and event. What a kind does not carry is not looked at.
-    pub fn try_from(kind: u64, a: u8, b: u8) -> DllErrorRead
+    pub fn try_from(kind: u64, a: u8, b: u8) -> Result<DllError, Refusal>
         ensures { result ≡ read_error kind a b }
     {
         match kind {
-            0 => DllErrorRead::Taken(DllError::LossOfLink),
-            1 => DllErrorRead::Taken(DllError::BadPhysicalMode),
-            2 => DllErrorRead::Taken(DllError::MacBuffer),
-            3 => DllErrorRead::Taken(DllError::Crc),
-            4 => DllErrorRead::Taken(DllError::Collision),
-            5 => DllErrorRead::Taken(DllError::InvalidFormat),
-            6 => DllErrorRead::Taken(DllError::LossOfSoc),
-            7 => DllErrorRead::Taken(DllError::LossOfSoa),
-            8 => DllErrorRead::Taken(DllError::LossOfPreq),
+            0 => Ok(DllError::LossOfLink),
+            1 => Ok(DllError::BadPhysicalMode),
+            2 => Ok(DllError::MacBuffer),
+            3 => Ok(DllError::Crc),
+            4 => Ok(DllError::Collision),
+            5 => Ok(DllError::InvalidFormat),
+            6 => Ok(DllError::LossOfSoc),
+            7 => Ok(DllError::LossOfSoa),
+            8 => Ok(DllError::LossOfPreq),
             9 => carrying(a, DllError::LossOfPres { node_id: NodeId(a) }),
             10 => carrying(a, DllError::LossOfStatusRes { node_id: NodeId(a) }),
-            11 => DllErrorRead::Taken(DllError::CycleTimeExceeded),
+            11 => Ok(DllError::CycleTimeExceeded),
             12 => carrying(a, DllError::LatePres { node_id: NodeId(a) }),
-            13 => DllErrorRead::Taken(DllError::SoCJitter),
-            14 => DllErrorRead::Taken(DllError::MsWaitSoc),
-            15 => DllErrorRead::Taken(DllError::MultipleMn),
-            16 => DllErrorRead::Taken(DllError::AddressConflict),
-            17 => DllErrorRead::Taken(DllError::MevAsndTimeout),
-            18 => DllErrorRead::Taken(DllError::UnexpectedEventInState { state: a, event: b }),
+            13 => Ok(DllError::SoCJitter),
+            14 => Ok(DllError::MsWaitSoc),
+            15 => Ok(DllError::MultipleMn),
+            16 => Ok(DllError::AddressConflict),
+            17 => Ok(DllError::MevAsndTimeout),
+            18 => Ok(DllError::UnexpectedEventInState { state: a, event: b }),
             19 => carrying(a, DllError::PdoMapVersion { node_id: NodeId(a) }),
             20 => carrying(a, DllError::PdoPayloadShort { node_id: NodeId(a) }),
             21 => carrying(a, DllError::HeartbeatTimeout { node_id: NodeId(a) }),
-            _ => DllErrorRead::Refused(Refusal::UnknownNumber),
+            _ => Err(Refusal::UnknownNumber),
         }
     }
 }
 
 // An error that carries the node a, taken where a is a node number.
-fn carrying(a: u8, error: DllError) -> DllErrorRead
+fn carrying(a: u8, error: DllError) -> Result<DllError, Refusal>
     ensures { result ≡ carried (read_node a) error }
 {
     match NodeId::try_from(a) {
-        NodeIdRead::Taken(_) => DllErrorRead::Taken(error),
-        NodeIdRead::Refused(refusal) => DllErrorRead::Refused(refusal),
+        Ok(_) => Ok(error),
+        Err(refusal) => Err(refusal),
     }
 }

@@ -31,19 +31,19 @@ have_numbers-requires c =
     let a = c.args in (
       c.if-count-gt32.false,
       seek_climbs a.nodes.now a.count c.if-count-gt32.false a.node a.time c.climb-front.result c.climb-front.ensures c.sum.result c.sum.ensures
-          c.hear_first-heard.result c.hear_first-heard.ensures (sym c.in_time.ensures ∙ c.if-not-in_time.false) _ c.in-Formed.is,
+          c.hear_first-heard.result c.hear_first-heard.ensures (sym c.in_time.ensures ∙ c.if-not-in_time.false) _ c.in-Some.is,
     )
 
 pub returns-then-not-have_numbers : goal.returns-then-not-have_numbers
 returns-then-not-have_numbers c =
     let a = c.args in
     seek_unnumbered a.nodes.now a.count c.if-count-gt32.false a.node a.time c.climb-front.result c.climb-front.ensures c.sum.result c.sum.ensures
-    c.hear_first-heard.result c.hear_first-heard.ensures (sym c.in_time.ensures ∙ c.if-not-in_time.false) _ c.in-Formed.is
+    c.hear_first-heard.result c.hear_first-heard.ensures (sym c.in_time.ensures ∙ c.if-not-in_time.false) _ c.in-Some.is
     (sym c.have_numbers.ensures ∙ c.if-not-have_numbers.true)
 
 pub returns : goal.returns
 returns c =
     let a = c.args in
     seek_found a.nodes.now a.count c.if-count-gt32.false a.node a.time c.climb-front.result c.climb-front.ensures c.sum.result c.sum.ensures
-    c.hear_first-heard.result c.hear_first-heard.ensures (sym c.in_time.ensures ∙ c.if-not-in_time.false) _ c.in-Formed.is
+    c.hear_first-heard.result c.hear_first-heard.ensures (sym c.in_time.ensures ∙ c.if-not-in_time.false) _ c.in-Some.is
     (sym c.have_numbers.ensures ∙ c.if-not-have_numbers.false)

@@ -22,13 +22,13 @@ returns-in_default c =
 
 pub have_numbers-requires : goal.have_numbers-requires
 have_numbers-requires c =
-    (c.if-count-gt32.false, (tried_formed _ _ c.climb_from-climbed.result c.climb_from-climbed.ensures _ c.in-Formed.is).0)
+    (c.if-count-gt32.false, (tried_formed _ _ c.climb_from-climbed.result c.climb_from-climbed.ensures _ c.in-Some.is).0)
 
 pub returns-then-not-have_numbers : goal.returns-then-not-have_numbers
 returns-then-not-have_numbers c =
     let a = c.args in
     let ws = drop 0 (take a.count (nodes_of a.nodes.now)) in
-    let x = tried_formed _ _ c.climb_from-climbed.result c.climb_from-climbed.ensures _ c.in-Formed.is in
+    let x = tried_formed _ _ c.climb_from-climbed.result c.climb_from-climbed.ensures _ c.in-Some.is in
     nodes_unformed a.nodes.now a.count
     (formed_begins a.nodes.now a.count c.if-count-gt32.false
     ∙ not_numbered 0 ws x.0 (sym c.have_numbers.ensures ∙ c.if-not-have_numbers.true))
@@ -37,7 +37,7 @@ pub returns : goal.returns
 returns c =
     let a = c.args in
     let ws = drop 0 (take a.count (nodes_of a.nodes.now)) in
-    let x = tried_formed _ _ c.climb_from-climbed.result c.climb_from-climbed.ensures _ c.in-Formed.is in
+    let x = tried_formed _ _ c.climb_from-climbed.result c.climb_from-climbed.ensures _ c.in-Some.is in
     nodes_formed a.nodes.now a.count
     (formed_begins a.nodes.now a.count c.if-count-gt32.false
     ∙ is_rising 0 ws x.0 (sym c.have_numbers.ensures ∙ c.if-not-have_numbers.false))

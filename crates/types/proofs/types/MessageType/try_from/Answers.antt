@@ -1,7 +1,7 @@
 -- `types::types::MessageType::try_from` meets its contract: each arm is told its number, and the last that the number is none of them.
 -- Assumes nothing.
 use Rattle.types.specs.Frames.{read_message, message_number, messages}
-use Rattle.types.specs.declared.types.MessageTypeRead.TheVariants.{Taken, Unknown}
+use Rattle.std.specs.declared.option.Option.TheVariants.{Some, None}
 use Rattle.types.proofs.Reading.{reads_none}
 use Rattle.types.proofs.types.MessageType.try_from.Goals as goal
 
@@ -33,4 +33,4 @@ returns-in-6 c =
 pub returns-in_default : goal.returns-in_default
 unfolding read_message
 returns-in_default c =
-    reads_none message_number Taken Unknown Unit messages c.args.value c.in_default.in_default-own.rest
+    reads_none message_number Some None Unit messages c.args.value c.in_default.in_default-own.rest

@@ -2,7 +2,7 @@
 -- Assumes nothing.
 use Rattle.types.specs.CsEvents.{read_cs_event, cs_event_number, cs_events}
 use Rattle.types.specs.declared.refusals.Refusal.TheVariants.{UnknownNumber}
-use Rattle.types.specs.declared.frame.cs_state_machine.DllCsEventRead.TheVariants.{Taken, Refused}
+use Rattle.std.specs.declared.result.Result.TheVariants.{Ok, Err}
 use Rattle.types.proofs.Reading.{reads_none}
 use Rattle.types.proofs.frame.cs_state_machine.DllCsEvent.try_from.Goals as goal
 
@@ -39,4 +39,4 @@ returns-in-5 c =
 pub returns-in_default : goal.returns-in_default
 unfolding read_cs_event
 returns-in_default c =
-    reads_none cs_event_number Taken (Refused UnknownNumber) Unit cs_events c.args.value c.in_default.in_default-own.rest
+    reads_none cs_event_number Ok (Err UnknownNumber) Unit cs_events c.args.value c.in_default.in_default-own.rest

@@ -2,10 +2,10 @@
 -- Assumes nothing.
 use Rattle.types.proofs.frame.error.types.carrying.Goals as goal
 
-pub returns-in-Taken : goal.returns-in-Taken
-returns-in-Taken c =
-    rw (← c.try_from.ensures, c.in-Taken.is)
+pub returns-in-Ok : goal.returns-in-Ok
+returns-in-Ok c =
+    rw (← c.try_from.ensures, c.in-Ok.is)
 
-pub returns-in-Refused : goal.returns-in-Refused
-returns-in-Refused c =
-    rw (← c.try_from.ensures, c.in-Refused.is)
+pub returns-in-Err : goal.returns-in-Err
+returns-in-Err c =
+    rw (← c.try_from.ensures, c.in-Err.is)

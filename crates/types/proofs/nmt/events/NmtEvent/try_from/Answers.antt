@@ -2,7 +2,7 @@
 -- Assumes nothing.
 use Rattle.types.specs.Events.{read_event, event_number, events}
 use Rattle.types.specs.declared.refusals.Refusal.TheVariants.{UnknownNumber}
-use Rattle.types.specs.declared.nmt.events.NmtEventRead.TheVariants.{Taken, Refused}
+use Rattle.std.specs.declared.result.Result.TheVariants.{Ok, Err}
 use Rattle.types.proofs.Reading.{reads_none}
 use Rattle.types.proofs.nmt.events.NmtEvent.try_from.Goals as goal
 
@@ -104,4 +104,4 @@ returns-in-18 c =
 pub returns-in_default : goal.returns-in_default
 unfolding read_event
 returns-in_default c =
-    reads_none event_number Taken (Refused UnknownNumber) Unit events c.args.value c.in_default.in_default-own.rest
+    reads_none event_number Ok (Err UnknownNumber) Unit events c.args.value c.in_default.in_default-own.rest

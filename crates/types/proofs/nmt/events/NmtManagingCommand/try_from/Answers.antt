@@ -2,7 +2,7 @@
 -- Assumes nothing.
 use Rattle.types.specs.Events.{read_managing, managing_number, managings}
 use Rattle.types.specs.declared.refusals.Refusal.TheVariants.{UnknownNumber}
-use Rattle.types.specs.declared.nmt.events.NmtManagingCommandRead.TheVariants.{Taken, Refused}
+use Rattle.std.specs.declared.result.Result.TheVariants.{Ok, Err}
 use Rattle.types.proofs.Reading.{reads_none}
 use Rattle.types.proofs.nmt.events.NmtManagingCommand.try_from.Goals as goal
 
@@ -19,4 +19,4 @@ returns-in-99 c =
 pub returns-in_default : goal.returns-in_default
 unfolding read_managing
 returns-in_default c =
-    reads_none managing_number Taken (Refused UnknownNumber) Unit managings c.args.value c.in_default.in_default-own.rest
+    reads_none managing_number Ok (Err UnknownNumber) Unit managings c.args.value c.in_default.in_default-own.rest

@@ -2,7 +2,7 @@
 -- Assumes nothing.
 use Rattle.types.specs.Events.{read_command, command_number, commands}
 use Rattle.types.specs.declared.refusals.Refusal.TheVariants.{UnknownNumber}
-use Rattle.types.specs.declared.nmt.events.NmtStateCommandRead.TheVariants.{Taken, Refused}
+use Rattle.std.specs.declared.result.Result.TheVariants.{Ok, Err}
 use Rattle.types.proofs.Reading.{reads_none}
 use Rattle.types.proofs.nmt.events.NmtStateCommand.try_from.Goals as goal
 
@@ -49,4 +49,4 @@ returns-in-43 c =
 pub returns-in_default : goal.returns-in_default
 unfolding read_command
 returns-in_default c =
-    reads_none command_number Taken (Refused UnknownNumber) Unit commands c.args.value c.in_default.in_default-own.rest
+    reads_none command_number Ok (Err UnknownNumber) Unit commands c.args.value c.in_default.in_default-own.rest

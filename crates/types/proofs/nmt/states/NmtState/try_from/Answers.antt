@@ -2,7 +2,7 @@
 -- Assumes nothing.
 use Rattle.types.specs.States.{read_state, state_number, states}
 use Rattle.types.specs.declared.refusals.Refusal.TheVariants.{UnknownNumber}
-use Rattle.types.specs.declared.nmt.states.NmtStateRead.TheVariants.{Taken, Refused}
+use Rattle.std.specs.declared.result.Result.TheVariants.{Ok, Err}
 use Rattle.types.proofs.Reading.{reads_none}
 use Rattle.types.proofs.nmt.states.NmtState.try_from.Goals as goal
 
@@ -69,4 +69,4 @@ returns-in-30 c =
 pub returns-in_default : goal.returns-in_default
 unfolding read_state
 returns-in_default c =
-    reads_none state_number Taken (Refused UnknownNumber) Unit states c.args.value c.in_default.in_default-own.rest
+    reads_none state_number Ok (Err UnknownNumber) Unit states c.args.value c.in_default.in_default-own.rest

@@ -2,7 +2,7 @@
 -- Assumes nothing.
 use Rattle.types.specs.Errors.{Kind, kinds, read_error}
 use Rattle.types.specs.declared.refusals.Refusal.TheVariants.{UnknownNumber}
-use Rattle.types.specs.declared.frame.error.types.DllErrorRead.TheVariants.{Refused}
+use Rattle.std.specs.declared.result.Result.TheVariants.{Err}
 use Rattle.types.proofs.Reading.{reads_none}
 use Rattle.types.proofs.frame.error.types.DllError.try_from.Goals as goal
 
@@ -120,4 +120,4 @@ pub returns-in_default : goal.returns-in_default
 unfolding read_error
 returns-in_default c =
     let a = c.args in
-    reads_none (λ (r : Kind). r.number) (λ (r : Kind). r.answer) (Refused UnknownNumber) Unit (kinds a.a a.b) a.kind c.in_default.in_default-own.rest
+    reads_none (λ (r : Kind). r.number) (λ (r : Kind). r.answer) (Err UnknownNumber) Unit (kinds a.a a.b) a.kind c.in_default.in_default-own.rest
