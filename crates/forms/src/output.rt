@@ -1,9 +1,10 @@
 // What a program prints. A write that fails is kept, nothing is written behind it, and the program ends with it. What reaches standard output no contract can say;
 // of a writer whose bytes are known, as one over memory, they say which bytes join them.
-ghost use Rattle.std.specs.Prelude.{◌≡◌, IsOk, IsErr};
+ghost use Rattle.std.specs.Prelude.{◌≡◌, IsOk, IsErr, IfSome};
 ghost use Rattle.std.specs.Io.KnownBytes.{Appends};
 ghost use Rattle.std.specs.Fmt.{decimal};
 
+use std::fmt::Display;
 use std::io;
 use std::io::{Stdout, Write};
 
@@ -31,6 +32,16 @@ impl<W: Write> Output<W> {
     {
         if self.outcome.is_ok() {
             self.outcome = self.to.write_all(bytes);
+        }
+    }
+
+    // What `write!` and `writeln!` call: the same with a text.
+    pub fn write_fmt<D: Display + Drop>(&mut self, text: D)
+        ensures failed { IsErr self.old.outcome → self.new ≡ self.old }
+        ensures written { IsOk self.new.outcome → IfSome (D.output text) (Appends (W.contents self.old.to) (W.contents self.new.to)) }
+    {
+        if self.outcome.is_ok() {
+            self.outcome = self.to.write_fmt(text);
         }
     }
 

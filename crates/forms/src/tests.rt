@@ -28,9 +28,7 @@ impl Write for Short {
 #[test]
 fn bytes_and_numbers_join(rt: HostRuntime) {
     let mut out = Output::new(Vec::new(rt.alloc()));
-    out.write(b"(entries ");
-    out.write_number(120);
-    out.write(b")\n");
+    writeln!(out, "(entries {})", 120);
     assert!(rt; out.outcome.is_ok());
     assert_eq!(rt; out.to.as_slice(), b"(entries 120)\n".as_slice());
 }
@@ -44,7 +42,7 @@ fn nothing_behind_a_failure(rt: HostRuntime) {
     assert!(rt; out.outcome.is_err());
     out.to.room = 9;
     out.write(b"h");
-    out.write_number(7);
+    write!(out, "7");
     assert_eq!(rt; out.to.room, 9);
     assert!(rt; out.end().is_err());
 }
