@@ -3,3 +3,4 @@ pub mod Watching
 pub mod Climbing
 pub mod Walk
 pub mod Limits
+pub mod Written

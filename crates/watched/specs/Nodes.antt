@@ -6,11 +6,16 @@ use Rattle.types.specs.Pick.{pick, both}
 use Rattle.types.specs.Types.{is_node}
 use Rattle.entries.specs.Ring.{listed}
 use Rattle.watched.specs.declared.nodes.WatchedNode.{WatchedNode}
+use Rattle.watched.specs.declared.record.NodeRecord.{NodeRecord}
 use Rattle.watched.specs.Watched.{all_of, timed, fits, well_formed, watched_node, heard_at, place_of}
 use Rattle.std.specs.declared.option.Option.{Option}
 use Rattle.std.specs.declared.option.Option.TheVariants.{Some, None}
 use Rattle.watched.specs.declared.nodes.Seen.{Seen}
 use Rattle.watched.specs.declared.nodes.Seen.TheVariants as seen
+
+-- what three words stand for
+abbrev pub node_of : NodeRecord → WatchedNode
+node_of r = watched_node r.node r.timeout r.last_heard
 
 abbrev pub node_at : List ℕ → ℕ → WatchedNode
 node_at ns i = watched_node (get_or ns (3 * i) 0) (get_or ns (3 * i + 1) 0) (get_or ns (3 * i + 2) 0)

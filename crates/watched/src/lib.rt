@@ -3,4 +3,5 @@
 #![tactic(auto)]
 
 pub mod nodes;
+pub mod record;
 pub mod time;
