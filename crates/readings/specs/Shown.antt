@@ -19,6 +19,7 @@ use Rattle.types.specs.declared.refusals.Refusal.{Refusal}
 use Rattle.types.specs.declared.nmt.events.NmtStateCommand.{NmtStateCommand}
 use Rattle.types.specs.declared.nmt.events.NmtManagingCommand.{NmtManagingCommand}
 use Rattle.types.specs.declared.types.MessageType.{MessageType}
+use Rattle.types.specs.declared.types.UnknownMessageType.{UnknownMessageType}
 
 abbrev pub of_state : Result NmtState Refusal → Option ℕ
 of_state (Ok s) = Some (state_number s)
@@ -32,9 +33,9 @@ abbrev pub of_managing : Result NmtManagingCommand Refusal → Option ℕ
 of_managing (Ok s) = Some (managing_number s)
 of_managing (Err r) = None
 
-abbrev pub of_message : Option MessageType → Option ℕ
-of_message (Some m) = Some (message_number m)
-of_message None = None
+abbrev pub of_message : Result MessageType UnknownMessageType → Option ℕ
+of_message (Ok m) = Some (message_number m)
+of_message (Err r) = None
 
 abbrev pub of_code : CodeAnswer → Option ℕ
 of_code (kind_number n) = Some n

@@ -11,8 +11,8 @@ fn message(n: u8) -> Option<u8>
     ensures { result ≡ of_message (read_message n) }
 {
     match MessageType::try_from(n) {
-        Some(kind) => Some(kind.as_u8()),
-        None => None,
+        Ok(kind) => Some(kind.as_u8()),
+        Err(_) => None,
     }
 }
 
@@ -44,12 +44,12 @@ fn say_events(out: &mut Output, kind: MessageType) {
 // The places of a kind's DLL event and NMT event; of a number that is no kind, nothing.
 fn print_frame(out: &mut Output, n: u8) {
     match MessageType::try_from(n) {
-        Some(kind) => {
+        Ok(kind) => {
             say(out, b"(frame ");
             say_hex2(out, kind.as_u8() as u64);
             say_events(out, kind);
         }
-        None => {}
+        Err(_) => {}
     }
 }
 

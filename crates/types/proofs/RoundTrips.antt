@@ -12,7 +12,6 @@ use Rattle.types.specs.Errors.{Kind, kinds, carried, error_kind_of, read_error}
 use Rattle.types.specs.declared.refusals.Refusal.TheVariants.{UnknownNumber}
 use Rattle.std.specs.declared.result.Result.{Result}
 use Rattle.std.specs.declared.result.Result.TheVariants.{Ok, Err}
-use Rattle.std.specs.declared.option.Option.TheVariants.{Some, None}
 use Rattle.types.specs.declared.types.NodeId.{NodeId}
 use Rattle.types.specs.declared.refusals.Refusal.{Refusal}
 use Rattle.types.specs.declared.nmt.events.NmtStateCommand.{NmtStateCommand}
@@ -76,12 +75,12 @@ cs_events_faithful =
     (λ y e. let z : ◌≡◌ {A = ℕ} 0 1 = cc in omega arith)
     (everywhere DllCsEvents (λ e. read_cs_event (cs_event_number e)) Ok refl refl)
 
-pub messages_faithful : Faithful message_number Some read_message
+pub messages_faithful : Faithful message_number Ok read_message
 unfolding read_message
 messages_faithful =
-    faithful message_number Some None (λ x y e. cc) messages
+    faithful message_number Ok (Err (record {})) (λ x y e. cc) messages
     (λ y e. let z : ◌≡◌ {A = ℕ} 0 1 = cc in omega arith)
-    (everywhere MessageTypes (λ x. read_message (message_number x)) Some refl refl)
+    (everywhere MessageTypes (λ x. read_message (message_number x)) Ok refl refl)
 
 -- the error itself, or the refusal of its node
 abbrev pub admitted : DllError → Result DllError Refusal

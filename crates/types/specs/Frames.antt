@@ -4,8 +4,11 @@ use Rattle.std.specs.Prelude.{ℕ, List, [], ◌∷◌}
 use Rattle.types.specs.Pick.{read_by}
 use Rattle.types.specs.declared.types.MessageType.{MessageType}
 use Rattle.types.specs.declared.types.MessageType.TheVariants.{SoC, PReq, PRes, SoA, ASnd}
+use Rattle.types.specs.declared.types.UnknownMessageType.{UnknownMessageType}
 use Rattle.std.specs.declared.option.Option.{Option}
 use Rattle.std.specs.declared.option.Option.TheVariants.{Some, None}
+use Rattle.std.specs.declared.result.Result.{Result}
+use Rattle.std.specs.declared.result.Result.TheVariants.{Ok, Err}
 use Rattle.types.specs.declared.nmt.events.NmtEvent.{NmtEvent}
 use Rattle.types.specs.declared.frame.cs_state_machine.DllCsEvent.{DllCsEvent}
 use Rattle.types.specs.declared.frame.cs_state_machine.DllCsEvent.TheVariants.{Soc, Preq, Pres, Soa, Asnd}
@@ -22,8 +25,8 @@ message_number ASnd = 0x06
 abbrev pub messages : List MessageType
 messages = SoC ∷ PReq ∷ PRes ∷ SoA ∷ ASnd ∷ []
 
-unfoldable pub read_message : ℕ → Option MessageType
-read_message n = read_by message_number Some None messages n
+unfoldable pub read_message : ℕ → Result MessageType UnknownMessageType
+read_message n = read_by message_number Ok (Err (record {})) messages n
 
 -- the event of the cycle of a controlled node: the one of the frame's name
 abbrev pub frame_cs_event : MessageType → DllCsEvent

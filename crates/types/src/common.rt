@@ -2,7 +2,7 @@
 ghost use Rattle.std.specs.Prelude.{◌≡◌};
 ghost use Rattle.types.specs.Common.{net_time, from_micros, as_nanos, add_nanos, sub_net_time};
 
-#[derive(Clone, Copy)]
+#[derive(Clone, Copy, Debug, PartialEq, Eq)]
 pub struct NetTime {
     pub seconds: u32,
     pub nanoseconds: u32,

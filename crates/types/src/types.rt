@@ -14,13 +14,16 @@ pub const C_ADR_RT1_DEF_NODE_ID: u8 = 254;
 // POWERLINK Node ID for broadcast messages.
 pub const C_ADR_BROADCAST_NODE_ID: u8 = 255;
 
-#[derive(Clone, Copy)]
+#[derive(Clone, Copy, Debug, PartialEq, Eq)]
 pub struct NodeId(pub u8);
 
-impl NodeId {
-    pub fn try_from(value: u8) -> Result<NodeId, Refusal>
-        ensures { result ≡ read_node value }
-    {
+#[tactic(auto, unfolding(crate::specs::Types::read_node))]
+impl TryFrom<u8> for NodeId {
+    type Error = Refusal;
+
+    ghost try_from_gives = { λ n r. r ≡ read_node n };
+
+    fn try_from(value: u8) -> Result<Self, Refusal> {
         match value {
             1..=C_ADR_MN_DEF_NODE_ID => Ok(NodeId(value)),
             C_ADR_DIAG_DEF_NODE_ID | C_ADR_RT1_DEF_NODE_ID | C_ADR_BROADCAST_NODE_ID => {
@@ -32,38 +35,41 @@ impl NodeId {
 }
 
 // The kinds of frames, by their message type IDs (Appendix 3.1).
-#[derive(Clone, Copy)]
+#[derive(Clone, Copy, Debug, PartialEq, Eq)]
 pub enum MessageType {
-    SoC,
-    PReq,
-    PRes,
-    SoA,
-    ASnd,
+    SoC = 0x01,
+    PReq = 0x03,
+    PRes = 0x04,
+    SoA = 0x05,
+    ASnd = 0x06,
 }
 
 impl MessageType {
     pub fn as_u8(self) -> u8
         ensures { result ≡ message_number self }
     {
-        match self {
-            MessageType::SoC => 0x01,
-            MessageType::PReq => 0x03,
-            MessageType::PRes => 0x04,
-            MessageType::SoA => 0x05,
-            MessageType::ASnd => 0x06,
-        }
+        self as u8
     }
+}
 
-    pub fn try_from(value: u8) -> Option<MessageType>
-        ensures { result ≡ read_message value }
-    {
+// No message type has the number.
+#[derive(Clone, Copy, Debug, PartialEq, Eq)]
+pub struct UnknownMessageType;
+
+#[tactic(auto, unfolding(crate::specs::Frames::read_message))]
+impl TryFrom<u8> for MessageType {
+    type Error = UnknownMessageType;
+
+    ghost try_from_gives = { λ n r. r ≡ read_message n };
+
+    fn try_from(value: u8) -> Result<Self, UnknownMessageType> {
         match value {
-            0x01 => Some(MessageType::SoC),
-            0x03 => Some(MessageType::PReq),
-            0x04 => Some(MessageType::PRes),
-            0x05 => Some(MessageType::SoA),
-            0x06 => Some(MessageType::ASnd),
-            _ => None,
+            0x01 => Ok(MessageType::SoC),
+            0x03 => Ok(MessageType::PReq),
+            0x04 => Ok(MessageType::PRes),
+            0x05 => Ok(MessageType::SoA),
+            0x06 => Ok(MessageType::ASnd),
+            _ => Err(UnknownMessageType),
         }
     }
 }

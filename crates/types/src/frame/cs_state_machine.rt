@@ -4,7 +4,7 @@ ghost use Rattle.types.specs.CsEvents.{cs_event_number, read_cs_event};
 
 use crate::refusals::Refusal;
 
-#[derive(Clone, Copy)]
+#[derive(Clone, Copy, Debug, PartialEq, Eq)]
 pub enum DllCsEvent {
     Soc,
     Preq,
@@ -19,19 +19,17 @@ impl DllCsEvent {
     pub fn as_u8(self) -> u8
         ensures { result ≡ cs_event_number self }
     {
-        match self {
-            DllCsEvent::Soc => 0,
-            DllCsEvent::Preq => 1,
-            DllCsEvent::Pres => 2,
-            DllCsEvent::Soa => 3,
-            DllCsEvent::Asnd => 4,
-            DllCsEvent::SocTimeout => 5,
-        }
+        self as u8
     }
+}
 
-    pub fn try_from(value: u64) -> Result<DllCsEvent, Refusal>
-        ensures { result ≡ read_cs_event value }
-    {
+#[tactic(auto, unfolding(crate::specs::CsEvents::read_cs_event))]
+impl TryFrom<u64> for DllCsEvent {
+    type Error = Refusal;
+
+    ghost try_from_gives = { λ n r. r ≡ read_cs_event n };
+
+    fn try_from(value: u64) -> Result<Self, Refusal> {
         match value {
             0 => Ok(DllCsEvent::Soc),
             1 => Ok(DllCsEvent::Preq),

@@ -4,25 +4,25 @@ ghost use Rattle.types.specs.Events.{command_number, managing_number, event_numb
 
 use crate::refusals::Refusal;
 
-#[derive(Clone, Copy)]
+#[derive(Clone, Copy, Debug, PartialEq, Eq)]
 pub enum NmtStateCommand {
-    StartNode,
-    StopNode,
-    EnterPreOperational2,
-    EnableReadyToOperate,
-    ResetNode,
-    ResetCommunication,
-    ResetConfiguration,
-    SwReset,
+    StartNode = 0x21,
+    StopNode = 0x22,
+    EnterPreOperational2 = 0x23,
+    EnableReadyToOperate = 0x24,
+    ResetNode = 0x28,
+    ResetCommunication = 0x29,
+    ResetConfiguration = 0x2A,
+    SwReset = 0x2B,
 }
 
-#[derive(Clone, Copy)]
+#[derive(Clone, Copy, Debug, PartialEq, Eq)]
 pub enum NmtManagingCommand {
-    NmtNetHostNameSet,
-    NmtFlushArpEntry,
+    NmtNetHostNameSet = 0x62,
+    NmtFlushArpEntry = 0x63,
 }
 
-#[derive(Clone, Copy)]
+#[derive(Clone, Copy, Debug, PartialEq, Eq)]
 pub enum NmtEvent {
     // Commands of the managing node, and a reset from outside.
     StartNode,
@@ -54,32 +54,7 @@ impl NmtStateCommand {
     pub fn as_u8(self) -> u8
         ensures { result ≡ command_number self }
     {
-        match self {
-            NmtStateCommand::StartNode => 0x21,
-            NmtStateCommand::StopNode => 0x22,
-            NmtStateCommand::EnterPreOperational2 => 0x23,
-            NmtStateCommand::EnableReadyToOperate => 0x24,
-            NmtStateCommand::ResetNode => 0x28,
-            NmtStateCommand::ResetCommunication => 0x29,
-            NmtStateCommand::ResetConfiguration => 0x2A,
-            NmtStateCommand::SwReset => 0x2B,
-        }
-    }
-
-    pub fn try_from(value: u64) -> Result<NmtStateCommand, Refusal>
-        ensures { result ≡ read_command value }
-    {
-        match value {
-            0x21 => Ok(NmtStateCommand::StartNode),
-            0x22 => Ok(NmtStateCommand::StopNode),
-            0x23 => Ok(NmtStateCommand::EnterPreOperational2),
-            0x24 => Ok(NmtStateCommand::EnableReadyToOperate),
-            0x28 => Ok(NmtStateCommand::ResetNode),
-            0x29 => Ok(NmtStateCommand::ResetCommunication),
-            0x2A => Ok(NmtStateCommand::ResetConfiguration),
-            0x2B => Ok(NmtStateCommand::SwReset),
-            _ => Err(Refusal::UnknownNumber),
-        }
+        self as u8
     }
 
     // The event that a received command is.
@@ -99,19 +74,42 @@ impl NmtStateCommand {
     }
 }
 
+#[tactic(auto, unfolding(crate::specs::Events::read_command))]
+impl TryFrom<u64> for NmtStateCommand {
+    type Error = Refusal;
+
+    ghost try_from_gives = { λ n r. r ≡ read_command n };
+
+    fn try_from(value: u64) -> Result<Self, Refusal> {
+        match value {
+            0x21 => Ok(NmtStateCommand::StartNode),
+            0x22 => Ok(NmtStateCommand::StopNode),
+            0x23 => Ok(NmtStateCommand::EnterPreOperational2),
+            0x24 => Ok(NmtStateCommand::EnableReadyToOperate),
+            0x28 => Ok(NmtStateCommand::ResetNode),
+            0x29 => Ok(NmtStateCommand::ResetCommunication),
+            0x2A => Ok(NmtStateCommand::ResetConfiguration),
+            0x2B => Ok(NmtStateCommand::SwReset),
+            _ => Err(Refusal::UnknownNumber),
+        }
+    }
+}
+
 impl NmtManagingCommand {
     pub fn as_u8(self) -> u8
         ensures { result ≡ managing_number self }
     {
-        match self {
-            NmtManagingCommand::NmtNetHostNameSet => 0x62,
-            NmtManagingCommand::NmtFlushArpEntry => 0x63,
-        }
+        self as u8
     }
+}
 
-    pub fn try_from(value: u64) -> Result<NmtManagingCommand, Refusal>
-        ensures { result ≡ read_managing value }
-    {
+#[tactic(auto, unfolding(crate::specs::Events::read_managing))]
+impl TryFrom<u64> for NmtManagingCommand {
+    type Error = Refusal;
+
+    ghost try_from_gives = { λ n r. r ≡ read_managing n };
+
+    fn try_from(value: u64) -> Result<Self, Refusal> {
         match value {
             0x62 => Ok(NmtManagingCommand::NmtNetHostNameSet),
             0x63 => Ok(NmtManagingCommand::NmtFlushArpEntry),
@@ -125,32 +123,17 @@ impl NmtEvent {
     pub fn as_u8(self) -> u8
         ensures { result ≡ event_number self }
     {
-        match self {
-            NmtEvent::StartNode => 0,
-            NmtEvent::StopNode => 1,
-            NmtEvent::EnterPreOperational2 => 2,
-            NmtEvent::EnableReadyToOperate => 3,
-            NmtEvent::Reset => 4,
-            NmtEvent::SwReset => 5,
-            NmtEvent::ResetNode => 6,
-            NmtEvent::ResetCommunication => 7,
-            NmtEvent::ResetConfiguration => 8,
-            NmtEvent::EnterEplMode => 9,
-            NmtEvent::Timeout => 10,
-            NmtEvent::Error => 11,
-            NmtEvent::SoAReceived => 12,
-            NmtEvent::SocReceived => 13,
-            NmtEvent::PowerlinkFrameReceived => 14,
-            NmtEvent::CnConfigurationComplete => 15,
-            NmtEvent::AllCnsIdentified => 16,
-            NmtEvent::ConfigurationCompleteCnsReady => 17,
-            NmtEvent::AllMandatoryCnsOperational => 18,
-        }
+        self as u8
     }
+}
 
-    pub fn try_from(value: u64) -> Result<NmtEvent, Refusal>
-        ensures { result ≡ read_event value }
-    {
+#[tactic(auto, unfolding(crate::specs::Events::read_event))]
+impl TryFrom<u64> for NmtEvent {
+    type Error = Refusal;
+
+    ghost try_from_gives = { λ n r. r ≡ read_event n };
+
+    fn try_from(value: u64) -> Result<Self, Refusal> {
         match value {
             0 => Ok(NmtEvent::StartNode),
             1 => Ok(NmtEvent::StopNode),

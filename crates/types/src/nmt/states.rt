@@ -4,45 +4,37 @@ ghost use Rattle.types.specs.States.{state_number, read_state};
 
 use crate::refusals::Refusal;
 
-#[derive(Clone, Copy)]
+#[derive(Clone, Copy, Debug, PartialEq, Eq)]
 pub enum NmtState {
-    NmtGsOff,
-    NmtGsInitialising,
-    NmtGsResetApplication,
-    NmtGsResetCommunication,
-    NmtGsResetConfiguration,
-    NmtNotActive,
-    NmtPreOperational1,
-    NmtPreOperational2,
-    NmtReadyToOperate,
-    NmtOperational,
-    NmtCsStopped,
-    NmtBasicEthernet,
+    NmtGsOff = 0x00,
+    NmtGsInitialising = 0x19,
+    NmtGsResetApplication = 0x29,
+    NmtGsResetCommunication = 0x39,
+    NmtGsResetConfiguration = 0x79,
+    NmtNotActive = 0x1C,
+    NmtPreOperational1 = 0x1D,
+    NmtPreOperational2 = 0x5D,
+    NmtReadyToOperate = 0x6D,
+    NmtOperational = 0xFD,
+    NmtCsStopped = 0x4D,
+    NmtBasicEthernet = 0x1E,
 }
 
 impl NmtState {
     pub fn as_u8(self) -> u8
         ensures { result ≡ state_number self }
     {
-        match self {
-            NmtState::NmtGsOff => 0x00,
-            NmtState::NmtGsInitialising => 0x19,
-            NmtState::NmtGsResetApplication => 0x29,
-            NmtState::NmtGsResetCommunication => 0x39,
-            NmtState::NmtGsResetConfiguration => 0x79,
-            NmtState::NmtNotActive => 0x1C,
-            NmtState::NmtPreOperational1 => 0x1D,
-            NmtState::NmtPreOperational2 => 0x5D,
-            NmtState::NmtReadyToOperate => 0x6D,
-            NmtState::NmtOperational => 0xFD,
-            NmtState::NmtCsStopped => 0x4D,
-            NmtState::NmtBasicEthernet => 0x1E,
-        }
+        self as u8
     }
+}
 
-    pub fn try_from(value: u64) -> Result<NmtState, Refusal>
-        ensures { result ≡ read_state value }
-    {
+#[tactic(auto, unfolding(crate::specs::States::read_state))]
+impl TryFrom<u64> for NmtState {
+    type Error = Refusal;
+
+    ghost try_from_gives = { λ n r. r ≡ read_state n };
+
+    fn try_from(value: u64) -> Result<Self, Refusal> {
         match value {
             0x00 => Ok(NmtState::NmtGsOff),
             0x19 => Ok(NmtState::NmtGsInitialising),

@@ -9,6 +9,6 @@ pub returns-in-Ok : goal.returns-in-Ok
 returns-in-Ok c =
     ap Some c.as_u8.ensures ∙ ap of_message (sym c.in-Ok.is ∙ c.try_from.ensures)
 
-pub returns-in-None : goal.returns-in-None
-returns-in-None c =
-    ap of_message (sym c.in-None.is ∙ c.try_from.ensures)
+pub returns-in-Err : goal.returns-in-Err
+returns-in-Err c =
+    ap of_message (sym c.in-Err.is ∙ c.try_from.ensures)

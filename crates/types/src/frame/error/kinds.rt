@@ -6,7 +6,7 @@ ghost use Rattle.types.specs.Kinds.{kind_place, kind_code, error_kinds, kind_at,
 use crate::frame::error::types::DllError;
 use crate::refusals::Refusal;
 
-#[derive(Clone, Copy)]
+#[derive(Clone, Copy, Debug, PartialEq, Eq)]
 pub enum DllErrorKind {
     LossOfLink,
     BadPhysicalMode,
@@ -94,30 +94,7 @@ impl DllErrorKind {
     pub fn place(self) -> u8
         ensures { result ≡ kind_place self }
     {
-        match self {
-            DllErrorKind::LossOfLink => 0,
-            DllErrorKind::BadPhysicalMode => 1,
-            DllErrorKind::MacBuffer => 2,
-            DllErrorKind::Crc => 3,
-            DllErrorKind::Collision => 4,
-            DllErrorKind::InvalidFormat => 5,
-            DllErrorKind::LossOfSoc => 6,
-            DllErrorKind::LossOfSoa => 7,
-            DllErrorKind::LossOfPreq => 8,
-            DllErrorKind::LossOfPres => 9,
-            DllErrorKind::LossOfStatusRes => 10,
-            DllErrorKind::CycleTimeExceeded => 11,
-            DllErrorKind::LatePres => 12,
-            DllErrorKind::SoCJitter => 13,
-            DllErrorKind::MsWaitSoc => 14,
-            DllErrorKind::MultipleMn => 15,
-            DllErrorKind::AddressConflict => 16,
-            DllErrorKind::MevAsndTimeout => 17,
-            DllErrorKind::UnexpectedEventInState => 18,
-            DllErrorKind::PdoMapVersion => 19,
-            DllErrorKind::PdoPayloadShort => 20,
-            DllErrorKind::HeartbeatTimeout => 21,
-        }
+        self as u8
     }
 
     pub fn to_error_code(self) -> u16

@@ -8,14 +8,14 @@ use crate::refusals::Refusal;
 use crate::types::NodeId;
 
 // What NMT is asked for after an error.
-#[derive(Clone, Copy)]
+#[derive(Clone, Copy, Debug, PartialEq, Eq)]
 pub enum NmtAction {
     None,
     ResetCommunication,
     ResetNode(NodeId),
 }
 
-#[derive(Clone, Copy)]
+#[derive(Clone, Copy, Debug, PartialEq, Eq)]
 pub enum DllError {
     LossOfLink,
     BadPhysicalMode,
@@ -42,7 +42,7 @@ pub enum DllError {
 }
 
 // The errors that one event reports: at most two, in order.
-#[derive(Clone, Copy)]
+#[derive(Clone, Copy, Debug, PartialEq, Eq)]
 pub enum DllErrors {
     None,
     One(DllError),
