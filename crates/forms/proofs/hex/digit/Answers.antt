@@ -1,8 +1,8 @@
--- `forms::digit` meets its contract: the test says whether the digit is a letter.
+-- `forms::hex::digit` meets its contract: the test says whether the digit is a letter.
 -- Assumes nothing.
 use native.Mathlib.Omega.{arith}
 use borrow.Author.Tests.{lt-ltb, le-ltb}
-use Rattle.forms.proofs.digit.Goals as goal
+use Rattle.forms.proofs.hex.digit.Goals as goal
 
 pub returns-then-d-lt10 : goal.returns-then-d-lt10
 returns-then-d-lt10 c =
