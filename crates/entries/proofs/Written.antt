@@ -56,19 +56,13 @@ written_same s at b h =
     ∙ ap (λ (l : List ℕ). take at s ++ l) (take-append-drop (length b) (drop at s))
     ∙ take-append-drop at s)
 
--- a byte at a time
-pub written_none : (s : List ℕ) (at : ℕ) → written s at [] ≡ s
+-- what a part as long as the bytes, lent from a place on, leaves where it came back as they are
+pub bytes_put :
+    (at n : ℕ) (s ys b : List ℕ) → ys ≡ b → length b ≡ n → put_mid at (at + n - at) s ys ≡ written s at b
 unfolding written
-written_none s at = rw add-zero (take-append-drop at s)
-
-pub written_more :
-    (s : List ℕ) (at x : ℕ) (b : List ℕ) → at < length s → written s at (x ∷ b) ≡ written (set s at x) (at + 1) b
-unfolding written
-written_more s at x b h =
-    let e : at + suc (length b) ≡ suc at + length b = omega arith in
-    let d : drop (suc at + length b) (set s at x) ≡ drop (suc at + length b) s =
-    drop-set-lt (suc at + length b) s at x (omega arith) in
-    rw (add-one, take-suc-set s at x h, d, e) (sym (append_snoc (take at s) x (b ++ drop (suc at + length b) s)))
+bytes_put at n s ys b e long =
+    let k : at + n - at ≡ n = omega arith in
+    rw (k, e, long, drop-drop n at s)
 
 -- one run behind another, with which the first n bytes were written
 pub written_next :

@@ -3,7 +3,7 @@ ghost use Rattle.std.specs.Prelude.{◌≡◌};
 ghost use Rattle.entries.specs.Ring.{nth};
 ghost use Rattle.entries.specs.Queue.{queue, waiting, pushed, pushed_bytes, handed_out};
 
-use crate::place;
+use crate::place::{self, Ring};
 use crate::status_response::ErrorEntry;
 
 // Where the entries stand: the place of the oldest, how many wait, and how many may. Every value is a queue: a place
@@ -39,15 +39,25 @@ impl EmergencyQueue {
         }
     }
 
+    // Its places in lent memory.
+    fn ring(self) -> Ring<32>
+        ensures { (result.first ≡ self.oldest) × (result.count ≡ self.length) }
+    {
+        Ring {
+            first: self.oldest,
+            count: self.length,
+        }
+    }
+
     // An entry joins behind the newest, or is dropped where the queue is full.
     pub fn push_back(self, memory: &mut [u8; 640], entry: ErrorEntry) -> Pushed
         ensures { (result ≡ pushed self) × (memory.new ≡ pushed_bytes memory.old self entry) }
     {
-        let length = place::at_most(self.length as usize, 32);
-        let capacity = place::at_most(self.capacity as usize, 32);
+        let ring = self.ring();
+        let length = ring.len();
+        let capacity = (self.capacity as usize).min(32);
         if length < capacity {
-            let free = (self.oldest as usize + length) % 32;
-            place::put_entry(memory, 20 * free, entry);
+            place::put_entry(memory, 20 * ring.place(length), entry);
             let queue = Self {
                 oldest: self.oldest,
                 length: (length + 1) as u8,
@@ -66,12 +76,12 @@ impl EmergencyQueue {
     pub fn hand_out(self, memory: &[u8; 640]) -> HandedOut
         ensures { result ≡ handed_out memory.now self }
     {
-        let length = place::at_most(self.length as usize, 32);
+        let ring = self.ring();
+        let length = ring.len();
         if 0 < length {
-            let oldest = self.oldest as usize % 32;
-            let entry = place::read_entry(memory, 20 * oldest);
+            let entry = place::read_entry(memory, 20 * ring.place(0));
             let queue = Self {
-                oldest: ((self.oldest as usize + 1) % 32) as u8,
+                oldest: ring.place(1) as u8,
                 length: (length - 1) as u8,
                 capacity: self.capacity,
             };
@@ -91,6 +101,6 @@ impl EmergencyQueue {
     pub fn get(self, memory: &[u8; 640], index: usize) -> Option<ErrorEntry>
         ensures { result ≡ nth (waiting memory.now self) index }
     {
-        place::ring_entry(memory, 32, self.oldest, self.length, index)
+        self.ring().get(memory, index)
     }
 }

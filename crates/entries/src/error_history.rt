@@ -1,9 +1,9 @@
 // The error history, object 0x1003: a ring of 254 places in lent memory, read newest first from the newest's place on.
 ghost use Rattle.std.specs.Prelude.{◌≡◌};
 ghost use Rattle.entries.specs.Ring.{nth};
-ghost use Rattle.entries.specs.History.{error_history, history, place_before, joined, joined_bytes, loaded, loaded_bytes};
+ghost use Rattle.entries.specs.History.{error_history, history, joined, joined_bytes, loaded, loaded_bytes};
 
-use crate::place;
+use crate::place::{self, Ring};
 use crate::status_response::ErrorEntry;
 
 // Where the entries stand: the place of the newest, and how many there are. Every value is a history: a place is read
@@ -29,11 +29,22 @@ impl ErrorHistory {
     pub fn load(memory: &mut [u8; 5080], entries: &[u8]) -> Self
         ensures { (result ≡ loaded entries.now) × (memory.new ≡ loaded_bytes memory.old entries.now) }
     {
-        let count = place::at_most(entries.len() / 20, 254);
-        place::copy_front(memory, entries, 20 * count);
+        let count = (entries.len() / 20).min(254);
+        let taken = 20 * count;
+        memory[..taken].copy_from_slice(&entries[..taken]);
         Self {
             newest: 0,
             count: count as u8,
+        }
+    }
+
+    // Its places in lent memory.
+    fn ring(self) -> Ring<254>
+        ensures { (result.first ≡ self.newest) × (result.count ≡ self.count) }
+    {
+        Ring {
+            first: self.newest,
+            count: self.count,
         }
     }
 
@@ -41,15 +52,8 @@ impl ErrorHistory {
     pub fn get(self, memory: &[u8; 5080], index: usize) -> Option<ErrorEntry>
         ensures { result ≡ nth (history memory.now self) index }
     {
-        place::ring_entry(memory, 254, self.newest, self.count, index)
+        self.ring().get(memory, index)
     }
-}
-
-// The place before the newest: in a full history the oldest's.
-fn place_before(history: ErrorHistory) -> usize
-    ensures { result ≡ place_before history }
-{
-    (history.newest as usize + 253) % 254
 }
 
 // An entry joins at the place before the newest, and no other moves.
@@ -60,9 +64,10 @@ pub fn write_error_to_history(
 ) -> ErrorHistory
     ensures { (result ≡ joined history) × (memory.new ≡ joined_bytes memory.old history entry) }
 {
-    let newest = place_before(history);
+    // The place before the newest: in a full history the oldest's.
+    let newest = history.ring().place(253);
     place::put_entry(memory, 20 * newest, entry);
-    let count = place::at_most(history.count as usize + 1, 254);
+    let count = (history.count as usize + 1).min(254);
     ErrorHistory {
         newest: newest as u8,
         count: count as u8,

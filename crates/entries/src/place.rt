@@ -1,43 +1,27 @@
-// Numbers and entries in lent bytes, at a place that the caller keeps within them.
-ghost use Rattle.std.specs.Prelude.{◌≡◌, ◌++◌, ◌+◌, ◌*◌, ◌^◌, ◌≤◌, ◌<◌, min, length, take, drop};
-ghost use Rattle.entries.specs.Entry.{bytes_of, number_in, entry_bytes, entry_in};
+// Entries in lent bytes, at a place that the caller keeps within them, and rings of such places.
+ghost use Rattle.std.specs.Prelude.{◌≡◌, ◌++◌, ◌+◌, ◌*◌, ◌^◌, ◌%◌, ◌≤◌, ◌<◌, min, length, take, drop};
+ghost use Rattle.entries.specs.Entry.{entry_bytes, entry_in};
 ghost use Rattle.entries.specs.Ring.{written, ring, nth};
 
 use crate::status_response::{EntryType, ErrorEntry};
 use types::common::NetTime;
 
-pub(crate) fn at_most(x: usize, top: usize) -> usize
-    ensures { result ≡ min x top }
+// Writes N bytes from a place on.
+fn put_bytes<const N: usize>(s: &mut [u8], at: usize, bytes: [u8; N])
+    requires { at + N ≤ length s.old }
+    ensures { s.new ≡ written s.old at bytes.entry }
 {
-    if x < top { x } else { top }
+    s[at..at + N].copy_from_slice(&bytes);
 }
 
-// Writes the k lowest bytes of a number from a place on, the lowest first.
-fn put_number(s: &mut [u8], at: usize, k: usize, number: u64)
-    requires { at + k ≤ length s.old }
-    ensures { s.new ≡ written s.old at (bytes_of k number) }
+// The N bytes from a place on.
+fn get_bytes<const N: usize>(s: &[u8], at: usize) -> [u8; N]
+    requires { at + N ≤ length s.now }
+    ensures { result ≡ take N (drop at s.now) }
 {
-    let mut left = number;
-    let mut i = 0;
-    while i < k {
-        s[at + i] = (left % 256) as u8;
-        left = left / 256;
-        i += 1;
-    }
-}
-
-// The number in the k bytes from a place on, the lowest first.
-fn get_number(s: &[u8], at: usize, k: usize) -> u64
-    requires { (at + k ≤ length s.now) × (k ≤ 8) }
-    ensures { (result ≡ number_in k (drop at s.now)) × (result < 256 ^ k) }
-{
-    let mut number: u64 = 0;
-    let mut i = k;
-    while 0 < i {
-        i -= 1;
-        number = number * 256 + (s[at + i] as u64);
-    }
-    number
+    let mut bytes = [0; N];
+    bytes.copy_from_slice(&s[at..at + N]);
+    bytes
 }
 
 // Writes an entry into the first 20 bytes.
@@ -45,13 +29,12 @@ pub(crate) fn write_entry(part: &mut [u8], entry: ErrorEntry)
     requires { 20 ≤ length part.old }
     ensures { part.new ≡ entry_bytes entry ++ drop 20 part.old }
 {
-    let entry_type = entry.entry_type;
     let time = entry.timestamp;
-    put_number(part, 0, 2, entry_type.to_u16() as u64);
-    put_number(part, 2, 2, entry.error_code as u64);
-    put_number(part, 4, 4, time.seconds as u64);
-    put_number(part, 8, 4, time.nanoseconds as u64);
-    put_number(part, 12, 8, entry.additional_information);
+    put_bytes(part, 0, u16::from(entry.entry_type).to_le_bytes());
+    put_bytes(part, 2, entry.error_code.to_le_bytes());
+    put_bytes(part, 4, time.seconds.to_le_bytes());
+    put_bytes(part, 8, time.nanoseconds.to_le_bytes());
+    put_bytes(part, 12, entry.additional_information.to_le_bytes());
 }
 
 // Writes an entry at a place: the part from there on is lent to the writer.
@@ -67,49 +50,53 @@ pub(crate) fn read_entry(s: &[u8], at: usize) -> ErrorEntry
     requires { at + 20 ≤ length s.now }
     ensures { result ≡ entry_in (drop at s.now) }
 {
-    let entry_type = EntryType::from_u16(get_number(s, at, 2) as u16);
-    let error_code = get_number(s, at + 2, 2) as u16;
-    let seconds = get_number(s, at + 4, 4) as u32;
-    let nanoseconds = get_number(s, at + 8, 4) as u32;
-    let timestamp = NetTime {
-        seconds,
-        nanoseconds,
-    };
+    let entry_type = EntryType::from(u16::from_le_bytes(get_bytes(s, at)));
+    let error_code = u16::from_le_bytes(get_bytes(s, at + 2));
+    let seconds = u32::from_le_bytes(get_bytes(s, at + 4));
+    let nanoseconds = u32::from_le_bytes(get_bytes(s, at + 8));
+    let additional_information = u64::from_le_bytes(get_bytes(s, at + 12));
     ErrorEntry {
         entry_type,
         error_code,
-        timestamp,
-        additional_information: get_number(s, at + 12, 8),
+        timestamp: NetTime {
+            seconds,
+            nanoseconds,
+        },
+        additional_information,
     }
 }
 
-// The entry at an index of a ring of so many places, from the place `first` on, of which at most `count` are filled.
-pub(crate) fn ring_entry(
-    s: &[u8],
-    places: usize,
-    first: u8,
-    count: u8,
-    index: usize,
-) -> Option<ErrorEntry>
-    requires { (20 * places ≤ length s.now) × (0 < places) }
-    ensures { result ≡ nth (ring places s.now first (min count places)) index }
-{
-    if index < at_most(count as usize, places) {
-        let at = (first as usize + index) % places;
-        Some(read_entry(s, 20 * at))
-    } else {
-        None
-    }
+// A ring of so many places of an entry in lent bytes: the place of its first, and how many are filled. Every value is a
+// ring: a place is read modulo PLACES, and a count above it as PLACES.
+#[derive(Clone, Copy)]
+pub(crate) struct Ring<const PLACES: usize> {
+    pub(crate) first: u8,
+    pub(crate) count: u8,
 }
 
-// Copies the first n bytes.
-pub(crate) fn copy_front(to: &mut [u8], from: &[u8], n: usize)
-    requires { (n ≤ length to.old) × (n ≤ length from.now) }
-    ensures { to.new ≡ take n from.now ++ drop n to.old }
-{
-    let mut i = 0;
-    while i < n {
-        to[i] = from[i];
-        i += 1;
+impl<const PLACES: usize> Ring<PLACES> {
+    pub(crate) fn len(self) -> usize
+        ensures { result ≡ min self.entry.count PLACES }
+    {
+        (self.count as usize).min(PLACES)
+    }
+
+    // The place of the entry at an index.
+    pub(crate) fn place(self, index: usize) -> usize
+        requires { (0 < PLACES) × (index ≤ PLACES) × (PLACES ≤ 256) }
+        ensures { result ≡ (self.entry.first + index) % PLACES }
+    {
+        (self.first as usize + index) % PLACES
+    }
+
+    pub(crate) fn get(self, memory: &[u8], index: usize) -> Option<ErrorEntry>
+        requires { (20 * PLACES ≤ length memory.now) × (0 < PLACES) × (PLACES ≤ 256) }
+        ensures { result ≡ nth (ring PLACES memory.now self.entry.first (min self.entry.count PLACES)) index }
+    {
+        if index < self.len() {
+            Some(read_entry(memory, 20 * self.place(index)))
+        } else {
+            None
+        }
     }
 }

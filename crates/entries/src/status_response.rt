@@ -1,40 +1,25 @@
 // The error entry (EPSG DS 301, Tables 94 and 96): what it holds, and its 20 bytes.
 ghost use Rattle.std.specs.Prelude.{◌≡◌};
-ghost use Rattle.entries.specs.Entry.{mode_of, mode_number, read_mode, bit, type_number, type_of, entry_bytes, entry_in, crossing_entry};
+ghost use Rattle.entries.specs.Entry.{mode_of, mode_number, read_mode, type_number, type_of, entry_bytes, entry_in, crossing_entry};
 
 use crate::place;
 use types::common::NetTime;
 use types::frame::error::types::DllError;
 use types::refusals::Refusal;
 
-#[derive(Clone, Copy)]
+#[derive(Clone, Copy, PartialEq, Eq)]
 pub enum ErrorEntryMode {
-    Terminator,
-    ErrorActive,
-    ErrorCleared,
-    EventOccurred,
+    Terminator = 0,
+    ErrorActive = 1,
+    ErrorCleared = 2,
+    EventOccurred = 3,
 }
 
 impl ErrorEntryMode {
     pub fn as_u16(self) -> u16
         ensures { result ≡ mode_number self }
     {
-        match self {
-            ErrorEntryMode::Terminator => 0,
-            ErrorEntryMode::ErrorActive => 1,
-            ErrorEntryMode::ErrorCleared => 2,
-            ErrorEntryMode::EventOccurred => 3,
-        }
-    }
-
-    pub fn try_from(value: u8) -> Result<ErrorEntryMode, Refusal>
-        ensures { result ≡ read_mode value }
-    {
-        if value < 4 {
-            Ok(ErrorEntryMode::from_bits(value as u16))
-        } else {
-            Err(Refusal::UnknownNumber)
-        }
+        self as u16
     }
 
     // The mode of the lowest two bits: each of their values names one.
@@ -50,7 +35,22 @@ impl ErrorEntryMode {
     }
 }
 
-#[derive(Clone, Copy)]
+#[tactic(auto, using(crate::proofs::Entries::mode_below, crate::proofs::Entries::mode_above))]
+impl TryFrom<u8> for ErrorEntryMode {
+    type Error = Refusal;
+
+    ghost try_from_gives = { λ n r. r ≡ read_mode n };
+
+    fn try_from(value: u8) -> Result<Self, Refusal> {
+        if value < 4 {
+            Ok(ErrorEntryMode::from_bits(value as u16))
+        } else {
+            Err(Refusal::UnknownNumber)
+        }
+    }
+}
+
+#[derive(Clone, Copy, PartialEq, Eq)]
 pub struct EntryType {
     // A status entry, or one of the history.
     pub is_status_entry: bool,
@@ -61,16 +61,11 @@ pub struct EntryType {
     pub profile: u16,
 }
 
-fn bit_of(mark: bool) -> u16
-    ensures { result ≡ bit mark }
-{
-    if mark { 1 } else { 0 }
-}
+#[tactic(auto, unfolding(crate::specs::Entry::type_of))]
+impl From<u16> for EntryType {
+    ghost from_gives = { λ n t. t ≡ type_of n };
 
-impl EntryType {
-    pub fn from_u16(value: u16) -> Self
-        ensures { result ≡ type_of value }
-    {
+    fn from(value: u16) -> Self {
         let mode = ErrorEntryMode::from_bits(value / 4096);
         Self {
             is_status_entry: value / 32768 % 2 == 1,
@@ -79,16 +74,19 @@ impl EntryType {
             profile: value % 4096,
         }
     }
+}
 
-    // In the Rust a part of `serialize`. Of the profile the lowest twelve bits are kept.
-    pub fn to_u16(self) -> u16
-        ensures { result ≡ type_number self }
-    {
-        let mode = self.mode;
-        bit_of(self.is_status_entry) * 32768
-            + bit_of(self.send_to_queue) * 16384
+// In the Rust a part of `serialize`. Of the profile the lowest twelve bits are kept.
+#[tactic(auto, unfolding(crate::specs::Entry::type_number))]
+impl From<EntryType> for u16 {
+    ghost from_gives = { λ t n. n ≡ type_number t };
+
+    fn from(entry_type: EntryType) -> u16 {
+        let mode = entry_type.mode;
+        u16::from(entry_type.is_status_entry) * 32768
+            + u16::from(entry_type.send_to_queue) * 16384
             + mode.as_u16() * 4096
-            + self.profile % 4096
+            + entry_type.profile % 4096
     }
 }
 

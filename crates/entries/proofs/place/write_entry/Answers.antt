@@ -7,6 +7,7 @@ use lib.ListN.{drop}
 use Rattle.entries.specs.declared.status_response.ErrorEntry.{ErrorEntry}
 use Rattle.entries.specs.Entry.{type_number, bytes_of, entry_bytes}
 use Rattle.entries.specs.Ring.{written}
+use Rattle.entries.proofs.Numbers.{bytes_2, bytes_4, bytes_8}
 use Rattle.entries.proofs.Written.{written_next}
 use Rattle.entries.proofs.place.write_entry.Goals as goal
 
@@ -34,5 +35,9 @@ five e n s s₁ s₂ s₃ s₄ s₅ t h₁ h₂ h₃ h₄ h₅ =
 pub returns : goal.returns
 returns c =
     let e = c.args.entry in
-    five e _ _ _ _ _ _ _ c.to_u16.ensures c.put_number.ensures
-    c.put_number-2.ensures c.put_number-3.ensures c.put_number-4.ensures c.put_number-5.ensures
+    five e _ _ _ _ _ _ _ c.from.ensures
+    (rw (c.to_le_bytes.ensures, bytes_2 c.from.result) at c.put_bytes.ensures)
+    (rw (c.to_le_bytes-2.ensures, bytes_2 e.error_code) at c.put_bytes-2.ensures)
+    (rw (c.to_le_bytes-3.ensures, bytes_4 e.timestamp.seconds) at c.put_bytes-3.ensures)
+    (rw (c.to_le_bytes-4.ensures, bytes_4 e.timestamp.nanoseconds) at c.put_bytes-4.ensures)
+    (rw (c.to_le_bytes-5.ensures, bytes_8 e.additional_information) at c.put_bytes-5.ensures)

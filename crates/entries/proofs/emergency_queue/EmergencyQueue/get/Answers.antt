@@ -6,4 +6,4 @@ use Rattle.entries.proofs.emergency_queue.EmergencyQueue.get.Goals as goal
 pub returns : goal.returns
 unfolding waiting
 returns c =
-    c.ring_entry.ensures
+    rw (c.ring.ensures.0, c.ring.ensures.1) at c.get.ensures

@@ -2,6 +2,7 @@
 -- Assumes nothing.
 use mathlib.Core.Path.{◌≡◌}
 use mathlib.Core.Bool.{true, false}
+use native.Mathlib.Nat.{add-zero}
 use native.Mathlib.Omega.{arith}
 use borrow.Author.Tests.{lt-ltb, le-ltb}
 use lib.Dec.{ltb}
@@ -13,7 +14,8 @@ unfolding handed_out
 returns-then-length-gt0 c =
     let q = c.args.self in
     let some : ltb 0 (length_of q) ≡ true = lt-ltb 0 (length_of q) (omega arith) in
-    rw (some, c.at_most-length.ensures, c.read_entry-entry.ensures)
+    let ring = c.ring-ring.ensures in
+    rw (some, c.place-then-length-gt0.ensures, c.len-length.ensures, c.read_entry-entry.ensures, c.place.ensures, ring.0, ring.1, add-zero q.oldest)
 
 pub returns-else-length-gt0 : goal.returns-else-length-gt0
 unfolding handed_out

@@ -6,4 +6,4 @@ use Rattle.entries.proofs.error_history.ErrorHistory.load.Goals as goal
 pub returns : goal.returns
 unfolding loaded loaded_bytes
 returns c =
-    let n = c.at_most-count.ensures in (rw n, rw (← n) c.copy_front.ensures)
+    let n = c.min-count.ensures in (rw n, rw (← n, c.copy_from_slice.ensures.after))
