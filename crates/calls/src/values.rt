@@ -143,7 +143,7 @@ pub(crate) fn updates(given: Given) -> DictionaryUpdate
 fn mode_of(n: u64) -> ErrorEntryMode
     ensures { result ≡ mode_of n }
 {
-    let entry_type = EntryType::from_u16((n % 4) as u16 * 4096);
+    let entry_type = EntryType::from((n % 4) as u16 * 4096);
     entry_type.mode
 }
 

@@ -4,9 +4,10 @@ use Prim.Native.Nat.{ℕ, zero, suc, ◌+◌, ◌*◌, ◌/◌, ◌%◌, ◌^◌
 use mathlib.Core.Path.{◌≡◌, refl}
 use mathlib.Core.List.{List, [], ◌∷◌, ◌++◌}
 use native.Mathlib.Nat.{pow-suc, pow-succ', mul_assoc, div-div-eq-div-mul}
+use native.Mathlib.Numerals.{add-one}
 use native.Mathlib.Omega.{arith}
 use lib.ListN.{length, get_or, take, drop, length-drop}
-use lib.Seq.{drop-append-le, get_or-take}
+use lib.Seq.{drop-cons, drop-append-le, get_or-take}
 use Rattle.std.specs.List.{slice_index}
 use Rattle.std.specs.Int.{w16, w32, w64, from_le_bytes, to_le_bytes}
 use Rattle.entries.specs.Entry.{bytes_of, number_in, Bytes}
@@ -55,7 +56,15 @@ number_same k at p s t h =
     rw (drop-append-le at p s n, drop-append-le at p t n)
     (number_front k (drop at p) s t (rw length-drop (omega arith)))
 
--- the number in one byte more
+-- one byte more, in front
+pub number_more :
+    (k at : ℕ) (s : List ℕ) →
+    at < length s →
+    number_in (suc k) (drop at s) ≡ get_or s at 0 + 256 * number_in k (drop (at + 1) s)
+unfolding number_in
+number_more k at s h = rw (drop-cons s at 0 h, add-one)
+
+-- the number in one byte more, behind
 number_last : (k : ℕ) (s : List ℕ) → number_in (suc k) s ≡ number_in k s + 256 ^ k * get_or s k 0
 unfolding number_in
 number_last zero [] = refl

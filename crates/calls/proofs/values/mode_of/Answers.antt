@@ -12,4 +12,4 @@ unfolding mode_of type_of
 returns c =
     let n = c.args.n in
     let bits : n % 4 * 4096 / 4096 % 4 ≡ n % 4 = omega arith in
-    ap (λ (t : EntryType). t.mode) c.from_u16-entry_type.ensures ∙ rw bits
+    ap (λ (t : EntryType). t.mode) c.from-entry_type.ensures ∙ rw bits
