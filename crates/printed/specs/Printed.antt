@@ -1,39 +1,28 @@
--- What is printed, and how it gathers in a buffer.
+-- What is printed, and how it gathers on a page.
 -- Assumes nothing.
-use Rattle.std.specs.Prelude.{ℕ, zero, suc, ◌+◌, ◌*◌, ◌/◌, ◌%◌, Bool, true, List, [], ◌∷◌, ◌++◌, eqb, ltb, length, get_or, set, take, drop}
+use Rattle.std.specs.Prelude.{ℕ, zero, suc, ◌+◌, ◌%◌, Bool, true, List, [], ◌∷◌, ◌++◌, eqb, length, set, take, drop}
+use Rattle.std.specs.Fmt.{decimal}
 use Rattle.types.specs.Pick.{pick}
 use Rattle.forms.specs.Find.{index_of}
 use Rattle.forms.specs.Hex.{hex_digits, hex_form}
+use Rattle.printed.specs.declared.Page.{Page}
 use Rattle.printed.specs.Marks.{numbers_in, hides, number_in}
 
--- a place in the buffer, from its two bytes; the place of the next byte, which stands behind 65,536 bytes
-abbrev pub place_of : ℕ → ℕ → ℕ
-place_of low high = low + 256 * high
+abbrev pub page : List ℕ → ℕ → Page
+page bytes place = record { bytes = bytes; place = place }
 
-abbrev pub place_in : List ℕ → ℕ
-place_in b = place_of (get_or b 65536 0) (get_or b 65537 0)
+-- the same bytes, of which the first is next
+abbrev pub begun : Page → Page
+begun p = page p.bytes 0
 
--- the buffer with another place
-unfoldable pub placed : ℕ → List ℕ → List ℕ
-placed at b = set (set b 65536 (at % 256)) 65537 (at / 256)
+-- a byte more; behind the last of 65,536 places the first one is next
+abbrev pub put_in : ℕ → Page → Page
+put_in byte p = page (set p.bytes p.place byte) ((p.place + 1) % 65536)
 
--- the buffer with a byte more; behind the last place the first one is next
-unfoldable pub put_in : ℕ → List ℕ → List ℕ
-put_in byte b = placed (pick (eqb (place_in b) 65535) 0 (place_in b + 1)) (set b (place_in b) byte)
-
--- the buffer with a text more
-unfoldable pub laid : List ℕ → List ℕ → List ℕ
-laid [] b = b
-laid (c ∷ cs) b = laid cs (put_in c b)
-
--- a number of at most k digits in decimal, without leading zeros
-abbrev pub digits_of : ℕ → ℕ → List ℕ
-digits_of zero n = []
-digits_of (suc k) n = pick (ltb n 10) ((48 + n) ∷ []) (digits_of k (n / 10) ++ ((48 + n % 10) ∷ []))
-
--- a number of 64 bits has at most 20
-unfoldable pub decimal : ℕ → List ℕ
-decimal n = digits_of 20 n
+-- a text more
+abbrev pub laid : List ℕ → Page → Page
+laid [] p = p
+laid (c ∷ cs) p = laid cs (put_in c p)
 
 -- whether a character is not printed: `-`, and what opens and closes a group
 abbrev pub is_silent : ℕ → Bool
@@ -42,14 +31,14 @@ is_silent mark =
 
 -- a character of a form, where n is the number that follows: `#` is the number in decimal, `%` and `@` are its last two and four hexadecimal
 -- digits behind `0x`, `~` is a minus sign, and any other is printed as it is, or not at all
-unfoldable pub mark_text : ℕ → ℕ → List ℕ
+abbrev pub mark_text : ℕ → ℕ → List ℕ
 mark_text mark n =
     pick (eqb mark 35) (decimal n)
     (pick (eqb mark 37) (hex_form 2 n)
     (pick (eqb mark 64) (hex_form 4 n) (pick (eqb mark 126) (45 ∷ []) (pick (is_silent mark) [] (mark ∷ [])))))
 
 -- the same, where groups may hide it
-unfoldable pub shown_text : ℕ → ℕ → ℕ → List ℕ
+abbrev pub shown_text : ℕ → ℕ → ℕ → List ℕ
 shown_text hidden mark n = pick (eqb hidden 0) (mark_text mark n) []
 
 -- a form with its numbers from a place on, where so many groups hide its beginning

@@ -1,5 +1,5 @@
 // The lines of the script, gathered part by part.
-use printed::{Buffer, flush};
+use printed::Buffer;
 use script::LineBuffer;
 use script::lines::{Gathered, Part, gather};
 use std::io;
@@ -14,7 +14,7 @@ pub(crate) struct Input {
 
 // Reads the next part, after what has been printed is written; how many characters came, 0 at the end of the script.
 fn next_part(input: &mut Input, part: &mut Part, out: &mut Buffer) -> usize {
-    flush(out);
+    out.flush();
     match input.from.read(part) {
         Ok(count) => count,
         Err(error) => {

@@ -32,10 +32,7 @@ fn main(rt: HostRuntime) -> io::Result<()> {
     let mut rest = [0u64; 24];
     let mut desk = [0u8; 100];
     let mut answer = [0u64; 21];
-    let mut out = Buffer {
-        bytes: [0u8; 65538],
-        to: Output::new(rt.stdout()),
-    };
+    let mut out = Buffer::new(Output::new(rt.stdout()));
     let mut session = Session {
         started: false,
         places: 32,
@@ -71,7 +68,7 @@ fn main(rt: HostRuntime) -> io::Result<()> {
             break 'script;
         }
     }
-    printed::flush(&mut out);
+    out.flush();
     out.to.end()?;
     input.outcome
 }

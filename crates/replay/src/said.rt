@@ -1,12 +1,12 @@
 // What is printed of answers.
 use answers::Numbers;
 use head::state::Head;
-use printed::{Buffer, say, say_bits, say_by, say_entry, say_form};
+use printed::Buffer;
 use watched::nodes::NodeWords;
 
 // Prints the form that a key has, by the numbers of an answer in their order.
 fn say_as(out: &mut Buffer, key: u8, answer: &Numbers) {
-    say_by(out, &shown::forms::answers(), key, answer)
+    out.say_by(&shown::forms::answers(), key, answer)
 }
 
 // The watched nodes as bits, and how many these say.
@@ -14,16 +14,16 @@ pub(crate) fn say_bitmap(out: &mut Buffer, nodes: &NodeWords, count: usize) {
     let mut bytes = [0u8; 32];
     let said = shown::bits(nodes, count, &mut bytes);
     if said[0] != 0 {
-        return say_form(out, b"(refused #)\n", &said);
+        return out.say_form(b"(refused #)\n", &said);
     }
-    say_form(out, b"(taken (nodes -#)", &said);
-    say_bits(out, &bytes);
-    say(out, b")\n")
+    out.say_form(b"(taken (nodes -#)", &said);
+    out.say_bytes(&bytes);
+    out.say(b")\n")
 }
 
 // The line at a place that can't be read or played.
 pub(crate) fn say_unreadable(out: &mut Buffer, place: u64) {
-    say_form(out, b"(unreadable #)\n", &[place])
+    out.say_form(b"(unreadable #)\n", &[place])
 }
 
 // Prints the answer of a line by its key.
@@ -39,9 +39,9 @@ pub(crate) fn hand_out(out: &mut Buffer, head: &mut Head, queue: &[u8; 640], ans
     let mut bytes = [0u8; 20];
     calls::hand_out(head, queue, answer, &mut bytes);
     if answer[3] == 1 {
-        say(out, b"(taken (entry");
-        say_entry(out, &bytes);
-        return say(out, b"))\n");
+        out.say(b"(taken (entry");
+        out.say_bytes(&bytes);
+        return out.say(b"))\n");
     }
-    say(out, b"(taken none)\n")
+    out.say(b"(taken none)\n")
 }

@@ -4,13 +4,13 @@ ghost use Rattle.std.specs.Prelude.{◌≤◌};
 use crate::desk::show_desk;
 use head::state::Head;
 use played::Desk;
-use printed::{Buffer, say, say_entry, say_form};
+use printed::Buffer;
 use session::{Rest, Session, end_of, least, record};
 use watched::nodes::NodeWords;
 
 // The machines, the counters, the watch over the cycle, the dictionary and the capacity of the queue.
 fn show_parts(out: &mut Buffer, head: &Head) {
-    say_form(out, &shown::forms::parts(), &shown::parts(head))
+    out.say_form(&shown::forms::parts(), &shown::parts(head))
 }
 
 // The entries that wait, oldest first: at most 32.
@@ -20,9 +20,9 @@ fn show_queue(out: &mut Buffer, head: &Head, memory: &[u8; 640]) {
         if !shown::waiting_at(head, memory, i, &mut bytes) {
             break 'waiting;
         }
-        say_entry(out, &bytes);
+        out.say_bytes(&bytes);
     }
-    say(out, b")\n(history")
+    out.say(b")\n(history")
 }
 
 // The history's entries, newest first: at most 254.
@@ -32,9 +32,9 @@ fn show_history(out: &mut Buffer, head: &Head, memory: &[u8; 5080]) {
         if !shown::past_at(head, memory, i, &mut bytes) {
             break 'past;
         }
-        say_entry(out, &bytes);
+        out.say_bytes(&bytes);
     }
-    say(out, b")\n(watched")
+    out.say(b")\n(watched")
 }
 
 // The records from one place to another.
@@ -42,7 +42,7 @@ fn show_places(out: &mut Buffer, nodes: &NodeWords, rest: &Rest, from: usize, to
     requires { to ≤ 40 }
 {
     for place in from..to {
-        say_form(out, b" (# # #)", &record(nodes, rest, place));
+        out.say_form(b" (# # #)", &record(nodes, rest, place));
     }
 }
 
@@ -51,19 +51,17 @@ fn show_run(out: &mut Buffer, nodes: &NodeWords, rest: &Rest, session: Session) 
     let places = least(session.places, 40);
     let first = least(session.number, places);
     show_places(out, nodes, rest, 0, first);
-    say_form(
-        out,
+    out.say_form(
         b")\n(run (places #) (number #) (rest",
         &[places as u64, session.number as u64],
     );
     show_places(out, nodes, rest, first, end_of(nodes, rest, first, places));
-    say(out, b"))\n")
+    out.say(b"))\n")
 }
 
 // The earliest moment at which a watched node would be late, and the crossings of each of the seven kinds, in the order of their lines.
 fn show_crossings(out: &mut Buffer, head: &Head) {
-    say_form(
-        out,
+    out.say_form(
         b"(earliest {none}[#])\n\
         (crossings # # # # # # #)\n",
         &shown::crossings(head),
@@ -72,11 +70,7 @@ fn show_crossings(out: &mut Buffer, head: &Head) {
 
 // Their thresholds, in the same order.
 fn show_thresholds(out: &mut Buffer, head: &Head) {
-    say_form(
-        out,
-        b"(thresholds # # # # # # #)\n",
-        &shown::thresholds(head),
-    )
+    out.say_form(b"(thresholds # # # # # # #)\n", &shown::thresholds(head))
 }
 
 pub(crate) fn show(
