@@ -5,7 +5,7 @@ ghost use Rattle.counters.specs.Counters.{add_top, new_counter, incremented, dec
 use types::frame::error::types::{DllError, DllErrors, NmtAction};
 
 // A level that an error raises by 8 and an error-free cycle lowers by 1, and its threshold.
-#[derive(Clone, Copy)]
+#[derive(Clone, Copy, PartialEq, Eq)]
 pub struct ThresholdCounter {
     // How many errors there were.
     pub cumulative_cnt: u32,
@@ -182,7 +182,7 @@ impl Thresholds {
 }
 
 // The DLL error counters of a controlled node.
-#[derive(Clone, Copy)]
+#[derive(Clone, Copy, PartialEq, Eq)]
 pub struct CnErrorCounters {
     pub collision: ThresholdCounter,
     pub loss_of_soc: ThresholdCounter,

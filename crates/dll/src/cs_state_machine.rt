@@ -6,7 +6,7 @@ use types::frame::cs_state_machine::DllCsEvent;
 use types::frame::error::types::{DllError, DllErrors};
 use types::nmt::states::NmtState;
 
-#[derive(Clone, Copy)]
+#[derive(Clone, Copy, PartialEq, Eq)]
 pub enum DllCsState {
     // The isochronous communication is not active.
     NonCyclic,
@@ -16,6 +16,14 @@ pub enum DllCsState {
 }
 
 impl DllCsState {
+    // In the order of the enum.
+    pub const ALL: [DllCsState; 4] = [
+        DllCsState::NonCyclic,
+        DllCsState::WaitSoc,
+        DllCsState::WaitPreq,
+        DllCsState::WaitSoa,
+    ];
+
     // The state's place in the enum, from 0.
     pub fn as_u8(self) -> u8
         ensures { result ≡ cs_state_number self }
@@ -29,7 +37,7 @@ impl DllCsState {
     }
 }
 
-#[derive(Clone, Copy)]
+#[derive(Clone, Copy, PartialEq, Eq)]
 pub struct DllCsStateMachine {
     pub state: DllCsState,
 }

@@ -8,7 +8,7 @@ use crate::status_response::ErrorEntry;
 
 // Where the entries stand: the place of the oldest, how many wait, and how many may. Every value is a queue: a place
 // is read modulo 32, and a number above 32 as 32.
-#[derive(Clone, Copy)]
+#[derive(Clone, Copy, PartialEq, Eq)]
 pub struct EmergencyQueue {
     pub oldest: u8,
     pub length: u8,

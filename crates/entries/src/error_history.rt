@@ -8,7 +8,7 @@ use crate::status_response::ErrorEntry;
 
 // Where the entries stand: the place of the newest, and how many there are. Every value is a history: a place is read
 // modulo 254, and a count above 254 as 254.
-#[derive(Clone, Copy)]
+#[derive(Clone, Copy, PartialEq, Eq)]
 pub struct ErrorHistory {
     pub newest: u8,
     pub count: u8,

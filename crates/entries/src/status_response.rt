@@ -90,7 +90,7 @@ impl From<EntryType> for u16 {
     }
 }
 
-#[derive(Clone, Copy)]
+#[derive(Clone, Copy, PartialEq, Eq)]
 pub struct ErrorEntry {
     pub entry_type: EntryType,
     pub error_code: u16,

@@ -4,7 +4,7 @@
 pub type Head = [u32; 60];
 
 // The watch over the cycle.
-#[derive(Clone, Copy)]
+#[derive(Clone, Copy, PartialEq, Eq)]
 pub struct SocWatch {
     pub last_soc_reception_time_us: u64,
     pub soc_timeout_check_active: bool,
@@ -13,7 +13,7 @@ pub struct SocWatch {
 }
 
 // The dictionary values that a head keeps.
-#[derive(Clone, Copy)]
+#[derive(Clone, Copy, PartialEq, Eq)]
 pub struct Dictionary {
     // 0x1001
     pub error_register: u8,

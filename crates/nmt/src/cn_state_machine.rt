@@ -15,7 +15,7 @@ use types::nmt::flags::FeatureFlags;
 use types::nmt::states::NmtState;
 use types::types::NodeId;
 
-#[derive(Clone, Copy)]
+#[derive(Clone, Copy, PartialEq, Eq)]
 pub struct CnNmtStateMachine {
     pub current_state: NmtState,
     pub node_id: NodeId,

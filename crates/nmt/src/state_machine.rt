@@ -6,7 +6,7 @@ use types::nmt::events::NmtEvent;
 use types::nmt::states::NmtState;
 
 // The states that an event enters on its way to NotActive, in order.
-#[derive(Clone, Copy)]
+#[derive(Clone, Copy, PartialEq, Eq)]
 pub enum EnteredStates {
     None,
     Two(NmtState, NmtState),
@@ -16,21 +16,21 @@ pub enum EnteredStates {
 }
 
 // Indexes of the object dictionary, both included.
-#[derive(Clone, Copy)]
+#[derive(Clone, Copy, PartialEq, Eq)]
 pub struct IndexRange {
     pub first: u16,
     pub last: u16,
 }
 
 // The index ranges to restore to their power-on values, in order.
-#[derive(Clone, Copy)]
+#[derive(Clone, Copy, PartialEq, Eq)]
 pub enum RestoredRanges {
     None,
     One(IndexRange),
     Three(IndexRange, IndexRange, IndexRange),
 }
 
-#[derive(Clone, Copy)]
+#[derive(Clone, Copy, PartialEq, Eq)]
 pub struct ResetSequence {
     pub entered: EnteredStates,
     pub restored: RestoredRanges,

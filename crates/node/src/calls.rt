@@ -27,13 +27,13 @@ use types::nmt::states::NmtState;
 use types::refusals::Refusal;
 use watched::time::in_time;
 
-#[derive(Clone, Copy)]
+#[derive(Clone, Copy, PartialEq, Eq)]
 pub struct NmtTaken {
     pub errors: DllErrors,
     pub reset: ResetSequence,
 }
 
-#[derive(Clone, Copy)]
+#[derive(Clone, Copy, PartialEq, Eq)]
 pub struct ErrorTaken {
     pub action: NmtAction,
     pub signal: bool,

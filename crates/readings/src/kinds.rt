@@ -1,9 +1,8 @@
 // The kind behind each code of 16 bits.
-ghost use Rattle.std.specs.Prelude.{◌≡◌, ◌≤◌};
+ghost use Rattle.std.specs.Prelude.{◌≡◌};
 ghost use Rattle.types.specs.Kinds.{kind_behind};
 ghost use Rattle.readings.specs.Shown.{of_code};
 
-use crate::{say, say_hex4, say_number};
 use forms::output::Output;
 use types::frame::error::kinds::DllErrorKind;
 
@@ -16,29 +15,15 @@ fn kind(code: u64) -> Option<u8>
     }
 }
 
-// A line for a code that names a kind; how many codes, 1 or 0, name none.
-fn print_kind(out: &mut Output, code: u64) -> u64
-    ensures { result ≤ 1 }
-{
-    match kind(code) {
-        Some(place) => {
-            say(out, b"(kind ");
-            say_hex4(out, code);
-            say(out, b" ");
-            say_number(out, place as u64);
-            say(out, b")\n");
-            0
-        }
-        None => 1,
-    }
-}
-
+// A line for a code that names a kind, and how many codes name none.
 pub(crate) fn print_kinds(out: &mut Output) {
-    let mut refused = 0;
-    for code in 0..65536u64 {
-        refused += print_kind(out, code);
+    for code in 0..=u16::MAX {
+        if let Some(place) = kind(u64::from(code)) {
+            writeln!(out, "(kind {code:#06X} {place})");
+        }
     }
-    say(out, b"(kind refused ");
-    say_number(out, refused);
-    say(out, b")\n");
+    let refused = (0..=u16::MAX)
+        .filter(|&code| kind(u64::from(code)).is_none())
+        .count();
+    writeln!(out, "(kind refused {refused})");
 }

@@ -1,8 +1,4 @@
 // NetTime at ordinary values and at the limits.
-ghost use Rattle.std.specs.Prelude.{◌≡◌};
-ghost use Rattle.readings.specs.Shown.{time_at};
-
-use crate::{say, say_number};
 use forms::output::Output;
 use types::common::NetTime;
 
@@ -28,89 +24,64 @@ const NANOS: [u64; 5] = [
 ];
 
 // The times that are added to and compared.
-fn time(i: usize) -> NetTime
-    ensures { result ≡ time_at i }
-{
-    match i {
-        0 => NetTime::new(0, 0),
-        1 => NetTime::new(0, 999_999_999),
-        2 => NetTime::new(1, 500_000_000),
-        _ => NetTime::new(4_294_967_295, 999_999_999),
-    }
-}
-
-// Seconds and nanoseconds, each behind a space.
-fn say_pair(out: &mut Output, time: NetTime) {
-    say(out, b" ");
-    say_number(out, time.seconds as u64);
-    say(out, b" ");
-    say_number(out, time.nanoseconds as u64);
-}
-
-fn say_fields(out: &mut Output, time: NetTime) {
-    say(out, b" (seconds ");
-    say_number(out, time.seconds as u64);
-    say(out, b") (nanoseconds ");
-    say_number(out, time.nanoseconds as u64);
-    say(out, b")");
-}
-
-fn print_time(out: &mut Output, micros: u64) {
-    let time = NetTime::from_micros(micros);
-    say(out, b"(time ");
-    say_number(out, micros);
-    say_fields(out, time);
-    say(out, b" (nanos ");
-    say_number(out, time.as_nanos());
-    say(out, b"))\n");
-}
+const TIMES: [NetTime; 4] = [
+    NetTime {
+        seconds: 0,
+        nanoseconds: 0,
+    },
+    NetTime {
+        seconds: 0,
+        nanoseconds: 999_999_999,
+    },
+    NetTime {
+        seconds: 1,
+        nanoseconds: 500_000_000,
+    },
+    NetTime {
+        seconds: 4_294_967_295,
+        nanoseconds: 999_999_999,
+    },
+];
 
 pub(crate) fn print_times(out: &mut Output) {
-    for i in 0..10usize {
-        print_time(out, MICROS[i]);
+    for micros in MICROS {
+        let time = NetTime::from_micros(micros);
+        writeln!(
+            out,
+            "(time {micros} (seconds {}) (nanoseconds {}) (nanos {}))",
+            time.seconds,
+            time.nanoseconds,
+            time.as_nanos()
+        );
     }
-}
-
-fn print_addition(out: &mut Output, time: NetTime, nanos: u64) {
-    say(out, b"(add");
-    say_pair(out, time);
-    say(out, b" ");
-    say_number(out, nanos);
-    say_fields(out, time.add_nanos(nanos));
-    say(out, b")\n");
 }
 
 pub(crate) fn print_additions(out: &mut Output) {
-    for k in 0..20usize {
-        print_addition(out, time(k / 5), NANOS[k % 5]);
+    for time in TIMES {
+        for nanos in NANOS {
+            let sum = time.add_nanos(nanos);
+            writeln!(
+                out,
+                "(add {} {} {nanos} (seconds {}) (nanoseconds {}))",
+                time.seconds, time.nanoseconds, sum.seconds, sum.nanoseconds
+            );
+        }
     }
 }
 
-// A number that is not negative; a negative one is left out.
-fn say_natural(out: &mut Output, z: i64) {
-    if 0 <= z {
-        say_number(out, z as u64);
-    }
-}
-
-// The first time less the second; of a negative one the sign, and the other way round the number.
-fn print_difference(out: &mut Output, a: NetTime, b: NetTime) {
-    say(out, b"(difference");
-    say_pair(out, a);
-    say_pair(out, b);
-    let d = a.sub_net_time(b);
-    if d < 0 {
-        say(out, b" -");
-        say_natural(out, b.sub_net_time(a));
-    } else {
-        say(out, b" ");
-        say_natural(out, d);
-    }
-    say(out, b")\n");
-}
-
+// The first time less the second.
 pub(crate) fn print_differences(out: &mut Output) {
-    for k in 0..16usize {
-        print_difference(out, time(k / 4), time(k % 4));
+    for a in TIMES {
+        for b in TIMES {
+            writeln!(
+                out,
+                "(difference {} {} {} {} {})",
+                a.seconds,
+                a.nanoseconds,
+                b.seconds,
+                b.nanoseconds,
+                a.sub_net_time(b)
+            );
+        }
     }
 }

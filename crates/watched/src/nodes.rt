@@ -12,7 +12,7 @@ use crate::time::in_time;
 pub type NodeWords = [u64; 96];
 
 // What three words of a node stand for.
-#[derive(Clone, Copy)]
+#[derive(Clone, Copy, PartialEq, Eq)]
 pub struct WatchedNode {
     pub node: u8,
     // In microseconds; 0 never fires.

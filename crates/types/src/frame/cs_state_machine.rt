@@ -15,6 +15,16 @@ pub enum DllCsEvent {
 }
 
 impl DllCsEvent {
+    // In the order of the enum.
+    pub const ALL: [DllCsEvent; 6] = [
+        DllCsEvent::Soc,
+        DllCsEvent::Preq,
+        DllCsEvent::Pres,
+        DllCsEvent::Soa,
+        DllCsEvent::Asnd,
+        DllCsEvent::SocTimeout,
+    ];
+
     // The event's place in the enum, from 0.
     pub fn as_u8(self) -> u8
         ensures { result ≡ cs_event_number self }

@@ -119,6 +119,29 @@ impl TryFrom<u64> for NmtManagingCommand {
 }
 
 impl NmtEvent {
+    // In the order of the enum.
+    pub const ALL: [NmtEvent; 19] = [
+        NmtEvent::StartNode,
+        NmtEvent::StopNode,
+        NmtEvent::EnterPreOperational2,
+        NmtEvent::EnableReadyToOperate,
+        NmtEvent::Reset,
+        NmtEvent::SwReset,
+        NmtEvent::ResetNode,
+        NmtEvent::ResetCommunication,
+        NmtEvent::ResetConfiguration,
+        NmtEvent::EnterEplMode,
+        NmtEvent::Timeout,
+        NmtEvent::Error,
+        NmtEvent::SoAReceived,
+        NmtEvent::SocReceived,
+        NmtEvent::PowerlinkFrameReceived,
+        NmtEvent::CnConfigurationComplete,
+        NmtEvent::AllCnsIdentified,
+        NmtEvent::ConfigurationCompleteCnsReady,
+        NmtEvent::AllMandatoryCnsOperational,
+    ];
+
     // The event's place in the enum, from 0.
     pub fn as_u8(self) -> u8
         ensures { result ≡ event_number self }

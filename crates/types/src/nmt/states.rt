@@ -21,6 +21,22 @@ pub enum NmtState {
 }
 
 impl NmtState {
+    // In the order of the enum.
+    pub const ALL: [NmtState; 12] = [
+        NmtState::NmtGsOff,
+        NmtState::NmtGsInitialising,
+        NmtState::NmtGsResetApplication,
+        NmtState::NmtGsResetCommunication,
+        NmtState::NmtGsResetConfiguration,
+        NmtState::NmtNotActive,
+        NmtState::NmtPreOperational1,
+        NmtState::NmtPreOperational2,
+        NmtState::NmtReadyToOperate,
+        NmtState::NmtOperational,
+        NmtState::NmtCsStopped,
+        NmtState::NmtBasicEthernet,
+    ];
+
     pub fn as_u8(self) -> u8
         ensures { result ≡ state_number self }
     {
