@@ -1,6 +1,7 @@
 pub mod Cases
 pub mod Codes
 pub mod ErrorCases
+pub mod ErrorKinds
 pub mod Reading
 pub mod Refused
 pub mod Reported

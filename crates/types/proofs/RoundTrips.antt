@@ -8,6 +8,7 @@ use Rattle.types.specs.States.{state_number, states, read_state}
 use Rattle.types.specs.Events.{command_number, commands, read_command, managing_number, managings, read_managing, event_number, events, read_event}
 use Rattle.types.specs.CsEvents.{cs_event_number, cs_events, read_cs_event}
 use Rattle.types.specs.Frames.{message_number, messages, read_message}
+use Rattle.types.specs.Kinds.{kind_place, error_kinds, read_kind}
 use Rattle.types.specs.Errors.{Kind, kinds, carried, error_kind_of, read_error}
 use Rattle.types.specs.declared.refusals.Refusal.TheVariants.{UnknownNumber}
 use Rattle.std.specs.declared.result.Result.{Result}
@@ -20,7 +21,7 @@ use Rattle.types.specs.declared.nmt.events.NmtManagingCommand.{NmtManagingComman
 use Rattle.types.specs.declared.nmt.events.NmtManagingCommand.TheVariants.{NmtNetHostNameSet, NmtFlushArpEntry}
 use Rattle.types.specs.declared.frame.error.types.DllError.{DllError}
 use Rattle.types.specs.declared.frame.error.types.DllError.TheVariants.{LossOfLink, BadPhysicalMode, MacBuffer, Crc, Collision, InvalidFormat, LossOfSoc, LossOfSoa, LossOfPreq, LossOfPres, LossOfStatusRes, CycleTimeExceeded, LatePres, SoCJitter, MsWaitSoc, MultipleMn, AddressConflict, MevAsndTimeout, UnexpectedEventInState, PdoMapVersion, PdoPayloadShort, HeartbeatTimeout}
-use Rattle.types.proofs.Cases.{everywhere, NmtStates, NmtEvents, DllCsEvents, MessageTypes}
+use Rattle.types.proofs.Cases.{everywhere, NmtStates, NmtEvents, DllCsEvents, MessageTypes, DllErrorKinds}
 use Rattle.types.proofs.ErrorCases.{carried_a, carried_b}
 use Rattle.types.proofs.Reading.{Faithful, faithful, reads_holds}
 
@@ -74,6 +75,13 @@ cs_events_faithful =
     faithful cs_event_number Ok (Err UnknownNumber) (λ x y e. cc) cs_events
     (λ y e. let z : ◌≡◌ {A = ℕ} 0 1 = cc in omega arith)
     (everywhere DllCsEvents (λ e. read_cs_event (cs_event_number e)) Ok refl refl)
+
+pub kinds_faithful : Faithful kind_place Ok read_kind
+unfolding read_kind
+kinds_faithful =
+    faithful kind_place Ok (Err UnknownNumber) (λ x y e. cc) error_kinds
+    (λ y e. let z : ◌≡◌ {A = ℕ} 0 1 = cc in omega arith)
+    (everywhere DllErrorKinds (λ k. read_kind (kind_place k)) Ok refl refl)
 
 pub messages_faithful : Faithful message_number Ok read_message
 unfolding read_message

@@ -1,7 +1,9 @@
 -- The kinds of DLL errors, without what an error carries: their places, their codes (DS 301, Appendix 3.9), and the kind behind a code.
 -- Assumes nothing.
 use Rattle.std.specs.Prelude.{ℕ, ◌≡◌, Bool, true, false, List, [], ◌∷◌, eqb, get_or}
+use Rattle.types.specs.Pick.{read_by}
 use Rattle.types.specs.Refusals.{refusal_number}
+use Rattle.types.specs.declared.refusals.Refusal.TheVariants.{UnknownNumber}
 use Rattle.types.specs.declared.frame.error.kinds.DllErrorKind.{DllErrorKind}
 use Rattle.types.specs.declared.frame.error.kinds.DllErrorKind.TheVariants.{LossOfLink, BadPhysicalMode, MacBuffer, Crc, Collision, InvalidFormat, LossOfSoc, LossOfSoa, LossOfPreq, LossOfPres, LossOfStatusRes, CycleTimeExceeded, LatePres, SoCJitter, MsWaitSoc, MultipleMn, AddressConflict, MevAsndTimeout, UnexpectedEventInState, PdoMapVersion, PdoPayloadShort, HeartbeatTimeout}
 use Rattle.std.specs.declared.result.Result.{Result}
@@ -84,6 +86,9 @@ error_kinds =
     PdoPayloadShort ∷
     HeartbeatTimeout ∷
     []
+
+unfoldable pub read_kind : ℕ → Result DllErrorKind Refusal
+read_kind n = read_by kind_place Ok (Err UnknownNumber) error_kinds n
 
 abbrev pub kind_at : ℕ → DllErrorKind
 kind_at n = get_or error_kinds n LossOfLink

@@ -1,7 +1,7 @@
 // The kinds of DLL errors, without what an error carries: their places, their codes (EPSG DS 301, Appendix 3.9), and the kind behind a code.
-ghost use Rattle.std.specs.Prelude.{◌≡◌, ◌≤◌, ◌<◌, drop};
+ghost use Rattle.std.specs.Prelude.{◌≡◌};
 ghost use Rattle.types.specs.Errors.{kind_of};
-ghost use Rattle.types.specs.Kinds.{kind_place, kind_code, error_kinds, kind_at, with_code, kind_behind, kind_said};
+ghost use Rattle.types.specs.Kinds.{kind_place, kind_code, read_kind, kind_behind, kind_said};
 
 use crate::frame::error::types::DllError;
 use crate::refusals::Refusal;
@@ -33,7 +33,7 @@ pub enum DllErrorKind {
 }
 
 // All kinds, each at its place.
-const KINDS: [DllErrorKind; 22] = [
+static KINDS: [DllErrorKind; 22] = [
     DllErrorKind::LossOfLink,
     DllErrorKind::BadPhysicalMode,
     DllErrorKind::MacBuffer,
@@ -58,10 +58,10 @@ const KINDS: [DllErrorKind; 22] = [
     DllErrorKind::HeartbeatTimeout,
 ];
 
-impl DllErrorKind {
-    pub fn of(error: DllError) -> DllErrorKind
-        ensures { result ≡ kind_of error }
-    {
+impl From<DllError> for DllErrorKind {
+    ghost from_gives = { λ e k. k ≡ kind_of e };
+
+    fn from(error: DllError) -> Self {
         match error {
             DllError::LossOfLink => DllErrorKind::LossOfLink,
             DllError::BadPhysicalMode => DllErrorKind::BadPhysicalMode,
@@ -89,7 +89,44 @@ impl DllErrorKind {
             DllError::HeartbeatTimeout { node_id: _ } => DllErrorKind::HeartbeatTimeout,
         }
     }
+}
 
+#[tactic(auto, unfolding(crate::specs::Kinds::read_kind))]
+impl TryFrom<u64> for DllErrorKind {
+    type Error = Refusal;
+
+    ghost try_from_gives = { λ n r. r ≡ read_kind n };
+
+    fn try_from(value: u64) -> Result<Self, Refusal> {
+        match value {
+            0 => Ok(DllErrorKind::LossOfLink),
+            1 => Ok(DllErrorKind::BadPhysicalMode),
+            2 => Ok(DllErrorKind::MacBuffer),
+            3 => Ok(DllErrorKind::Crc),
+            4 => Ok(DllErrorKind::Collision),
+            5 => Ok(DllErrorKind::InvalidFormat),
+            6 => Ok(DllErrorKind::LossOfSoc),
+            7 => Ok(DllErrorKind::LossOfSoa),
+            8 => Ok(DllErrorKind::LossOfPreq),
+            9 => Ok(DllErrorKind::LossOfPres),
+            10 => Ok(DllErrorKind::LossOfStatusRes),
+            11 => Ok(DllErrorKind::CycleTimeExceeded),
+            12 => Ok(DllErrorKind::LatePres),
+            13 => Ok(DllErrorKind::SoCJitter),
+            14 => Ok(DllErrorKind::MsWaitSoc),
+            15 => Ok(DllErrorKind::MultipleMn),
+            16 => Ok(DllErrorKind::AddressConflict),
+            17 => Ok(DllErrorKind::MevAsndTimeout),
+            18 => Ok(DllErrorKind::UnexpectedEventInState),
+            19 => Ok(DllErrorKind::PdoMapVersion),
+            20 => Ok(DllErrorKind::PdoPayloadShort),
+            21 => Ok(DllErrorKind::HeartbeatTimeout),
+            _ => Err(Refusal::UnknownNumber),
+        }
+    }
+}
+
+impl DllErrorKind {
     // The kind's place in the enum, from 0.
     pub fn place(self) -> u8
         ensures { result ≡ kind_place self }
@@ -126,27 +163,15 @@ impl DllErrorKind {
     pub fn from_error_code(code: u64) -> Result<DllErrorKind, Refusal>
         ensures { kind_said result ≡ kind_behind code }
     {
-        let first = next_with(code, 0);
-        if first == 22 {
-            return Err(Refusal::NoSingleKind);
+        let mut found = None;
+        for kind in &KINDS {
+            if u64::from(kind.to_error_code()) == code {
+                if found.is_some() {
+                    return Err(Refusal::NoSingleKind);
+                }
+                found = Some(*kind);
+            }
         }
-        if next_with(code, first + 1) < 22 {
-            return Err(Refusal::NoSingleKind);
-        }
-        Ok(KINDS[first])
+        found.ok_or(Refusal::NoSingleKind)
     }
-}
-
-// The place of the first kind with the code from a place on; 22 where none has it.
-fn next_with(code: u64, from: usize) -> usize
-    requires { from ≤ 22 }
-    ensures { (result ≤ 22) × ((with_code code (drop from error_kinds) ≡ with_code code (drop result error_kinds)) × (result < 22 → kind_code (kind_at result) ≡ code)) }
-{
-    for place in from..22 {
-        let kind = KINDS[place];
-        if kind.to_error_code() as u64 == code {
-            return place;
-        }
-    }
-    22
 }

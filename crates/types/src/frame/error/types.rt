@@ -1,7 +1,7 @@
 // The errors of the data link layer (EPSG DS 301, Section 4.7), and what they ask of NMT.
 ghost use Rattle.std.specs.Prelude.{◌≡◌};
-ghost use Rattle.types.specs.Errors.{error_kind_of, error_code, read_error, carried};
-ghost use Rattle.types.specs.Types.{read_node};
+ghost use Rattle.types.specs.Errors.{error_kind_of, error_code, read_error};
+ghost use Rattle.types.specs.Kinds.{kind_place};
 
 use crate::frame::error::kinds::DllErrorKind;
 use crate::refusals::Refusal;
@@ -54,53 +54,64 @@ impl DllError {
     pub fn kind(self) -> u8
         ensures { result ≡ error_kind_of self }
     {
-        DllErrorKind::of(self).place()
+        DllErrorKind::from(self).place()
     }
 
     pub fn to_error_code(self) -> u16
         ensures { result ≡ error_code self }
     {
-        DllErrorKind::of(self).to_error_code()
+        DllErrorKind::from(self).to_error_code()
     }
 
     // An error from its kind; a is its node, or a and b are its state and event. What a kind does not carry is not looked at.
     pub fn try_from(kind: u64, a: u8, b: u8) -> Result<DllError, Refusal>
         ensures { result ≡ read_error kind a b }
     {
-        match kind {
-            0 => Ok(DllError::LossOfLink),
-            1 => Ok(DllError::BadPhysicalMode),
-            2 => Ok(DllError::MacBuffer),
-            3 => Ok(DllError::Crc),
-            4 => Ok(DllError::Collision),
-            5 => Ok(DllError::InvalidFormat),
-            6 => Ok(DllError::LossOfSoc),
-            7 => Ok(DllError::LossOfSoa),
-            8 => Ok(DllError::LossOfPreq),
-            9 => carrying(a, DllError::LossOfPres { node_id: NodeId(a) }),
-            10 => carrying(a, DllError::LossOfStatusRes { node_id: NodeId(a) }),
-            11 => Ok(DllError::CycleTimeExceeded),
-            12 => carrying(a, DllError::LatePres { node_id: NodeId(a) }),
-            13 => Ok(DllError::SoCJitter),
-            14 => Ok(DllError::MsWaitSoc),
-            15 => Ok(DllError::MultipleMn),
-            16 => Ok(DllError::AddressConflict),
-            17 => Ok(DllError::MevAsndTimeout),
-            18 => Ok(DllError::UnexpectedEventInState { state: a, event: b }),
-            19 => carrying(a, DllError::PdoMapVersion { node_id: NodeId(a) }),
-            20 => carrying(a, DllError::PdoPayloadShort { node_id: NodeId(a) }),
-            21 => carrying(a, DllError::HeartbeatTimeout { node_id: NodeId(a) }),
-            _ => Err(Refusal::UnknownNumber),
-        }
+        DllError::of_kind(DllErrorKind::try_from(kind)?, a, b)
     }
-}
 
-// An error that carries the node a, taken where a is a node number.
-fn carrying(a: u8, error: DllError) -> Result<DllError, Refusal>
-    ensures { result ≡ carried (read_node a) error }
-{
-    match NodeId::try_from(a) {
-        Ok(_) => Ok(error),
-        Err(refusal) => Err(refusal),
+    #[tactic(auto, unfolding(crate::specs::Errors::read_error, crate::specs::Types::read_node))]
+    fn of_kind(kind: DllErrorKind, a: u8, b: u8) -> Result<DllError, Refusal>
+        ensures { result ≡ read_error (kind_place kind) a b }
+    {
+        match kind {
+            DllErrorKind::LossOfLink => Ok(DllError::LossOfLink),
+            DllErrorKind::BadPhysicalMode => Ok(DllError::BadPhysicalMode),
+            DllErrorKind::MacBuffer => Ok(DllError::MacBuffer),
+            DllErrorKind::Crc => Ok(DllError::Crc),
+            DllErrorKind::Collision => Ok(DllError::Collision),
+            DllErrorKind::InvalidFormat => Ok(DllError::InvalidFormat),
+            DllErrorKind::LossOfSoc => Ok(DllError::LossOfSoc),
+            DllErrorKind::LossOfSoa => Ok(DllError::LossOfSoa),
+            DllErrorKind::LossOfPreq => Ok(DllError::LossOfPreq),
+            DllErrorKind::LossOfPres => Ok(DllError::LossOfPres {
+                node_id: NodeId::try_from(a)?,
+            }),
+            DllErrorKind::LossOfStatusRes => Ok(DllError::LossOfStatusRes {
+                node_id: NodeId::try_from(a)?,
+            }),
+            DllErrorKind::CycleTimeExceeded => Ok(DllError::CycleTimeExceeded),
+            DllErrorKind::LatePres => Ok(DllError::LatePres {
+                node_id: NodeId::try_from(a)?,
+            }),
+            DllErrorKind::SoCJitter => Ok(DllError::SoCJitter),
+            DllErrorKind::MsWaitSoc => Ok(DllError::MsWaitSoc),
+            DllErrorKind::MultipleMn => Ok(DllError::MultipleMn),
+            DllErrorKind::AddressConflict => Ok(DllError::AddressConflict),
+            DllErrorKind::MevAsndTimeout => Ok(DllError::MevAsndTimeout),
+            DllErrorKind::UnexpectedEventInState => Ok(DllError::UnexpectedEventInState {
+                state: a,
+                event: b,
+            }),
+            DllErrorKind::PdoMapVersion => Ok(DllError::PdoMapVersion {
+                node_id: NodeId::try_from(a)?,
+            }),
+            DllErrorKind::PdoPayloadShort => Ok(DllError::PdoPayloadShort {
+                node_id: NodeId::try_from(a)?,
+            }),
+            DllErrorKind::HeartbeatTimeout => Ok(DllError::HeartbeatTimeout {
+                node_id: NodeId::try_from(a)?,
+            }),
+        }
     }
 }

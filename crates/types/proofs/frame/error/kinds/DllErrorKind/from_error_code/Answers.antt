@@ -1,35 +1,28 @@
--- `types::frame::error::kinds::DllErrorKind::from_error_code` meets its contract: the searches say how many kinds have the code.
+-- `types::frame::error::kinds::DllErrorKind::from_error_code` meets its contract: the search says how many kinds have the code.
 -- Assumes nothing.
-use Prim.Native.Nat.{ℕ, ◌≤◌, ◌<◌}
-use mathlib.Core.Path.{◌≡◌}
-use native.Mathlib.Omega.{arith}
-use Rattle.types.proofs.Searching.{none, several, one}
+use Rattle.std.proofs.Common.{arith, refl}
+use mathlib.Core.Path.{sym, ◌∙◌}
+use Rattle.types.proofs.Searching.{passes, finds, several, ends}
 use Rattle.types.proofs.frame.error.kinds.DllErrorKind.from_error_code.Goals as goal
+use Rattle.types.proofs.frame.error.kinds.DllErrorKind.from_error_code.Goals.{then-from-code+else-is_some, else-from-code}
 
-under : {n : ℕ} → n ≤ 22 → (n ≡ 22 → ⊥) → n < 22
-under h k = omega arith
+pub loop-kind-init : goal.loop-kind-init
+loop-kind-init c = record { split = refl }
 
-below : {n m : ℕ} → n < m → m ≤ 22 → n < 22
-below h k = omega arith
+pub returns-then-is_some : goal.returns-then-is_some
+returns-then-is_some c =
+    let l = c.loop-kind in
+    several _ l.kind-index c.loop-kind-test.true l.found (sym c.if-is_some.ensures) l.invariant (sym c.to_error_code.ensures ∙ sym c.from.ensures ∙ c.if-from-code.true)
 
-at_end : {n : ℕ} → n ≤ 22 → 22 ≤ n → n ≡ 22
-at_end h k = omega arith
-
-pub returns-then-first-eq22 : goal.returns-then-first-eq22
-returns-then-first-eq22 c =
-    none _ _ c.next_with-first.ensures.1.0 c.if-first-eq22.true
-
-pub returns-then-next_with-lt22 : goal.returns-then-next_with-lt22
-returns-then-next_with-lt22 c =
-    let f = c.next_with-first.ensures in
-    let inside = under f.0 c.if-first-eq22.false in
-    let further = c.next_with.ensures in
-    let another = below c.if-next_with-lt22.true (omega arith) in
-    several _ _ f.1.0 inside (f.1.1 inside) _ further.1.0 another (further.1.1 another)
+pub loop-kind-preserved : goal.loop-kind-preserved
+loop-kind-preserved c =
+    let l = c.loop-kind in
+    elim c.if-from-code.branch [
+      | then-from-code+else-is_some w ↦ rw w.found-is (finds _ l.kind-index c.loop-kind-test.true l.found (sym w.if-is_some.ensures) l.invariant (sym c.to_error_code.ensures ∙ sym c.from.ensures ∙ w.if-from-code.true))
+      | else-from-code w ↦ rw w.found-is (passes _ l.kind-index c.loop-kind-test.true l.invariant (λ h. w.if-from-code.false (c.from.ensures ∙ c.to_error_code.ensures ∙ h)))
+    ]
 
 pub returns : goal.returns
 returns c =
-    let f = c.next_with-first.ensures in
-    let inside = under f.0 c.if-first-eq22.false in
-    let further = c.next_with.ensures in
-    one _ _ f.1.0 inside (f.1.1 inside) _ further.1.0 (at_end further.0 c.if-next_with-lt22.false)
+    let l = c.loop-kind in
+    rw c.ok_or.ensures.value (ends _ l.kind-index l.found l.invariant (omega arith))

@@ -1,123 +1,16 @@
--- `types::frame::error::types::DllError::try_from` meets its contract: each arm is told its kind, and the last that the kind is none of them.
+-- `types::frame::error::types::DllError::try_from` meets its contract: the kind is read first.
 -- Assumes nothing.
-use Rattle.types.specs.Errors.{Kind, kinds, read_error}
-use Rattle.types.specs.declared.refusals.Refusal.TheVariants.{UnknownNumber}
+use Rattle.std.proofs.Common.{rules, ◌≡◌}
+use mathlib.Core.Path.{◌∙◌}
 use Rattle.std.specs.declared.result.Result.TheVariants.{Err}
-use Rattle.types.proofs.Reading.{reads_none}
+use Rattle.types.proofs.ErrorKinds.{of_known, of_unknown}
 use Rattle.types.proofs.frame.error.types.DllError.try_from.Goals as goal
 
-pub returns-in-0 : goal.returns-in-0
-unfolding read_error
-returns-in-0 c =
-    rw c.in-0.is
+pub returns-in_err-try_from : goal.returns-in_err-try_from
+returns-in_err-try_from c =
+    let r : c.from_residual.result ≡ Err c.in_err-try_from.field-0.0 = search rules in
+    r ∙ of_unknown c.args.kind _ _ (search rules)
 
-pub returns-in-1 : goal.returns-in-1
-unfolding read_error
-returns-in-1 c =
-    rw c.in-1.is
-
-pub returns-in-2 : goal.returns-in-2
-unfolding read_error
-returns-in-2 c =
-    rw c.in-2.is
-
-pub returns-in-3 : goal.returns-in-3
-unfolding read_error
-returns-in-3 c =
-    rw c.in-3.is
-
-pub returns-in-4 : goal.returns-in-4
-unfolding read_error
-returns-in-4 c =
-    rw c.in-4.is
-
-pub returns-in-5 : goal.returns-in-5
-unfolding read_error
-returns-in-5 c =
-    rw c.in-5.is
-
-pub returns-in-6 : goal.returns-in-6
-unfolding read_error
-returns-in-6 c =
-    rw c.in-6.is
-
-pub returns-in-7 : goal.returns-in-7
-unfolding read_error
-returns-in-7 c =
-    rw c.in-7.is
-
-pub returns-in-8 : goal.returns-in-8
-unfolding read_error
-returns-in-8 c =
-    rw c.in-8.is
-
-pub returns-in-9 : goal.returns-in-9
-unfolding read_error
-returns-in-9 c =
-    rw (c.carrying.ensures, c.in-9.is)
-
-pub returns-in-10 : goal.returns-in-10
-unfolding read_error
-returns-in-10 c =
-    rw (c.carrying-in-10.ensures, c.in-10.is)
-
-pub returns-in-11 : goal.returns-in-11
-unfolding read_error
-returns-in-11 c =
-    rw c.in-11.is
-
-pub returns-in-12 : goal.returns-in-12
-unfolding read_error
-returns-in-12 c =
-    rw (c.carrying-in-12.ensures, c.in-12.is)
-
-pub returns-in-13 : goal.returns-in-13
-unfolding read_error
-returns-in-13 c =
-    rw c.in-13.is
-
-pub returns-in-14 : goal.returns-in-14
-unfolding read_error
-returns-in-14 c =
-    rw c.in-14.is
-
-pub returns-in-15 : goal.returns-in-15
-unfolding read_error
-returns-in-15 c =
-    rw c.in-15.is
-
-pub returns-in-16 : goal.returns-in-16
-unfolding read_error
-returns-in-16 c =
-    rw c.in-16.is
-
-pub returns-in-17 : goal.returns-in-17
-unfolding read_error
-returns-in-17 c =
-    rw c.in-17.is
-
-pub returns-in-18 : goal.returns-in-18
-unfolding read_error
-returns-in-18 c =
-    rw c.in-18.is
-
-pub returns-in-19 : goal.returns-in-19
-unfolding read_error
-returns-in-19 c =
-    rw (c.carrying-in-19.ensures, c.in-19.is)
-
-pub returns-in-20 : goal.returns-in-20
-unfolding read_error
-returns-in-20 c =
-    rw (c.carrying-in-20.ensures, c.in-20.is)
-
-pub returns-in-21 : goal.returns-in-21
-unfolding read_error
-returns-in-21 c =
-    rw (c.carrying-in-21.ensures, c.in-21.is)
-
-pub returns-in_default : goal.returns-in_default
-unfolding read_error
-returns-in_default c =
-    let a = c.args in
-    reads_none (λ (r : Kind). r.number) (λ (r : Kind). r.answer) (Err UnknownNumber) Unit (kinds a.a a.b) a.kind c.in_default.in_default-own.rest
+pub returns : goal.returns
+returns c =
+    c.of_kind.ensures ∙ of_known c.args.kind _ _ (search rules)
