@@ -36,8 +36,6 @@ shift:
 test:
 	@echo "Checking public contracts and the documents' references."
 	@sh tests/documents.sh
-	@echo "Checking that the laws which a script writes are what it writes."
-	@python3 scripts/lent_laws.py --check
 	@echo "Checking that the page of NMT transitions is the output that its program is held to."
 	@cmp docs/TRANSITIONS.md crates/chart/stdout
 	@echo "Checking the script that replay is run on."

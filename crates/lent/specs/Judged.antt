@@ -45,3 +45,6 @@ TicksBy ws q m k t s r ws' q' m' =
 
 abbrev pub tick_done : Dealt → ℕ → Bool → ℕ → TickDone
 tick_done d k checks t = record { answer = Ok d.logged; settling = settling_of k (pick checks (Looked t) Nothing) }
+
+abbrev pub tick_declined : Refusal → TickDone
+tick_declined r = record { answer = Err r; settling = settles_nothing }

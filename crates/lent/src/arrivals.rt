@@ -10,9 +10,10 @@ use crate::run::{Setting, Surveyed, ask, passes, survey};
 use counters::counters::ThresholdCounter;
 use head::parts::whole;
 use head::state::Head;
+use lentlaws::{scan, scan_back};
 use partners::{is_known, try_add, try_remove};
-use watched::nodes::WatchedNode;
 use types::refusals::Refusal;
+use watched::nodes::WatchedNode;
 
 // The record that takes the next place, where there is one: so many of the places ahead are watched.
 #[derive(Clone, Copy)]
@@ -121,16 +122,13 @@ pub fn carry_next(carrying: Carrying, w: WatchedNode) -> Carried
 }
 
 // All places, from the first.
-pub fn carry(nodes: &mut [WatchedNode], mut carrying: Carrying)
+pub fn carry(nodes: &mut [WatchedNode], carrying: Carrying)
     ensures { nodes.new ≡ carried_all carrying nodes.old }
 {
-    let mut i = 0;
-    while i < nodes.len() {
-        let next = carry_next(carrying, nodes[i]);
-        nodes[i] = next.node;
-        carrying = next.carrying;
-        i += 1;
-    }
+    scan(nodes, carrying, |carrying, w| {
+        let next = carry_next(carrying, w);
+        (next.node, next.carrying)
+    })
 }
 
 // What one place becomes: below the node it stays, from there on it takes what stood behind it, and it is cleared where that is not watched.
@@ -183,16 +181,13 @@ pub fn close_next(closing: Closing, w: WatchedNode) -> Closed
 }
 
 // All places, from the last.
-pub fn close(nodes: &mut [WatchedNode], mut closing: Closing)
+pub fn close(nodes: &mut [WatchedNode], closing: Closing)
     ensures { nodes.new ≡ closed_all closing nodes.old }
 {
-    let mut i = nodes.len();
-    while 0 < i {
-        i -= 1;
-        let next = close_next(closing, nodes[i]);
-        nodes[i] = next.node;
-        closing = next.closing;
-    }
+    scan_back(nodes, closing, |closing, w| {
+        let next = close_next(closing, w);
+        (next.node, next.closing)
+    })
 }
 
 // An add, by what was found of the run.

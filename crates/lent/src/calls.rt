@@ -14,8 +14,8 @@ use head::state::{Dictionary, Head};
 use node::heard::{moment, try_heard};
 use start::start::begin;
 use types::nmt::flags::FeatureFlags;
-use watched::nodes::WatchedNode;
 use types::refusals::Refusal;
+use watched::nodes::WatchedNode;
 
 // What a call answers, and what it sets.
 #[derive(Clone, Copy)]

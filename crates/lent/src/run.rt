@@ -10,6 +10,7 @@ use counters::counters::{CounterKind, ThresholdCounter};
 use head::parts::{counter_of, state_at};
 use head::state::Head;
 use heartbeats::heartbeats::{is_late, looked};
+use lentlaws::{fold, scan};
 use tick::tick::checks_heartbeats;
 use watched::nodes::{NEVER, WatchedNode, follows, heard_by, sooner};
 
@@ -312,15 +313,10 @@ pub fn see_place(survey: Surveyed, w: WatchedNode) -> Surveyed
 }
 
 // All places, in order; none is changed.
-pub fn survey(nodes: &mut [WatchedNode], mut seen: Surveyed) -> Surveyed
-    ensures { (nodes.new ≡ nodes.old) × (result ≡ surveyed seen nodes.old) }
+pub fn survey(nodes: &[WatchedNode], seen: Surveyed) -> Surveyed
+    ensures { result ≡ surveyed seen nodes.now }
 {
-    let mut i = 0;
-    while i < nodes.len() {
-        seen = see_place(seen, nodes[i]);
-        i += 1;
-    }
-    seen
+    fold(nodes, seen, |seen, w| see_place(seen, w))
 }
 
 // One place: past the number it stays as it is.
@@ -346,14 +342,11 @@ pub fn set_next(settling: Settling, w: WatchedNode) -> Settled
 }
 
 // All places.
-pub fn settle(nodes: &mut [WatchedNode], mut settling: Settling)
+pub fn settle(nodes: &mut [WatchedNode], settling: Settling)
     ensures { nodes.new ≡ settled_all settling nodes.old }
 {
-    let mut i = 0;
-    while i < nodes.len() {
-        let next = set_next(settling, nodes[i]);
-        nodes[i] = next.node;
-        settling = next.settling;
-        i += 1;
-    }
+    scan(nodes, settling, |settling, w| {
+        let next = set_next(settling, w);
+        (next.node, next.settling)
+    })
 }

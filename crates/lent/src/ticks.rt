@@ -11,7 +11,7 @@ ghost use Rattle.heartbeats.specs.PartsIn.{TicksIn};
 ghost use Rattle.lent.specs.Runs.{beats_all};
 ghost use Rattle.tick.specs.TickIn.{TickedOn};
 ghost use Rattle.watched.specs.Watched.{run};
-ghost use Rattle.lent.specs.Judged.{TicksBy, tick_done, settles_nothing};
+ghost use Rattle.lent.specs.Judged.{TicksBy, tick_done, tick_declined};
 
 use crate::run::{Beats, Setting, Settling, Surveyed, for_tick, look_if, passes, settle, survey};
 use counters::counters::CounterKind;
@@ -35,7 +35,7 @@ pub struct TickDone {
 }
 
 fn not_taken(refusal: Refusal) -> TickDone
-    ensures { result ≡ record { answer = Result<DllErrors, Refusal>.Refused refusal; settling = settles_nothing } }
+    ensures { result ≡ tick_declined refusal }
 {
     TickDone {
         answer: Err(refusal),

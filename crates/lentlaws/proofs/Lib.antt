@@ -1,15 +1,2 @@
-pub mod Lone
-pub mod Values
-pub mod Runs
-pub mod Views
-pub mod Change
-pub mod ChangeAnswer
-pub mod Fold
 pub mod ScanLaws
-pub mod Scan
-pub mod ScanBack
-pub mod JudgedHeard
-pub mod JudgedStart
-pub mod JudgedTick
-pub mod JudgedAdd
-pub mod JudgedRemove
+pub mod Walks
