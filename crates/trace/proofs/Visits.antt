@@ -12,7 +12,9 @@ use Rattle.types.specs.declared.nmt.states.NmtState.{NmtState}
 use Rattle.types.specs.declared.nmt.states.NmtState.TheVariants.{NmtGsInitialising, NmtPreOperational2, NmtReadyToOperate}
 use Rattle.types.specs.declared.nmt.events.NmtEvent.{NmtEvent}
 use Rattle.types.specs.declared.nmt.events.NmtEvent.TheVariants.{Error, Timeout, CnConfigurationComplete}
+use Rattle.std.specs.declared.result.Result.{Result}
 use Rattle.std.specs.declared.result.Result.TheVariants.{Ok}
+use Rattle.types.specs.declared.refusals.Refusal.{Refusal}
 use Rattle.types.proofs.Cases.{NmtEvents}
 use Rattle.types.proofs.RoundTrips.{events_faithful}
 use Rattle.types.proofs.Tests.{both_first, both_second, either_cases}
@@ -225,7 +227,7 @@ word_test m = refl
 
 event_is : (d e : NmtEvent) → same_event d e ≡ true → d ≡ e
 event_is d e h =
-    let t : ◌≡◌ {A = Result DllError Refusal} (Ok d) (Ok e) =
+    let t : ◌≡◌ {A = Result NmtEvent Refusal} (Ok d) (Ok e) =
     sym (events_faithful.back d) ∙ ap read_event (eqb-true (event_number d) (event_number e) h) ∙ events_faithful.back e in
     cc
 
