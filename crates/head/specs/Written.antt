@@ -30,26 +30,31 @@ abbrev pub counter_written : List ℕ → CounterKind → ThresholdCounter → L
 counter_written ws k c =
     slice_set (slice_set (slice_set ws (at.counter k) c.cumulative_cnt) (at.counter k + 1) c.threshold_cnt) (at.counter k + 3) c.crossings_cnt
 
-abbrev pub level_written : CnErrorCounters → CounterKind → List ℕ → List ℕ
-level_written s k ws = slice_set ws (at.counter k + 1) (counter k s).threshold_cnt
+-- of each counter one of its four words, the n-th
+abbrev pub each_written : List ℕ → ℕ → (CounterKind → ℕ) → List ℕ
+each_written ws n f =
+    slice_set (slice_set (slice_set (slice_set (slice_set (slice_set (slice_set ws
+    (at.counter Collision + n) (f Collision)) (at.counter LossOfSoc + n) (f LossOfSoc)) (at.counter LossOfSoa + n) (f LossOfSoa))
+    (at.counter LossOfPreq + n) (f LossOfPreq)) (at.counter SoCJitter + n) (f SoCJitter)) (at.counter Crc + n) (f Crc))
+    (at.counter HeartbeatTimeout + n) (f HeartbeatTimeout)
 
 -- a completed cycle changes the levels
 abbrev pub levels_written : List ℕ → CnErrorCounters → List ℕ
-levels_written ws s =
-    level_written s HeartbeatTimeout (level_written s Crc (level_written s SoCJitter (level_written s LossOfPreq
-    (level_written s LossOfSoa (level_written s LossOfSoc (level_written s Collision ws))))))
+levels_written ws s = each_written ws 1 (λ (k : CounterKind). (counter k s).threshold_cnt)
 
 abbrev pub time_written : List ℕ → ℕ → ℕ → List ℕ
 time_written ws i t = slice_set (slice_set ws i (t % 4294967296)) (i + 1) (t / 4294967296)
 
 -- where there is no moment, its time stays as it was
+abbrev pub moment_written : List ℕ → ℕ → ℕ → Option ℕ → List ℕ
+moment_written ws there i (Some t) = time_written (slice_set ws there 1) i t
+moment_written ws there i None = slice_set ws there 0
+
 abbrev pub deadline_written : List ℕ → Option ℕ → List ℕ
-deadline_written ws (Some t) = time_written (slice_set ws at.due 1) at.deadline t
-deadline_written ws None = slice_set ws at.due 0
+deadline_written ws d = moment_written ws at.due at.deadline d
 
 abbrev pub earliest_written : List ℕ → Option ℕ → List ℕ
-earliest_written ws (Some t) = time_written (slice_set ws at.awaited 1) at.earliest t
-earliest_written ws None = slice_set ws at.awaited 0
+earliest_written ws d = moment_written ws at.awaited at.earliest d
 
 abbrev pub soc_written : List ℕ → SocWatch → List ℕ
 soc_written ws s =
@@ -74,13 +79,8 @@ abbrev pub identity_written : List ℕ → CnNmtStateMachine → List ℕ
 identity_written ws m =
     slice_set (slice_set (slice_set ws at.node m.node_id.0) at.flags m.feature_flags.0) at.timeout m.basic_ethernet_timeout
 
-abbrev pub threshold_written : CnErrorCounters → CounterKind → List ℕ → List ℕ
-threshold_written s k ws = slice_set ws (at.counter k + 2) (counter k s).threshold
-
 abbrev pub thresholds_written : List ℕ → CnErrorCounters → List ℕ
-thresholds_written ws s =
-    threshold_written s HeartbeatTimeout (threshold_written s Crc (threshold_written s SoCJitter (threshold_written s LossOfPreq
-    (threshold_written s LossOfSoa (threshold_written s LossOfSoc (threshold_written s Collision ws))))))
+thresholds_written ws s = each_written ws 2 (λ (k : CounterKind). (counter k s).threshold)
 
 -- where there is no value, its word stays as it was
 abbrev pub object_written : List ℕ → ℕ → Option ℕ → List ℕ

@@ -1,9 +1,11 @@
 // A head in words: where each part stands, how it is read and how it is written. Any words are a head.
-ghost use Rattle.std.specs.Prelude.{◌≡◌, ◌+◌, ◌/◌, ◌%◌, ◌≤◌, length, replicate, slice_set};
+ghost use Rattle.std.specs.Prelude.{◌≡◌, ℕ, ◌+◌, ◌%◌, ◌≤◌, ◌<◌, length, replicate, slice_set};
+ghost use Rattle.counters.specs.Counters.{counter};
+ghost use Rattle.counters.specs.declared.counters.CounterKind.{CounterKind};
 ghost use Rattle.dll.specs.Dll.{cs_state_number};
 ghost use Rattle.head.specs.Places as at;
-ghost use Rattle.head.specs.Words.{word, yes, one, time_of, state_of, nmt_of, dll_state, counter_at, errors_of, deadline_of, soc_of, object_of, od_of, queue_of, history_of, earliest_of};
-ghost use Rattle.head.specs.Written.{forgotten_written, nmt_written, counter_written, levels_written, deadline_written, earliest_written, soc_written, queue_written, history_written, identity_written, thresholds_written, object_written, od_written};
+ghost use Rattle.head.specs.Words.{word, yes, one, time_at, state_of, nmt_of, dll_state, counter_at, errors_of, deadline_of, soc_of, object_at, od_of, queue_of, history_of, earliest_of};
+ghost use Rattle.head.specs.Written.{forgotten_written, nmt_written, counter_written, each_written, levels_written, time_written, moment_written, deadline_written, earliest_written, soc_written, queue_written, history_written, identity_written, thresholds_written, object_written, od_written};
 
 use crate::state::{Dictionary, Head, Object, SocWatch, Statistic};
 use counters::counters::{CnErrorCounters, CounterKind, ThresholdCounter};
@@ -48,11 +50,7 @@ const LOSS_OF_LINK: usize = 35;
 // The watch over the cycle.
 const LAST_SOC: usize = 36;
 
-const LAST_SOC_HIGH: usize = 37;
-
 const DEADLINE: usize = 38;
-
-const DEADLINE_HIGH: usize = 39;
 
 const CHECK: usize = 40;
 
@@ -64,11 +62,7 @@ const REGISTER: usize = 43;
 
 const HAS_CYCLE: usize = 44;
 
-const CYCLE: usize = 45;
-
 const HAS_TOLERANCE: usize = 46;
-
-const TOLERANCE: usize = 47;
 
 const COUNTER_1: usize = 48;
 
@@ -92,8 +86,6 @@ const AWAITED: usize = 57;
 
 const EARLIEST: usize = 58;
 
-const EARLIEST_HIGH: usize = 59;
-
 // Lent as a slice, the words say how many they are.
 fn counted(words: &[u32])
     requires { length words.now ≡ 60 }
@@ -107,44 +99,65 @@ pub fn whole(head: &Head)
     counted(head);
 }
 
-fn one(x: bool) -> u32
-    ensures { result ≡ one x }
+// The lowest byte of a word.
+fn byte_at(head: &Head, place: usize) -> u8
+    requires { place < 60 }
+    ensures { result ≡ word head.now place % 256 }
 {
-    if x { 1 } else { 0 }
+    (head[place] % 256) as u8
 }
 
-fn time_of(low: u32, high: u32) -> u64
-    ensures { result ≡ time_of low high }
+// The time in two words from a place on, the low one first.
+fn time_at(head: &Head, place: usize) -> u64
+    requires { place < 59 }
+    ensures { result ≡ time_at head.now place }
 {
-    low as u64 + 4294967296 * (high as u64)
+    head[place] as u64 + 4294967296 * (head[place + 1] as u64)
 }
 
-fn low(time: u64) -> u32
-    ensures { result ≡ time % 4294967296 }
+fn set_time(head: &mut Head, place: usize, time: u64)
+    requires { place < 59 }
+    ensures { head.new ≡ time_written head.old place time }
 {
-    (time % 4294967296) as u32
+    head[place] = (time % 4294967296) as u32;
+    head[place + 1] = (time / 4294967296) as u32;
 }
 
-fn high(time: u64) -> u32
-    ensures { result ≡ time / 4294967296 }
+// A moment that may be missing: whether it is there, and its time.
+fn moment_at(head: &Head, there: usize, place: usize) -> Option<u64>
+    requires { (there < 60) × (place < 59) }
+    ensures { result ≡ deadline_of (yes (word head.now there)) (time_at head.now place) }
 {
-    (time / 4294967296) as u32
+    (head[there] != 0).then_some(time_at(head, place))
+}
+
+// Where there is no moment, its time stays as it was.
+fn set_moment(head: &mut Head, there: usize, place: usize, moment: Option<u64>)
+    requires { (there < 60) × (place < 59) }
+    ensures { head.new ≡ moment_written head.old there place moment }
+{
+    match moment {
+        Some(time) => {
+            head[there] = 1;
+            set_time(head, place, time);
+        }
+        None => {
+            head[there] = 0;
+        }
+    }
 }
 
 fn state_of(word: u32) -> NmtState
     ensures { result ≡ state_of word }
 {
-    match NmtState::try_from(word as u64) {
-        Ok(state) => state,
-        Err(_) => NmtState::NmtGsOff,
-    }
+    NmtState::try_from(word as u64).unwrap_or(NmtState::NmtGsOff)
 }
 
 pub fn nmt_of(head: &Head) -> CnNmtStateMachine
     ensures { result ≡ nmt_of head.now }
 {
     let current_state = state_of(head[STATE]);
-    let node_id = NodeId((head[NODE] % 256) as u8);
+    let node_id = NodeId(byte_at(head, NODE));
     let feature_flags = FeatureFlags(head[FLAGS]);
     CnNmtStateMachine {
         current_state,
@@ -162,8 +175,8 @@ pub fn set_nmt(head: &mut Head, machine: CnNmtStateMachine)
 {
     let state = machine.current_state;
     head[STATE] = state.as_u8() as u32;
-    head[ENABLED] = one(machine.ready_to_operate_enabled);
-    head[READY] = one(machine.app_ready);
+    head[ENABLED] = u32::from(machine.ready_to_operate_enabled);
+    head[READY] = u32::from(machine.app_ready);
 }
 
 pub fn state_at(head: &Head) -> NmtState
@@ -175,7 +188,7 @@ pub fn state_at(head: &Head) -> NmtState
 pub fn set_ready(head: &mut Head, ready: bool)
     ensures { head.new ≡ slice_set head.old at.ready (one ready) }
 {
-    head[READY] = one(ready);
+    head[READY] = u32::from(ready);
 }
 
 fn dll_state(word: u32) -> DllCsState
@@ -206,15 +219,7 @@ pub fn set_dll(head: &mut Head, machine: DllCsStateMachine)
 fn place_of(kind: CounterKind) -> usize
     ensures { (result ≡ at.counter kind) × (result ≤ 31) }
 {
-    match kind {
-        CounterKind::Collision => COLLISION,
-        CounterKind::LossOfSoc => LOSS_OF_SOC,
-        CounterKind::LossOfSoa => LOSS_OF_SOA,
-        CounterKind::LossOfPreq => LOSS_OF_PREQ,
-        CounterKind::SoCJitter => SOC_JITTER,
-        CounterKind::Crc => CRC,
-        CounterKind::HeartbeatTimeout => HEARTBEAT_TIMEOUT,
-    }
+    COLLISION + 4 * (kind as usize)
 }
 
 // The one counter of a kind.
@@ -267,34 +272,38 @@ pub fn errors_of(head: &Head) -> CnErrorCounters
     }
 }
 
+// A word of each counter, at one place of its four.
+fn set_each<F: Fn(ThresholdCounter) -> u32>(
+    head: &mut Head,
+    nth: usize,
+    errors: CnErrorCounters,
+    word: F,
+)
+    requires place { nth < 4 }
+    requires callable { F.IsAlwaysCallable word }
+    ensures { (v : CounterKind → ℕ) × ((k : CounterKind) → F.post word (counter k errors) (v k)) × (head.new ≡ each_written head.old nth v) }
+{
+    head[COLLISION + nth] = word(errors.collision);
+    head[LOSS_OF_SOC + nth] = word(errors.loss_of_soc);
+    head[LOSS_OF_SOA + nth] = word(errors.loss_of_soa);
+    head[LOSS_OF_PREQ + nth] = word(errors.loss_of_preq);
+    head[SOC_JITTER + nth] = word(errors.soc_jitter);
+    head[CRC + nth] = word(errors.crc_errors);
+    head[HEARTBEAT_TIMEOUT + nth] = word(errors.heartbeat_timeout);
+}
+
 // A cycle changes the levels.
 pub fn set_levels(head: &mut Head, errors: CnErrorCounters)
     ensures { head.new ≡ levels_written head.old errors }
 {
-    head[COLLISION + 1] = errors.collision.threshold_cnt;
-    head[LOSS_OF_SOC + 1] = errors.loss_of_soc.threshold_cnt;
-    head[LOSS_OF_SOA + 1] = errors.loss_of_soa.threshold_cnt;
-    head[LOSS_OF_PREQ + 1] = errors.loss_of_preq.threshold_cnt;
-    head[SOC_JITTER + 1] = errors.soc_jitter.threshold_cnt;
-    head[CRC + 1] = errors.crc_errors.threshold_cnt;
-    head[HEARTBEAT_TIMEOUT + 1] = errors.heartbeat_timeout.threshold_cnt;
-}
-
-fn deadline_of(due: bool, time: u64) -> Option<u64>
-    ensures { result ≡ deadline_of due time }
-{
-    if due {
-        return Some(time);
-    }
-    None
+    set_each(head, 1, errors, |counter| counter.threshold_cnt);
 }
 
 pub fn soc_of(head: &Head) -> SocWatch
     ensures { result ≡ soc_of head.now }
 {
-    let last = time_of(head[LAST_SOC], head[LAST_SOC_HIGH]);
-    let at = time_of(head[DEADLINE], head[DEADLINE_HIGH]);
-    let next_tick_us = deadline_of(head[DUE] != 0, at);
+    let last = time_at(head, LAST_SOC);
+    let next_tick_us = deadline_at(head);
     SocWatch {
         last_soc_reception_time_us: last,
         soc_timeout_check_active: head[CHECK] != 0,
@@ -307,48 +316,34 @@ pub fn soc_of(head: &Head) -> SocWatch
 pub fn set_deadline(head: &mut Head, deadline: Option<u64>)
     ensures { head.new ≡ deadline_written head.old deadline }
 {
-    match deadline {
-        Some(time) => {
-            head[DUE] = 1;
-            head[DEADLINE] = low(time);
-            head[DEADLINE_HIGH] = high(time);
-            return;
-        }
-        None => {
-            head[DUE] = 0;
-            return;
-        }
-    }
+    set_moment(head, DUE, DEADLINE, deadline);
 }
 
 pub fn set_soc(head: &mut Head, soc: SocWatch)
     ensures { head.new ≡ soc_written head.old soc }
 {
-    let last = soc.last_soc_reception_time_us;
     let deadline = soc.next_tick_us;
-    head[LAST_SOC] = low(last);
-    head[LAST_SOC_HIGH] = high(last);
-    head[CHECK] = one(soc.soc_timeout_check_active);
-    head[CHANGED] = one(soc.error_status_changed);
+    set_time(head, LAST_SOC, soc.last_soc_reception_time_us);
+    head[CHECK] = u32::from(soc.soc_timeout_check_active);
+    head[CHANGED] = u32::from(soc.error_status_changed);
     set_deadline(head, deadline);
 }
 
-fn object_of(there: bool, value: u32) -> Option<u32>
-    ensures { result ≡ object_of there value }
+// The word from a place on that says whether there is a value, and the value.
+fn object_at(head: &Head, place: usize) -> Option<u32>
+    requires { place < 59 }
+    ensures { result ≡ object_at head.now place }
 {
-    if there {
-        return Some(value);
-    }
-    None
+    (head[place] != 0).then_some(head[place + 1])
 }
 
 pub fn od_of(head: &Head) -> Dictionary
     ensures { result ≡ od_of head.now }
 {
-    let cycle_time = object_of(head[HAS_CYCLE] != 0, head[CYCLE]);
-    let tolerance = object_of(head[HAS_TOLERANCE] != 0, head[TOLERANCE]);
+    let cycle_time = object_at(head, HAS_CYCLE);
+    let tolerance = object_at(head, HAS_TOLERANCE);
     Dictionary {
-        error_register: (head[REGISTER] % 256) as u8,
+        error_register: byte_at(head, REGISTER),
         cycle_time,
         tolerance,
         counter_1: head[COUNTER_1],
@@ -367,7 +362,7 @@ pub fn set_changed(head: &mut Head)
 pub fn register_of(head: &Head) -> u8
     ensures { result ≡ word head.now at.register % 256 }
 {
-    (head[REGISTER] % 256) as u8
+    byte_at(head, REGISTER)
 }
 
 pub fn set_register(head: &mut Head, register: u8)
@@ -380,9 +375,9 @@ pub fn queue_of(head: &Head) -> EmergencyQueue
     ensures { result ≡ queue_of head.now }
 {
     EmergencyQueue {
-        oldest: (head[OLDEST] % 256) as u8,
-        length: (head[QUEUED] % 256) as u8,
-        capacity: (head[CAPACITY] % 256) as u8,
+        oldest: byte_at(head, OLDEST),
+        length: byte_at(head, QUEUED),
+        capacity: byte_at(head, CAPACITY),
     }
 }
 
@@ -398,8 +393,8 @@ pub fn history_of(head: &Head) -> ErrorHistory
     ensures { result ≡ history_of head.now }
 {
     ErrorHistory {
-        newest: (head[NEWEST] % 256) as u8,
-        count: (head[COUNT] % 256) as u8,
+        newest: byte_at(head, NEWEST),
+        count: byte_at(head, COUNT),
     }
 }
 
@@ -414,7 +409,7 @@ pub fn set_history(head: &mut Head, history: ErrorHistory)
 pub fn deadline_at(head: &Head) -> Option<u64>
     ensures { result ≡ (soc_of head.now).next_tick_us }
 {
-    deadline_of(head[DUE] != 0, time_of(head[DEADLINE], head[DEADLINE_HIGH]))
+    moment_at(head, DUE, DEADLINE)
 }
 
 pub fn check_of(head: &Head) -> bool
@@ -433,27 +428,14 @@ pub fn check_off(head: &mut Head)
 pub fn earliest_of(head: &Head) -> Option<u64>
     ensures { result ≡ earliest_of head.now }
 {
-    deadline_of(
-        head[AWAITED] != 0,
-        time_of(head[EARLIEST], head[EARLIEST_HIGH]),
-    )
+    moment_at(head, AWAITED, EARLIEST)
 }
 
 // Where there is no moment, its time stays as it was.
 pub fn set_earliest(head: &mut Head, earliest: Option<u64>)
     ensures { head.new ≡ earliest_written head.old earliest }
 {
-    match earliest {
-        Some(time) => {
-            head[AWAITED] = 1;
-            head[EARLIEST] = low(time);
-            head[EARLIEST_HIGH] = high(time);
-            return;
-        }
-        None => {
-            head[AWAITED] = 0;
-        }
-    }
+    set_moment(head, AWAITED, EARLIEST, earliest);
 }
 
 // What a reset forgets besides state, enabled and ready: the deadline, the check and the DLL state.
@@ -490,22 +472,13 @@ pub fn set_identity(head: &mut Head, machine: CnNmtStateMachine)
 pub fn set_thresholds(head: &mut Head, errors: CnErrorCounters)
     ensures { head.new ≡ thresholds_written head.old errors }
 {
-    head[COLLISION + 2] = errors.collision.threshold;
-    head[LOSS_OF_SOC + 2] = errors.loss_of_soc.threshold;
-    head[LOSS_OF_SOA + 2] = errors.loss_of_soa.threshold;
-    head[LOSS_OF_PREQ + 2] = errors.loss_of_preq.threshold;
-    head[SOC_JITTER + 2] = errors.soc_jitter.threshold;
-    head[CRC + 2] = errors.crc_errors.threshold;
-    head[HEARTBEAT_TIMEOUT + 2] = errors.heartbeat_timeout.threshold;
+    set_each(head, 2, errors, |counter| counter.threshold);
 }
 
 fn object_place(object: Object) -> usize
     ensures { (result ≡ at.object object) × (result ≤ 46) }
 {
-    match object {
-        Object::CycleTime => HAS_CYCLE,
-        Object::Tolerance => HAS_TOLERANCE,
-    }
+    object as usize
 }
 
 // Where there is no value, its word stays as it was.
@@ -529,12 +502,7 @@ pub fn set_object(head: &mut Head, object: Object, value: Option<u32>)
 fn statistic_place(statistic: Statistic) -> usize
     ensures { (result ≡ at.statistic statistic) × (result ≤ 51) }
 {
-    match statistic {
-        Statistic::Counter1 => COUNTER_1,
-        Statistic::Counter2 => COUNTER_2,
-        Statistic::Counter3 => COUNTER_3,
-        Statistic::Counter5 => COUNTER_5,
-    }
+    statistic as usize
 }
 
 pub fn statistic_of(head: &Head, statistic: Statistic) -> u32

@@ -28,18 +28,18 @@ pub struct Dictionary {
     pub counter_5: u32,
 }
 
-// The objects of the dictionary that may be missing.
-#[derive(Clone, Copy)]
+// The objects of the dictionary that may be missing, each numbered by its place in a head.
+#[derive(Clone, Copy, PartialEq, Eq)]
 pub enum Object {
-    CycleTime,
-    Tolerance,
+    CycleTime = 44,
+    Tolerance = 46,
 }
 
-// The counters of 0x1102 that a head keeps.
-#[derive(Clone, Copy)]
+// The counters of 0x1102 that a head keeps, each numbered by its place in a head.
+#[derive(Clone, Copy, PartialEq, Eq)]
 pub enum Statistic {
-    Counter1,
-    Counter2,
-    Counter3,
-    Counter5,
+    Counter1 = 48,
+    Counter2 = 49,
+    Counter3 = 50,
+    Counter5 = 51,
 }
