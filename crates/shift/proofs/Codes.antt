@@ -1,12 +1,13 @@
 -- The codes of the whole entries in a run of bytes, entry by entry.
 -- Assumes nothing.
-use Rattle.std.proofs.Common.{◌≡◌, ℕ, suc, ◌+◌, ◌*◌, ◌/◌, ◌<◌, ◌≤◌, List, [], ◌∷◌, length, get_or, drop, ap, ◌∙◌, arith, length-drop, drop-drop}
+use Rattle.std.proofs.Common.{◌≡◌, ℕ, suc, ◌+◌, ◌*◌, ◌/◌, ◌<◌, ◌≤◌, List, [], ◌∷◌, ◌++◌, length, get_or, drop, ap, ◌∙◌, append-nil, arith, length-append, length-drop, drop-drop, drop_at}
 use Rattle.entries.specs.declared.status_response.ErrorEntry.{ErrorEntry}
 use Rattle.entries.specs.Entry.{number_in, entry_in}
 use Rattle.entries.specs.Ring.{entry_at, listed}
 use Rattle.entries.specs.History.{entries_in}
 use Rattle.entries.proofs.Numbers.{number_more}
 use Rattle.entries.proofs.Rings.{listed_same}
+use Rattle.entries.proofs.Entries.{entry_same}
 use Rattle.shift.specs.Report.{codes_in}
 
 -- fewer than 20 bytes have no entry
@@ -32,19 +33,16 @@ pub codes_front : (s : List ℕ) → 20 ≤ length s → codes_in s ≡ (entry_i
 unfolding codes_in
 codes_front s h = rw (entries_front s h)
 
-code_at : (s : List ℕ) (at : ℕ) → at + 20 ≤ length s → (entry_in (drop at s)).error_code ≡ get_or s (at + 2) 0 + 256 * get_or s (at + 3) 0
+code_of : (e : List ℕ) → length e ≡ 20 → (entry_in e).error_code ≡ get_or e 2 0 + 256 * get_or e 3 0
 unfolding entry_in number_in
-code_at s at h =
-    let next : at + 2 + 1 ≡ at + 3 = omega arith in
-    rw (drop-drop 2 at s) (number_more 1 (at + 2) s (omega arith) ∙ rw (next, number_more 0 (at + 3) s (omega arith)) (omega arith))
+code_of e h = number_more 1 2 e (omega arith) ∙ rw (number_more 0 3 e (omega arith)) (omega arith)
 
--- the next from a place on
-pub codes_at :
-    (s : List ℕ) (at : ℕ) →
-    at + 20 ≤ length s →
-    codes_in (drop at s) ≡ (get_or s (at + 2) 0 + 256 * get_or s (at + 3) 0) ∷ codes_in (drop (at + 20) s)
-codes_at s at h =
-    let long : 20 ≤ length (drop at s) = simp length-drop (omega arith) in
-    codes_front (drop at s) long
-    ∙ (ap (λ (l : List ℕ). (entry_in (drop at s)).error_code ∷ codes_in l) (drop-drop 20 at s)
-    ∙ ap (λ (c : ℕ). c ∷ codes_in (drop (at + 20) s)) (code_at s at h))
+-- of an entry and what comes behind it
+pub codes_behind : (e s : List ℕ) → length e ≡ 20 → codes_in (e ++ s) ≡ (get_or e 2 0 + 256 * get_or e 3 0) ∷ codes_in s
+codes_behind e s h =
+    let long : 20 ≤ length (e ++ s) = simp length-append (omega arith) in
+    let same : entry_in (e ++ s) ≡ entry_in e = entry_same e s [] (omega arith) ∙ ap entry_in (append-nil e) in
+    codes_front (e ++ s) long
+    ∙ (ap (λ (f : ErrorEntry). f.error_code ∷ codes_in (drop 20 (e ++ s))) same
+    ∙ (ap (λ (l : List ℕ). (entry_in e).error_code ∷ codes_in l) (drop_at e s 20 h)
+    ∙ ap (λ (c : ℕ). c ∷ codes_in s) (code_of e h)))

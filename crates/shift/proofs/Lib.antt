@@ -1,6 +1,5 @@
 pub mod Codes
 pub mod Named
-pub mod Writing
 pub mod Parts
 pub mod Totals
 pub mod Contracts

@@ -1,5 +1,3 @@
-pub mod Ascii
-pub mod Text
 pub mod Report
 pub mod Feed
 pub mod Sums

@@ -1,6 +1,6 @@
 -- Shift totals (document 02, No. 11): the page for a run of bytes.
 -- Assumes nothing.
-use Rattle.std.specs.Prelude.{ℕ, ◌+◌, ◌%◌, Bool, true, false, List, [], ◌∷◌, ◌++◌, map, length, ◌==◌, nat_lt}
+use Rattle.std.specs.Prelude.{ℕ, ◌+◌, ◌%◌, Bool, true, false, List, [], ◌∷◌, ◌++◌, map, length, ◌==◌, nat_lt, decimal, codes}
 use Rattle.types.specs.Pick.{pick}
 use Rattle.types.specs.Kinds.{kind_code, error_kinds, CodeAnswer, kind_number, refused_by, kind_behind}
 use Rattle.types.specs.declared.frame.error.kinds.DllErrorKind.{DllErrorKind}
@@ -8,8 +8,6 @@ use Rattle.entries.specs.Entry.{bit}
 use Rattle.entries.specs.History.{entries_in}
 use Rattle.entries.specs.declared.status_response.ErrorEntry.{ErrorEntry}
 use Rattle.forms.specs.Hex.{hex_form}
-use Rattle.shift.specs.Ascii.{text}
-use Rattle.shift.specs.Text.{decimal}
 
 -- "reads entries of No. 4 from standard input": the codes of the whole entries in a run of bytes, in their order
 unfoldable pub codes_in : List ℕ → List ℕ
@@ -48,16 +46,16 @@ others_in (c ∷ cs) = pick (named c) 0 1 + others_in cs
 
 -- the forms, one a line
 unfoldable pub entries_line : ℕ → List ℕ
-entries_line n = text "(report (entries " ++ (decimal n ++ text "))\n")
+entries_line n = codes "(report (entries " ++ (decimal n ++ codes "))\n")
 
 unfoldable pub code_line : ℕ → ℕ → List ℕ
-code_line c n = text "(code " ++ (hex_form 4 c ++ (text " (count " ++ (decimal n ++ text "))\n")))
+code_line c n = codes "(code " ++ (hex_form 4 c ++ (codes " (count " ++ (decimal n ++ codes "))\n")))
 
 unfoldable pub other_line : ℕ → List ℕ
-other_line n = text "(other (count " ++ (decimal n ++ text "))\n")
+other_line n = codes "(other (count " ++ (decimal n ++ codes "))\n")
 
 unfoldable pub total_line : ℕ → ℕ → List ℕ
-total_line n l = (text "(total (count " ++ (decimal n ++ text ")")) ++ (text " (left " ++ (decimal l ++ text "))\n"))
+total_line n l = (codes "(total (count " ++ (decimal n ++ codes ")")) ++ (codes " (left " ++ (decimal l ++ codes "))\n"))
 
 -- a line with a count, where there is something to count
 abbrev pub if_any : ℕ → List ℕ → List ℕ
