@@ -104,9 +104,9 @@ module _ (ws : List ℕ) (t : ℕ) where
       s ≡ soc_of ws →
       l ≡ min s.last_soc_reception_time_us 4611686018427387903 →
       x ≡ t - l →
-      (x ≡ elapsed (head_in ws) t) × (x ≤ t)
+      x ≡ elapsed (head_in ws) t
   unfolding head_of
-  elapsed_read s l x e f g = (g ∙ ap (λ (l : ℕ). t - l) (f ∙ ap (λ (s : SocWatch). min s.last_soc_reception_time_us 4611686018427387903) e), omega arith)
+  elapsed_read s l x e f g = g ∙ ap (λ (l : ℕ). t - l) (f ∙ ap (λ (s : SocWatch). min s.last_soc_reception_time_us 4611686018427387903) e)
 
   pub loss_read : (o : Dictionary) (l x : ℕ) → o ≡ od_of ws → l ≡ limit_of o → x ≡ elapsed (head_in ws) t → ltb l x ≡ is_loss (head_in ws) t
   unfolding head_of

@@ -44,30 +44,28 @@ pub record InPlace (ws : List ℕ) (c : Call) (a : Answer) (ws' known : List ℕ
 abbrev pub Reading : List ℕ → Call → Answer → Type 0
 Reading ws c a = InPlace ws c a ws ws
 
--- the answers
+-- what a call answers: "A declined call returns its number only", any other what it says
+abbrev pub answered : {A : Type 0} → (A → Answer) → Result A Refusal → Answer
+answered says (Ok a) = says a
+answered says (Err r) = refused (refusal_number r)
+
 abbrev pub said : Result (Unit {0}) Refusal → Answer
-said (Ok _) = taken
-said (Err r) = refused (refusal_number r)
+said = answered (λ (_ : Unit {0}). taken)
 
 abbrev pub nmt_said : Result NmtTaken Refusal → Answer
-nmt_said (Ok t) = nmt_answer (reported t.errors) (passed t.reset)
-nmt_said (Err r) = refused (refusal_number r)
+nmt_said = answered (λ (t : NmtTaken). nmt_answer (reported t.errors) (passed t.reset))
 
 abbrev pub dll_said : Result DllErrors Refusal → Answer
-dll_said (Ok es) = dll_answer (reported es)
-dll_said (Err r) = refused (refusal_number r)
+dll_said = answered (λ (es : DllErrors). dll_answer (reported es))
 
 abbrev pub error_said : Result ErrorTaken Refusal → Answer
-error_said (Ok t) = error_answer t.action t.signal (reported t.logged)
-error_said (Err r) = refused (refusal_number r)
+error_said = answered (λ (t : ErrorTaken). error_answer t.action t.signal (reported t.logged))
 
 abbrev pub range_said : Result SocVerdict Refusal → Answer
-range_said (Ok v) = range_answer v
-range_said (Err r) = refused (refusal_number r)
+range_said = answered range_answer
 
 abbrev pub margin_said : Result ℤ Refusal → Answer
-margin_said (Ok z) = margin_answer z
-margin_said (Err r) = refused (refusal_number r)
+margin_said = answered margin_answer
 
 -- an error's answer without the counters
 abbrev pub replied : HandledError → ErrorTaken

@@ -16,7 +16,7 @@ use counters::counters::{CounterKind, ErrorEffect, effect_of, saturating_add};
 use entries::status_response::ErrorEntry;
 use head::parts::{
     counter_of, dll_of, errors_of, forget, links_of, nmt_of, od_of, queue_of, set_counter, set_dll,
-    set_levels, set_links, set_nmt, set_queue, set_ready, set_soc, soc_of, state_at, whole,
+    set_levels, set_links, set_nmt, set_queue, set_ready, set_soc, soc_of, state_at,
 };
 use head::state::Head;
 use nmt::state_machine::{ResetSequence, is_reset};
@@ -25,7 +25,7 @@ use types::frame::error::types::{DllError, DllErrors, NmtAction};
 use types::nmt::events::NmtEvent;
 use types::nmt::states::NmtState;
 use types::refusals::Refusal;
-use watched::time::in_time;
+use watched::time::Time;
 
 #[derive(Clone, Copy, PartialEq, Eq)]
 pub struct NmtTaken {
@@ -44,17 +44,11 @@ pub struct ErrorTaken {
 pub fn withdraw(head: &mut Head) -> Result<(), Refusal>
     ensures { InPlace head.old Call.withdraw (said result) head.new (withdraw_words head.old) }
 {
-    whole(head);
-    let state = state_at(head);
-    match state {
-        NmtState::NmtReadyToOperate => {
-            return Err(Refusal::ReadyToOperate);
-        }
-        _ => {
-            set_ready(head, false);
-            return Ok(());
-        }
+    if state_at(head) == NmtState::NmtReadyToOperate {
+        return Err(Refusal::ReadyToOperate);
     }
+    set_ready(head, false);
+    Ok(())
 }
 
 // An NMT event on a head, a reset too: whatever leads to one comes here.
@@ -68,7 +62,6 @@ fn process_event(head: &mut Head, event: NmtEvent) -> NmtTaken
     set_nmt(head, machine);
     if is_reset(event) {
         forget(head);
-        return NmtTaken { errors, reset };
     }
     NmtTaken { errors, reset }
 }
@@ -77,35 +70,20 @@ fn process_event(head: &mut Head, event: NmtEvent) -> NmtTaken
 pub fn nmt_event(head: &mut Head, event: u64) -> Result<NmtTaken, Refusal>
     ensures { InPlace head.old (Call.nmt_event event) (nmt_said result) head.new (nmt_words head.old (read_event event)) }
 {
-    whole(head);
-    match NmtEvent::try_from(event) {
-        Ok(event) => {
-            let taken = process_event(head, event);
-            return Ok(taken);
-        }
-        Err(refusal) => {
-            return Err(refusal);
-        }
-    }
+    let event = NmtEvent::try_from(event)?;
+    Ok(process_event(head, event))
 }
 
 // A DLL event, by its number, in the head's own NMT state.
 pub fn dll_event(head: &mut Head, event: u64, expect_preq: bool) -> Result<DllErrors, Refusal>
     ensures { InPlace head.old (Call.dll_event event expect_preq) (dll_said result) head.new (dll_words head.old expect_preq (read_cs_event event)) }
 {
-    whole(head);
-    match DllCsEvent::try_from(event) {
-        Ok(event) => {
-            let answer = dll_of(head).process_event(event, state_at(head), expect_preq);
-            let machine = answer.machine;
-            let errors = answer.errors;
-            set_dll(head, machine);
-            return Ok(errors);
-        }
-        Err(refusal) => {
-            return Err(refusal);
-        }
-    }
+    let event = DllCsEvent::try_from(event)?;
+    let answer = dll_of(head).process_event(event, state_at(head), expect_preq);
+    let machine = answer.machine;
+    let errors = answer.errors;
+    set_dll(head, machine);
+    Ok(errors)
 }
 
 // Whether an error that counts for a kind crosses: of the counters, only that kind's is read and written.
@@ -147,20 +125,17 @@ pub fn handled(head: &mut Head, error: DllError) -> ErrorTaken
     match effect_of(error) {
         ErrorEffect::Counts(kind) => {
             if count(head, kind) {
-                return signalled(NmtAction::ResetCommunication, error);
+                signalled(NmtAction::ResetCommunication, error)
+            } else {
+                unsignalled()
             }
-            return unsignalled();
         }
         ErrorEffect::LosesLink => {
             set_links(head, saturating_add(links_of(head), 1));
-            return signalled(NmtAction::None, error);
+            signalled(NmtAction::None, error)
         }
-        ErrorEffect::IsLogged => {
-            return signalled(NmtAction::None, error);
-        }
-        ErrorEffect::Nothing => {
-            return unsignalled();
-        }
+        ErrorEffect::IsLogged => signalled(NmtAction::None, error),
+        ErrorEffect::Nothing => unsignalled(),
     }
 }
 
@@ -168,22 +143,14 @@ pub fn handled(head: &mut Head, error: DllError) -> ErrorTaken
 pub fn handle_error(head: &mut Head, kind: u64, a: u8, b: u8) -> Result<ErrorTaken, Refusal>
     ensures { InPlace head.old (Call.error kind a b) (error_said result) head.new (error_words head.old (read_error kind a b)) }
 {
-    whole(head);
-    match DllError::try_from(kind, a, b) {
-        Ok(error) => {
-            return Ok(handled(head, error));
-        }
-        Err(refusal) => {
-            return Err(refusal);
-        }
-    }
+    let error = DllError::try_from(kind, a, b)?;
+    Ok(handled(head, error))
 }
 
 // Whether the last level reached 0.
 pub fn on_cycle_complete(head: &mut Head) -> bool
     ensures { InPlace head.old Call.cycle_complete (cycle_answer result) head.new (cycle_words head.old) }
 {
-    whole(head);
     let completed = errors_of(head).on_cycle_complete();
     let errors = completed.counters;
     set_levels(head, errors);
@@ -194,10 +161,7 @@ pub fn on_cycle_complete(head: &mut Head) -> bool
 pub fn arm(head: &mut Head, time: u64) -> Result<(), Refusal>
     ensures { InPlace head.old (Call.arm time) (said result) head.new (arm_words head.old time) }
 {
-    whole(head);
-    if !in_time(time) {
-        return Err(Refusal::TimeLimit);
-    }
+    let time = Time::try_from(time)?;
     let soc = armed(soc_of(head), od_of(head), time);
     set_soc(head, soc);
     Ok(())
@@ -208,7 +172,6 @@ pub fn hand_out(head: &mut Head, memory: &[u8; 640]) -> Option<ErrorEntry>
     ensures { ((m : List ℕ) → Refines (head_of head.old) memory.now m Call.hand_out (left (head_of head.new) (hand_out_answer result)) memory.now m no_run)
         × (head.new ≡ hand_out_words head.old memory.now) }
 {
-    whole(head);
     let handed = queue_of(head).hand_out(memory);
     let queue = handed.queue;
     let entry = handed.entry;

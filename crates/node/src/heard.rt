@@ -3,10 +3,10 @@ ghost use Rattle.std.specs.Prelude.{◌≡◌, ◌+◌, ◌*◌, ◌<◌, set};
 ghost use Rattle.node.specs.InPlace.{moment_of};
 ghost use Rattle.node.specs.Heard.{heard_answer, Heard};
 
-use head::parts::{set_earliest, whole};
+use head::parts::set_earliest;
 use head::state::Head;
 use types::refusals::Refusal;
-use watched::nodes::{NEVER, NodeWords, all_places, find};
+use watched::nodes::{NEVER, NodeWords, find};
 use watched::time::in_time;
 
 // The moment that a walk found.
@@ -53,21 +53,11 @@ pub fn heard(
 ) -> Result<(), Refusal>
     ensures { Heard head.old nodes.old count node time result head.new nodes.new }
 {
-    whole(head);
-    all_places(nodes);
-    let found = find(nodes, count, node as u64, time);
-    let Some((place, soonest)) = found else {
-        return try_heard(false, time, false);
+    let Some((place, soonest)) = find(nodes, count, node as u64, time) else {
+        return Err(Refusal::WatchedNodes);
     };
-    let answer = try_heard(true, time, place < count);
-    match answer {
-        Ok(()) => {
-            set_heard(nodes, place, time);
-            set_earliest(head, moment(soonest));
-            return Ok(());
-        }
-        Err(refusal) => {
-            return Err(refusal);
-        }
-    }
+    try_heard(true, time, place < count)?;
+    set_heard(nodes, place, time);
+    set_earliest(head, moment(soonest));
+    Ok(())
 }

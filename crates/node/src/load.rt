@@ -7,10 +7,10 @@ ghost use Rattle.node.specs.Loaded.{byte_loaded, counter_loaded, object_loaded, 
 ghost use Rattle.head.specs.Head.{head_with_od};
 
 use entries::error_history::ErrorHistory;
-use head::parts::{byte, set_history, set_object, set_register, set_statistic, whole};
+use head::parts::{byte, set_history, set_object, set_register, set_statistic};
 use head::state::{Head, Object, Statistic};
 
-#[derive(Clone, Copy)]
+#[derive(Clone, Copy, PartialEq, Eq)]
 pub struct DictionaryUpdate {
     pub error_register: Option<u8>,
     pub cycle_time: Option<Option<u32>>,
@@ -24,43 +24,24 @@ pub struct DictionaryUpdate {
 fn load_register(head: &mut Head, update: Option<u8>)
     ensures { (head.new ≡ byte_loaded head.old at.register update) × ByteFits update }
 {
-    match update {
-        Some(n) => {
-            let n = byte(n);
-            set_register(head, n);
-            return;
-        }
-        None => {
-            return;
-        }
+    if let Some(n) = update {
+        set_register(head, byte(n));
     }
 }
 
 fn load_object(head: &mut Head, object: Object, update: Option<Option<u32>>)
     ensures { head.new ≡ object_loaded head.old (at.object object) update }
 {
-    match update {
-        Some(value) => {
-            set_object(head, object, value);
-            return;
-        }
-        None => {
-            return;
-        }
+    if let Some(value) = update {
+        set_object(head, object, value);
     }
 }
 
 fn load_statistic(head: &mut Head, statistic: Statistic, update: Option<u32>)
     ensures { head.new ≡ counter_loaded head.old (at.statistic statistic) update }
 {
-    match update {
-        Some(n) => {
-            set_statistic(head, statistic, n);
-            return;
-        }
-        None => {
-            return;
-        }
+    if let Some(n) = update {
+        set_statistic(head, statistic, n);
     }
 }
 
@@ -76,7 +57,6 @@ fn load_values(head: &mut Head, values: DictionaryUpdate)
     let c2 = values.counter_2;
     let c3 = values.counter_3;
     let c5 = values.counter_5;
-    whole(head);
     load_register(head, register);
     load_object(head, Object::CycleTime, cycle);
     load_object(head, Object::Tolerance, tolerance);
@@ -99,7 +79,6 @@ pub fn load(
 {
     load_values(head, values);
     if with_history {
-        whole(head);
         let history = ErrorHistory::load(memory, entries);
         set_history(head, history);
         return;

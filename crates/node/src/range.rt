@@ -10,10 +10,10 @@ use crate::timing::{last_soc, limit, time_since};
 use head::parts::{od_of, soc_of};
 use head::state::Head;
 use types::refusals::Refusal;
-use watched::time::in_time;
+use watched::time::Time;
 
 // What the readings of a clock say of the SoC: at each of them it is lost, at none, at some.
-#[derive(Clone, Copy)]
+#[derive(Clone, Copy, PartialEq, Eq)]
 pub enum SocVerdict {
     Lost,
     Kept,
@@ -21,14 +21,14 @@ pub enum SocVerdict {
 }
 
 // How long ago the last SoC was.
-fn elapsed(head: &Head, time: u64) -> u64
-    ensures { (result ≡ elapsed (plain (head_of head.now) [] []) time) × (result ≤ time) }
+fn elapsed(head: &Head, time: Time) -> u64
+    ensures { (result ≡ elapsed (plain (head_of head.now) [] []) time.us) × (result ≤ 4611686018427387903) }
 {
-    time_since(time, last_soc(soc_of(head)))
+    time_since(time.us, last_soc(soc_of(head)))
 }
 
-fn is_loss(head: &Head, time: u64) -> bool
-    ensures { result ≡ is_loss (plain (head_of head.now) [] []) time }
+fn is_loss(head: &Head, time: Time) -> bool
+    ensures { result ≡ is_loss (plain (head_of head.now) [] []) time.us }
 {
     limit(od_of(head)) < elapsed(head, time)
 }
@@ -37,13 +37,9 @@ fn is_loss(head: &Head, time: u64) -> bool
 pub fn soc_range(head: &Head, earliest: u64, latest: u64) -> Result<SocVerdict, Refusal>
     ensures { Reading head.now (Call.range earliest latest) (range_said result) }
 {
-    if !in_time(earliest) {
-        return Err(Refusal::TimeLimit);
-    }
-    if !in_time(latest) {
-        return Err(Refusal::TimeLimit);
-    }
-    if latest < earliest {
+    let earliest = Time::try_from(earliest)?;
+    let latest = Time::try_from(latest)?;
+    if latest.us < earliest.us {
         return Err(Refusal::EarliestAfterLatest);
     }
     if is_loss(head, earliest) {
@@ -73,9 +69,6 @@ fn minus(a: u64, b: u64) -> i64
 pub fn soc_margin(head: &Head, time: u64) -> Result<i64, Refusal>
     ensures { Reading head.now (Call.margin time) (margin_said result) }
 {
-    if !in_time(time) {
-        return Err(Refusal::TimeLimit);
-    }
-    let margin = minus(limit(od_of(head)), elapsed(head, time));
-    Ok(margin)
+    let time = Time::try_from(time)?;
+    Ok(minus(limit(od_of(head)), elapsed(head, time)))
 }

@@ -8,5 +8,5 @@ use Rattle.node.proofs.calls.hand_out.Goals as goal
 pub returns : goal.returns
 returns c =
     let a = c.args in
-    hand_out_yes a.head.now c.whole.ensures _ a.memory.now c.hand_out-handed.result
+    hand_out_yes a.head.now c.told-head _ a.memory.now c.hand_out-handed.result
     (c.hand_out-handed.ensures ∙ ap (handed_out a.memory.now) c.queue_of.ensures) c.set_queue.ensures

@@ -16,8 +16,8 @@ returns-then-count c =
     (c.signalled.ensures ∙ count_answers a.head.now c.in-Counts.kind a.error c.count.result true c.count.ensures.0 c.if-count.true)
     c.count.ensures.1
 
-pub returns-in-Counts : goal.returns-in-Counts
-returns-in-Counts c =
+pub returns-else-count : goal.returns-else-count
+returns-else-count c =
     let a = c.args in
     handled_by a.head.now a.error (counts c.in-Counts.kind) _ _ (sym c.effect_of.ensures ∙ ap effect_of c.in-Counts.is)
     (c.unsignalled.ensures ∙ count_answers a.head.now c.in-Counts.kind a.error c.count.result false c.count.ensures.0 c.if-count.false)

@@ -7,5 +7,5 @@ use Rattle.node.proofs.calls.on_cycle_complete.Goals as goal
 
 pub returns : goal.returns
 returns c =
-    cycle_yes c.args.head.now c.whole.ensures _ c.on_cycle_complete-completed.result
+    cycle_yes c.args.head.now c.told-head _ c.on_cycle_complete-completed.result
     (c.on_cycle_complete-completed.ensures ∙ ap completed c.errors_of.ensures) c.set_levels.ensures

@@ -15,8 +15,8 @@ returns-then-is_reset c =
     (c.process_event-answer.ensures ∙ ap (λ (m : CnNmtStateMachine). Nmt.processed m a.event) c.nmt_of.ensures) true
     (sym c.is_reset.ensures ∙ c.if-is_reset.true) (c.forget.ensures ∙ ap forgotten_written c.set_nmt.ensures)
 
-pub returns : goal.returns
-returns c =
+pub returns-else-is_reset : goal.returns-else-is_reset
+returns-else-is_reset c =
     let a = c.args in
     nmt_processed a.head.now _ a.event c.process_event-answer.result
     (c.process_event-answer.ensures ∙ ap (λ (m : CnNmtStateMachine). Nmt.processed m a.event) c.nmt_of.ensures) false

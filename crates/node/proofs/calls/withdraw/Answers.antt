@@ -1,23 +1,22 @@
--- `node::calls::withdraw` meets its contract: declined at ReadyToOperate, taken in every other state.
+-- `node::calls::withdraw` meets its contract: at ReadyToOperate it is declined.
 -- Assumes nothing.
-use borrow.Enum.Refused.{opened}
-use mathlib.Core.Path.{refl, sym, ap, ◌∙◌}
-use mathlib.Core.Bool.{false}
-use mathlib.Core.List.{[], ◌∷◌}
+use mathlib.Core.Path.{ap, refl, sym, ◌∙◌}
+use denote.Enum.Bare.{sameb, same_true}
 use Rattle.types.specs.States.{same_state}
-use Rattle.types.specs.declared.nmt.states.NmtState.{NmtState}
+use Rattle.types.specs.contracts.nmt.states.NmtState as NmtStateType
 use Rattle.types.specs.declared.nmt.states.NmtState.TheVariants.{NmtReadyToOperate}
-use Rattle.types.proofs.Cases.{arm, keys_but, NmtStates}
+use Rattle.types.proofs.Cases.{everywhere, NmtStates}
 use Rattle.node.proofs.Refining.{withdraw_no, withdraw_yes}
 use Rattle.node.proofs.calls.withdraw.Goals as goal
 
-pub returns-in-NmtReadyToOperate : goal.returns-in-NmtReadyToOperate
-returns-in-NmtReadyToOperate c =
-    withdraw_no c.args.head.now (sym c.state_at-state.ensures ∙ c.in-NmtReadyToOperate.is)
+pub returns-then-eq : goal.returns-then-eq
+returns-then-eq c =
+    withdraw_no c.args.head.now (sym c.state_at.ensures ∙ same_true NmtStateType.the_type tt _ _ (sym c.eq.ensures ∙ c.if-eq.true))
 
-pub returns-in_default : goal.returns-in_default
-returns-in_default c =
-    withdraw_yes c.args.head.now c.whole.ensures _
-    (sym (ap (λ (c : NmtState). same_state c NmtReadyToOperate) c.state_at-state.ensures)
-    ∙ arm NmtStates (λ c. same_state c NmtReadyToOperate) (λ c. false) (keys_but NmtStates (NmtReadyToOperate ∷ [])) c.state_at-state.result (opened c.in_default.in_default-own.keys2) refl)
+pub returns : goal.returns
+returns c =
+    withdraw_yes c.args.head.now c.told-head _
+    (ap (λ s. same_state s NmtReadyToOperate) (sym c.state_at.ensures)
+    ∙ everywhere NmtStates (λ s. same_state s NmtReadyToOperate) (λ s. sameb NmtStateType.the_type s NmtReadyToOperate) refl refl c.state_at.result
+    ∙ sym c.eq.ensures ∙ c.if-eq.false)
     c.set_ready.ensures

@@ -5,7 +5,3 @@ use Rattle.node.proofs.load.load_object.Goals as goal
 pub returns-in-Some : goal.returns-in-Some
 returns-in-Some c =
     rw c.in-Some.is c.set_object.ensures
-
-pub returns-in-None : goal.returns-in-None
-returns-in-None c =
-    rw c.in-None.is

@@ -6,4 +6,4 @@ use Rattle.node.proofs.range.is_loss.Goals as goal
 pub returns : goal.returns
 returns c =
     let a = c.args in
-    loss_read a.head.now a.time c.od_of.result _ _ c.od_of.ensures c.limit.ensures.0 c.elapsed.ensures.0
+    loss_read a.head.now a.time.us c.od_of.result _ _ c.od_of.ensures c.limit.ensures.0 c.elapsed.ensures.0
