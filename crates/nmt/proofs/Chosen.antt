@@ -1,26 +1,23 @@
--- What `chosen` needs of the rows that the rule asks for: the entry in the row of a pair is the rule's, of every state, event, enabled and ready, and reading
--- the entry is what the rule makes of the event. That the table has these rows is the contract of `row`, whose proof computes them.
+-- What `chosen` needs of the table that the rule asks for: the entry of every state, event, enabled and ready is the rule's, and reading the entry is what
+-- the rule makes of the event. That the table is this one antt computes, in the proof of `chosen`.
 -- Assumes nothing.
-use Prim.Native.Nat.{ℕ, zero, suc, ◌+◌, ◌*◌, ◌/◌, ◌%◌, ◌≤◌, ◌<◌, zero-le}
-use native.Mathlib.Omega.{arith}
-use native.Mathlib.Nat.{le_refl, le_of_suc-le-suc, not-suc-le-zero, eq-or-lt_of_le}
-use mathlib.Core.Path.{◌≡◌, refl, sym, ap, subst, ◌∙◌}
+use Prim.Native.Nat.{ℕ}
+use mathlib.Core.Path.{◌≡◌, refl, ap, ◌∙◌}
 use mathlib.Core.Bool.{Bool, true, false}
-use mathlib.Core.List.{List, [], map}
-use mathlib.Core.Logic.{inl, inr}
+use mathlib.Core.List.{List, [], ◌∷◌, map}
 use lib.ListN.{get_or}
-use lib.Dec.{T, leb, leb→le}
+use mir.Val.{bool_byte}
 use Rattle.types.specs.Pick.{pick}
 use Rattle.types.specs.States.{states}
-use Rattle.types.specs.Events.{event_number}
+use Rattle.types.specs.Events.{event_number, events}
 use Rattle.types.specs.declared.nmt.events.NmtEvent.{NmtEvent}
 use Rattle.types.specs.declared.nmt.states.NmtState.{NmtState}
 use Rattle.types.specs.declared.nmt.states.NmtState.TheVariants.{NmtReadyToOperate}
 use Rattle.types.specs.declared.frame.error.types.DllError.{DllError}
-use Rattle.types.proofs.Cases.{Enum, everywhere, NmtStates, NmtEvents}
+use Rattle.types.proofs.Cases.{everywhere, NmtStates, NmtEvents}
 use Rattle.nmt.specs.Resets.{Passed, is_reset, reset_sequence}
 use Rattle.nmt.specs.Nmt.{Move, Goes, Stays, Enables, Readies, Unexpected, Outcome, row_of, with, enter, enabled, ready, without_reset, applied, reset_by, processed}
-use Rattle.nmt.specs.Table.{place, state_at, event_at, packed, unpacked, in_row, entry_in, reports, entry_of, standing, ruled, ruled_row, pair, row_at}
+use Rattle.nmt.specs.Table.{place, state_at, packed, unpacked, reports, entry_of, standing, ruled}
 use Rattle.nmt.specs.declared.cn_state_machine.CnNmtStateMachine.{CnNmtStateMachine}
 use Rattle.nmt.specs.declared.table.Entry.{Entry}
 use Rattle.nmt.proofs.Laws.{reset_enters, plain_passes}
@@ -96,71 +93,34 @@ pub follows :
     ◌≡◌ {A = Outcome} (record { machine = with m x.state x.enabled x.ready; errors = es; reset = p }) (processed m e)
 follows m e x es p asked reported passed = rw (reported, passed) (ap (read m e) asked) ∙ ruled_read m e
 
--- the bounds of what the place of a row is made of
-small :
-    {A : Type 0} (E : Enum A) (f : A → ℕ) (n : ℕ) →
-    map (λ (x : A). leb (f x) n) E.items ≡ map (λ (x : A). true) E.items →
-    leb (f E.first) n ≡ true →
-    (x : A) →
-    f x ≤ n
-small E f n e h x = leb→le (f x) n (subst T (sym (everywhere E (λ x. leb (f x) n) (λ x. true) e h x)) tt)
+-- the table that the rule asks for
+abbrev flags : List Bool
+flags = false ∷ true ∷ []
 
-pub place_small : (s : NmtState) → place s ≤ 11
-place_small = small NmtStates place 11 refl refl
+abbrev entries : NmtState → NmtEvent → List (List ℕ)
+entries s e = map (λ enabled. map (λ ready. packed (ruled s e enabled ready)) flags) flags
 
-pub event_small : (e : NmtEvent) → event_number e ≤ 18
-event_small = small NmtEvents event_number 18 refl refl
+abbrev table : List (List (List (List ℕ)))
+table = map (λ s. map (entries s) events) states
 
-pick_small : (b : Bool) (n : ℕ) → pick b n 0 ≤ n
-pick_small true n = le_refl n
-pick_small false n = zero-le
+at_state : {B : Type 0} (f : NmtState → B) (d : B) (s : NmtState) → get_or (map f states) (place s) d ≡ f s
+at_state f d = everywhere NmtStates (λ s. get_or (map f states) (place s) d) f refl refl
 
-packed_small : (x : Entry) → packed x ≤ 123
-packed_small x = omega (arith, place_small x.state, pick_small x.ready 16, pick_small x.enabled 32, pick_small x.unexpected 64)
+at_event : {B : Type 0} (f : NmtEvent → B) (d : B) (e : NmtEvent) → get_or (map f events) (event_number e) d ≡ f e
+at_event f d = everywhere NmtEvents (λ e. get_or (map f events) (event_number e) d) f refl refl
 
--- the entry in a row of four
-in_row_lem : (f : Bool → Bool → ℕ) → ((on up : Bool) → f on up ≤ 123) → (on up : Bool) → entry_in (in_row f) on up ≡ f on up
-unfolding entry_in
-in_row_lem f h false false = omega (arith, h false false, h false true, h true false, h true true)
-in_row_lem f h false true = omega (arith, h false false, h false true, h true false, h true true)
-in_row_lem f h true false = omega (arith, h false false, h false true, h true false, h true true)
-in_row_lem f h true true = omega (arith, h false false, h false true, h true false, h true true)
+at_flag : {B : Type 0} (f : Bool → B) (d : B) (b : Bool) → get_or (map f flags) (bool_byte b) d ≡ f b
+at_flag f d true = refl
+at_flag f d false = refl
 
-module _ (p q : ℕ) (hp : p ≤ 11) (hq : q ≤ 18) where
-  state_part : (p * 19 + q) / 19 ≡ p
-  state_part = omega arith
-
-  event_part : (p * 19 + q) % 19 ≡ q
-  event_part = omega arith
-
-place_back : (s : NmtState) → state_at (place s) ≡ s
-unfolding state_at
-place_back = everywhere NmtStates (λ s. state_at (place s)) (λ s. s) refl refl
-
-number_back : (e : NmtEvent) → event_at (event_number e) ≡ e
-unfolding event_at
-number_back = everywhere NmtEvents (λ e. event_at (event_number e)) (λ e. e) refl refl
-
-of_pair : (s : NmtState) (e : NmtEvent) → row_at (pair s e) ≡ ruled_row s e
-unfolding row_at
-of_pair s e =
-    rw (state_part (place s) (event_number e) (place_small s) (event_small e), event_part (place s) (event_number e) (place_small s) (event_small e), place_back s, number_back e)
-
--- in the row that the rule asks for of a pair stands the entry that it asks for
-pub each_entry : (s : NmtState) (e : NmtEvent) (on up : Bool) → unpacked (entry_in (row_at (pair s e)) on up) ≡ ruled s e on up
-unfolding ruled_row
-each_entry s e on up =
-    ap (λ (r : ℕ). unpacked (entry_in r on up)) (of_pair s e) ∙ ap unpacked (in_row_lem (λ on up. packed (ruled s e on up)) (λ on up. packed_small (ruled s e on up)) on up) ∙ packed_back (ruled s e on up)
-
--- the row of a pair
-pub at_row : {x k r : ℕ} → x ≡ k → r ≡ row_at k → r ≡ row_at x
-at_row h e = e ∙ sym (ap row_at h)
-
--- what the last arm is told after n others: the number is none of those below n
-abbrev pub Missed : ℕ → ℕ → Type 0
-Missed zero x = Unit
-Missed (suc n) x = Missed n x × (x ≡ n → ⊥)
-
-pub none_left : (n x : ℕ) → Missed n x → x < n → ⊥
-none_left zero x m h = not-suc-le-zero h
-none_left (suc n) x m h = elim (eq-or-lt_of_le (le_of_suc-le-suc h)) [ inl e ↦ absurd (m.1 e) | inr r ↦ none_left n x m.0 r ]
+-- where a state, an event, enabled and ready stand in it, there is their entry
+pub each_entry :
+    (s : NmtState) (e : NmtEvent) (on up : Bool) (d1 : List (List (List ℕ))) (d2 : List (List ℕ)) (d3 : List ℕ) (d4 : ℕ) →
+    unpacked (get_or (get_or (get_or (get_or table (place s) d1) (event_number e) d2) (bool_byte on) d3) (bool_byte up) d4) ≡ ruled s e on up
+each_entry s e on up d1 d2 d3 d4 =
+    ap unpacked
+    (ap (λ l. get_or (get_or (get_or l (event_number e) d2) (bool_byte on) d3) (bool_byte up) d4) (at_state (λ s. map (entries s) events) d1 s) ∙
+    ap (λ l. get_or (get_or l (bool_byte on) d3) (bool_byte up) d4) (at_event (entries s) d2 e) ∙
+    ap (λ l. get_or l (bool_byte up) d4) (at_flag (λ enabled. map (λ ready. packed (ruled s e enabled ready)) flags) d3 on) ∙
+    at_flag (λ ready. packed (ruled s e on ready)) d4 up) ∙
+    packed_back (ruled s e on up)

@@ -1,7 +1,7 @@
--- The NMT choice as a table: an entry is what an event leaves of a state, enabled and ready, and whether the pair is reported. Where it stands, how it is
--- packed, and which entry the rule asks for.
+-- The NMT choice as a table: an entry is what an event leaves of a state, enabled and ready, and whether the pair is reported. How it is packed,
+-- and which entry the rule asks for.
 -- Assumes nothing.
-use Rattle.std.specs.Prelude.{ℕ, ◌+◌, ◌*◌, ◌/◌, ◌%◌, List, [], ◌∷◌, Bool, true, false, eqb}
+use Rattle.std.specs.Prelude.{ℕ, ◌+◌, ◌/◌, ◌%◌, List, [], ◌∷◌, Bool, true, false, eqb}
 use Rattle.types.specs.Pick.{pick, read_by}
 use Rattle.types.specs.States.{states, state_number}
 use Rattle.types.specs.Events.{event_number, events}
@@ -50,14 +50,6 @@ unpacked k =
       unexpected = eqb (k / 64 % 2) 1;
     }
 
--- four entries in a row, a byte each: from the left those where enabled and ready are 00, 01, 10, 11
-abbrev pub in_row : (Bool → Bool → ℕ) → ℕ
-in_row f = ((f false false * 256 + f false true) * 256 + f true false) * 256 + f true true
-
-unfoldable pub entry_in : ℕ → Bool → Bool → ℕ
-entry_in row enabled ready =
-    pick enabled (pick ready (row % 256) (row / 256 % 256)) (pick ready (row / 65536 % 256) (row / 16777216))
-
 -- what an entry reports: the pair that has no row
 abbrev pub reports : Bool → NmtState → NmtEvent → List DllError
 reports unexpected s e = pick unexpected (UnexpectedEventInState (state_number s) (event_number e) ∷ []) []
@@ -91,13 +83,3 @@ standing s enabled ready =
 -- the entry that the rule asks for
 unfoldable pub ruled : NmtState → NmtEvent → Bool → Bool → Entry
 ruled s e enabled ready = entry_of (processed (standing s enabled ready) e)
-
--- the row that it asks for, and the place of a row: 19 events for each state
-unfoldable pub ruled_row : NmtState → NmtEvent → ℕ
-ruled_row s e = in_row (λ enabled ready. packed (ruled s e enabled ready))
-
-abbrev pub pair : NmtState → NmtEvent → ℕ
-pair s e = place s * 19 + event_number e
-
-unfoldable pub row_at : ℕ → ℕ
-row_at k = ruled_row (state_at (k / 19)) (event_at (k % 19))

@@ -36,6 +36,7 @@ pub struct ResetSequence {
     pub restored: RestoredRanges,
 }
 
+#[tactic(auto, unfolding(crate::specs::Resets::is_reset))]
 pub fn is_reset(event: NmtEvent) -> bool
     ensures { result ≡ is_reset event }
 {
@@ -65,6 +66,7 @@ const COMMUNICATION: IndexRange = IndexRange {
 };
 
 // Nothing of an event that is no reset.
+#[tactic(auto, unfolding(crate::specs::Resets::reset_sequence, crate::specs::Resets::states_entered))]
 pub fn reset_sequence(event: NmtEvent) -> ResetSequence
     ensures { passed result ≡ reset_sequence event }
 {

@@ -1,6 +1,6 @@
 // The NMT choice as a table: an entry for each state, event, enabled and ready, and how an entry is packed.
-ghost use Rattle.std.specs.Prelude.{◌≡◌, ◌<◌};
-ghost use Rattle.nmt.specs.Table.{place, state_at, unpacked, entry_in, ruled, row_at};
+ghost use Rattle.std.specs.Prelude.{◌≡◌};
+ghost use Rattle.nmt.specs.Table.{place, state_at, unpacked, ruled};
 
 use types::nmt::events::NmtEvent;
 use types::nmt::states::NmtState;
@@ -17,6 +17,7 @@ pub struct Entry {
 
 // An entry in a byte: the low digit is the next state's place in its enum, 0x0 to 0xB; the high one is 1 where it is ready then,
 // 2 where enabled, 4 where the pair is reported.
+#[tactic(auto, unfolding(crate::specs::Table::unpacked))]
 fn unpack(entry: u8) -> Entry
     ensures { result ≡ unpacked entry }
 {
@@ -29,31 +30,16 @@ fn unpack(entry: u8) -> Entry
     }
 }
 
-// The entry in a row: enabled and ready are 00, 01, 10, 11 from the left.
-fn entry_in(row: u32, enabled: bool, ready: bool) -> u8
-    ensures { result ≡ entry_in row enabled ready }
-{
-    if enabled {
-        if ready {
-            return (row % 256) as u8;
-        }
-        return (row / 256 % 256) as u8;
-    }
-    if ready {
-        return (row / 65536 % 256) as u8;
-    }
-    (row / 16777216) as u8
-}
-
 // The entry of a state, an event, enabled and ready.
 pub fn chosen(state: NmtState, event: NmtEvent, enabled: bool, ready: bool) -> Entry
     ensures { result ≡ ruled state event enabled ready }
 {
-    let pair = place(state) * 19 + event.as_u8();
-    unpack(entry_in(row(pair), enabled, ready))
+    let line = TABLE[place(state)][usize::from(event.as_u8())];
+    unpack(line[usize::from(enabled)][usize::from(ready)])
 }
 
-fn place(state: NmtState) -> u8
+// A state's place in the table.
+fn place(state: NmtState) -> usize
     ensures { result ≡ place state }
 {
     match state {
@@ -73,6 +59,7 @@ fn place(state: NmtState) -> u8
 }
 
 // No state has a place above 0xB; there it is GsOff.
+#[tactic(auto, unfolding(crate::specs::Table::state_at))]
 pub fn state_at(place: u8) -> NmtState
     ensures { result ≡ state_at place }
 {
@@ -93,254 +80,271 @@ pub fn state_at(place: u8) -> NmtState
     }
 }
 
-// The table: a row for each pair of state and event, by 19 times the state's place and the event's number, with four entries in each. It is a
-// `match`, which is compiled to read-only data; an array constant would be written to the stack, all of it, at each event.
-fn row(pair: u8) -> u32
-    requires { pair < 228 }
-    ensures { result ≡ row_at pair }
-{
-    match pair {
-        // GsOff, 0x00
-        0 => 0x40_50_60_70, // StartNode
-        1 => 0x40_50_60_70, // StopNode
-        2 => 0x40_50_60_70, // EnterPreOperational2
-        3 => 0x40_50_60_70, // EnableReadyToOperate
-        4 => 0x05_05_05_05, // Reset
-        5 => 0x05_05_05_05, // SwReset
-        6 => 0x05_05_05_05, // ResetNode
-        7 => 0x05_05_05_05, // ResetCommunication
-        8 => 0x05_05_05_05, // ResetConfiguration
-        9 => 0x40_50_60_70, // EnterEplMode
-        10 => 0x40_50_60_70, // Timeout
-        11 => 0x40_50_60_70, // Error
-        12 => 0x40_50_60_70, // SoAReceived
-        13 => 0x40_50_60_70, // SocReceived
-        14 => 0x40_50_60_70, // PowerlinkFrameReceived
-        15 => 0x40_50_60_70, // CnConfigurationComplete
-        16 => 0x40_50_60_70, // AllCnsIdentified
-        17 => 0x40_50_60_70, // ConfigurationCompleteCnsReady
-        18 => 0x40_50_60_70, // AllMandatoryCnsOperational
-        // GsInitialising, 0x19
-        19 => 0x41_51_61_71, // StartNode
-        20 => 0x41_51_61_71, // StopNode
-        21 => 0x41_51_61_71, // EnterPreOperational2
-        22 => 0x41_51_61_71, // EnableReadyToOperate
-        23 => 0x05_05_05_05, // Reset
-        24 => 0x05_05_05_05, // SwReset
-        25 => 0x05_05_05_05, // ResetNode
-        26 => 0x05_05_05_05, // ResetCommunication
-        27 => 0x05_05_05_05, // ResetConfiguration
-        28 => 0x41_51_61_71, // EnterEplMode
-        29 => 0x41_51_61_71, // Timeout
-        30 => 0x41_51_61_71, // Error
-        31 => 0x41_51_61_71, // SoAReceived
-        32 => 0x41_51_61_71, // SocReceived
-        33 => 0x41_51_61_71, // PowerlinkFrameReceived
-        34 => 0x41_51_61_71, // CnConfigurationComplete
-        35 => 0x41_51_61_71, // AllCnsIdentified
-        36 => 0x41_51_61_71, // ConfigurationCompleteCnsReady
-        37 => 0x41_51_61_71, // AllMandatoryCnsOperational
-        // GsResetApplication, 0x29
-        38 => 0x42_52_62_72, // StartNode
-        39 => 0x42_52_62_72, // StopNode
-        40 => 0x42_52_62_72, // EnterPreOperational2
-        41 => 0x42_52_62_72, // EnableReadyToOperate
-        42 => 0x05_05_05_05, // Reset
-        43 => 0x05_05_05_05, // SwReset
-        44 => 0x05_05_05_05, // ResetNode
-        45 => 0x05_05_05_05, // ResetCommunication
-        46 => 0x05_05_05_05, // ResetConfiguration
-        47 => 0x42_52_62_72, // EnterEplMode
-        48 => 0x42_52_62_72, // Timeout
-        49 => 0x42_52_62_72, // Error
-        50 => 0x42_52_62_72, // SoAReceived
-        51 => 0x42_52_62_72, // SocReceived
-        52 => 0x42_52_62_72, // PowerlinkFrameReceived
-        53 => 0x42_52_62_72, // CnConfigurationComplete
-        54 => 0x42_52_62_72, // AllCnsIdentified
-        55 => 0x42_52_62_72, // ConfigurationCompleteCnsReady
-        56 => 0x42_52_62_72, // AllMandatoryCnsOperational
-        // GsResetCommunication, 0x39
-        57 => 0x43_53_63_73, // StartNode
-        58 => 0x43_53_63_73, // StopNode
-        59 => 0x43_53_63_73, // EnterPreOperational2
-        60 => 0x43_53_63_73, // EnableReadyToOperate
-        61 => 0x05_05_05_05, // Reset
-        62 => 0x05_05_05_05, // SwReset
-        63 => 0x05_05_05_05, // ResetNode
-        64 => 0x05_05_05_05, // ResetCommunication
-        65 => 0x05_05_05_05, // ResetConfiguration
-        66 => 0x43_53_63_73, // EnterEplMode
-        67 => 0x43_53_63_73, // Timeout
-        68 => 0x43_53_63_73, // Error
-        69 => 0x43_53_63_73, // SoAReceived
-        70 => 0x43_53_63_73, // SocReceived
-        71 => 0x43_53_63_73, // PowerlinkFrameReceived
-        72 => 0x43_53_63_73, // CnConfigurationComplete
-        73 => 0x43_53_63_73, // AllCnsIdentified
-        74 => 0x43_53_63_73, // ConfigurationCompleteCnsReady
-        75 => 0x43_53_63_73, // AllMandatoryCnsOperational
-        // GsResetConfiguration, 0x79
-        76 => 0x44_54_64_74, // StartNode
-        77 => 0x44_54_64_74, // StopNode
-        78 => 0x44_54_64_74, // EnterPreOperational2
-        79 => 0x44_54_64_74, // EnableReadyToOperate
-        80 => 0x05_05_05_05, // Reset
-        81 => 0x05_05_05_05, // SwReset
-        82 => 0x05_05_05_05, // ResetNode
-        83 => 0x05_05_05_05, // ResetCommunication
-        84 => 0x05_05_05_05, // ResetConfiguration
-        85 => 0x44_54_64_74, // EnterEplMode
-        86 => 0x44_54_64_74, // Timeout
-        87 => 0x44_54_64_74, // Error
-        88 => 0x44_54_64_74, // SoAReceived
-        89 => 0x44_54_64_74, // SocReceived
-        90 => 0x44_54_64_74, // PowerlinkFrameReceived
-        91 => 0x44_54_64_74, // CnConfigurationComplete
-        92 => 0x44_54_64_74, // AllCnsIdentified
-        93 => 0x44_54_64_74, // ConfigurationCompleteCnsReady
-        94 => 0x44_54_64_74, // AllMandatoryCnsOperational
-        // NotActive, 0x1C
-        95 => 0x45_55_65_75, // StartNode
-        96 => 0x45_55_65_75, // StopNode
-        97 => 0x45_55_65_75, // EnterPreOperational2
-        98 => 0x45_55_65_75, // EnableReadyToOperate
-        99 => 0x05_05_05_05, // Reset
-        100 => 0x05_05_05_05, // SwReset
-        101 => 0x05_05_05_05, // ResetNode
-        102 => 0x05_05_05_05, // ResetCommunication
-        103 => 0x05_05_05_05, // ResetConfiguration
-        104 => 0x45_55_65_75, // EnterEplMode
-        105 => 0x0B_1B_0B_1B, // Timeout
-        106 => 0x45_55_65_75, // Error
-        107 => 0x06_16_06_16, // SoAReceived
-        108 => 0x06_16_06_16, // SocReceived
-        109 => 0x45_55_65_75, // PowerlinkFrameReceived
-        110 => 0x45_55_65_75, // CnConfigurationComplete
-        111 => 0x45_55_65_75, // AllCnsIdentified
-        112 => 0x45_55_65_75, // ConfigurationCompleteCnsReady
-        113 => 0x45_55_65_75, // AllMandatoryCnsOperational
-        // PreOperational1, 0x1D
-        114 => 0x46_56_66_76, // StartNode
-        115 => 0x46_56_66_76, // StopNode
-        116 => 0x46_56_66_76, // EnterPreOperational2
-        117 => 0x46_56_66_76, // EnableReadyToOperate
-        118 => 0x05_05_05_05, // Reset
-        119 => 0x05_05_05_05, // SwReset
-        120 => 0x05_05_05_05, // ResetNode
-        121 => 0x05_05_05_05, // ResetCommunication
-        122 => 0x05_05_05_05, // ResetConfiguration
-        123 => 0x46_56_66_76, // EnterEplMode
-        124 => 0x46_56_66_76, // Timeout
-        125 => 0x46_56_66_76, // Error
-        126 => 0x46_56_66_76, // SoAReceived
-        127 => 0x07_17_27_37, // SocReceived
-        128 => 0x46_56_66_76, // PowerlinkFrameReceived
-        129 => 0x46_56_66_76, // CnConfigurationComplete
-        130 => 0x46_56_66_76, // AllCnsIdentified
-        131 => 0x46_56_66_76, // ConfigurationCompleteCnsReady
-        132 => 0x46_56_66_76, // AllMandatoryCnsOperational
-        // PreOperational2, 0x5D
-        133 => 0x27_19_27_19, // StartNode
-        134 => 0x0A_1A_0A_1A, // StopNode
-        135 => 0x47_57_67_77, // EnterPreOperational2
-        136 => 0x27_38_27_38, // EnableReadyToOperate
-        137 => 0x05_05_05_05, // Reset
-        138 => 0x05_05_05_05, // SwReset
-        139 => 0x05_05_05_05, // ResetNode
-        140 => 0x05_05_05_05, // ResetCommunication
-        141 => 0x05_05_05_05, // ResetConfiguration
-        142 => 0x47_57_67_77, // EnterEplMode
-        143 => 0x47_57_67_77, // Timeout
-        144 => 0x06_16_06_16, // Error
-        145 => 0x47_57_67_77, // SoAReceived
-        146 => 0x47_57_67_77, // SocReceived
-        147 => 0x47_57_67_77, // PowerlinkFrameReceived
-        148 => 0x17_17_38_38, // CnConfigurationComplete
-        149 => 0x47_57_67_77, // AllCnsIdentified
-        150 => 0x47_57_67_77, // ConfigurationCompleteCnsReady
-        151 => 0x47_57_67_77, // AllMandatoryCnsOperational
-        // ReadyToOperate, 0x6D
-        152 => 0x09_19_09_19, // StartNode
-        153 => 0x0A_1A_0A_1A, // StopNode
-        154 => 0x48_58_68_78, // EnterPreOperational2
-        155 => 0x08_18_28_38, // EnableReadyToOperate
-        156 => 0x05_05_05_05, // Reset
-        157 => 0x05_05_05_05, // SwReset
-        158 => 0x05_05_05_05, // ResetNode
-        159 => 0x05_05_05_05, // ResetCommunication
-        160 => 0x05_05_05_05, // ResetConfiguration
-        161 => 0x48_58_68_78, // EnterEplMode
-        162 => 0x48_58_68_78, // Timeout
-        163 => 0x06_16_06_16, // Error
-        164 => 0x48_58_68_78, // SoAReceived
-        165 => 0x48_58_68_78, // SocReceived
-        166 => 0x48_58_68_78, // PowerlinkFrameReceived
-        167 => 0x08_18_28_38, // CnConfigurationComplete
-        168 => 0x48_58_68_78, // AllCnsIdentified
-        169 => 0x48_58_68_78, // ConfigurationCompleteCnsReady
-        170 => 0x48_58_68_78, // AllMandatoryCnsOperational
-        // Operational, 0xFD
-        171 => 0x49_59_69_79, // StartNode
-        172 => 0x0A_1A_0A_1A, // StopNode
-        173 => 0x07_17_27_37, // EnterPreOperational2
-        174 => 0x49_59_69_79, // EnableReadyToOperate
-        175 => 0x05_05_05_05, // Reset
-        176 => 0x05_05_05_05, // SwReset
-        177 => 0x05_05_05_05, // ResetNode
-        178 => 0x05_05_05_05, // ResetCommunication
-        179 => 0x05_05_05_05, // ResetConfiguration
-        180 => 0x49_59_69_79, // EnterEplMode
-        181 => 0x49_59_69_79, // Timeout
-        182 => 0x06_16_06_16, // Error
-        183 => 0x49_59_69_79, // SoAReceived
-        184 => 0x49_59_69_79, // SocReceived
-        185 => 0x49_59_69_79, // PowerlinkFrameReceived
-        186 => 0x49_59_69_79, // CnConfigurationComplete
-        187 => 0x49_59_69_79, // AllCnsIdentified
-        188 => 0x49_59_69_79, // ConfigurationCompleteCnsReady
-        189 => 0x49_59_69_79, // AllMandatoryCnsOperational
-        // CsStopped, 0x4D
-        190 => 0x4A_5A_6A_7A, // StartNode
-        191 => 0x4A_5A_6A_7A, // StopNode
-        192 => 0x07_17_27_37, // EnterPreOperational2
-        193 => 0x4A_5A_6A_7A, // EnableReadyToOperate
-        194 => 0x05_05_05_05, // Reset
-        195 => 0x05_05_05_05, // SwReset
-        196 => 0x05_05_05_05, // ResetNode
-        197 => 0x05_05_05_05, // ResetCommunication
-        198 => 0x05_05_05_05, // ResetConfiguration
-        199 => 0x4A_5A_6A_7A, // EnterEplMode
-        200 => 0x4A_5A_6A_7A, // Timeout
-        201 => 0x06_16_06_16, // Error
-        202 => 0x4A_5A_6A_7A, // SoAReceived
-        203 => 0x4A_5A_6A_7A, // SocReceived
-        204 => 0x4A_5A_6A_7A, // PowerlinkFrameReceived
-        205 => 0x4A_5A_6A_7A, // CnConfigurationComplete
-        206 => 0x4A_5A_6A_7A, // AllCnsIdentified
-        207 => 0x4A_5A_6A_7A, // ConfigurationCompleteCnsReady
-        208 => 0x4A_5A_6A_7A, // AllMandatoryCnsOperational
-        // BasicEthernet, 0x1E
-        209 => 0x4B_5B_6B_7B, // StartNode
-        210 => 0x4B_5B_6B_7B, // StopNode
-        211 => 0x4B_5B_6B_7B, // EnterPreOperational2
-        212 => 0x4B_5B_6B_7B, // EnableReadyToOperate
-        213 => 0x05_05_05_05, // Reset
-        214 => 0x05_05_05_05, // SwReset
-        215 => 0x05_05_05_05, // ResetNode
-        216 => 0x05_05_05_05, // ResetCommunication
-        217 => 0x05_05_05_05, // ResetConfiguration
-        218 => 0x4B_5B_6B_7B, // EnterEplMode
-        219 => 0x4B_5B_6B_7B, // Timeout
-        220 => 0x4B_5B_6B_7B, // Error
-        221 => 0x4B_5B_6B_7B, // SoAReceived
-        222 => 0x4B_5B_6B_7B, // SocReceived
-        223 => 0x06_16_06_16, // PowerlinkFrameReceived
-        224 => 0x4B_5B_6B_7B, // CnConfigurationComplete
-        225 => 0x4B_5B_6B_7B, // AllCnsIdentified
-        226 => 0x4B_5B_6B_7B, // ConfigurationCompleteCnsReady
-        227 => 0x4B_5B_6B_7B, // AllMandatoryCnsOperational
-        // no pair
-        _ => 0,
-    }
-}
+// The table: a block for each state, a line for each event, and in it four entries. Those where it is not enabled stand left, those where it is
+// enabled right; of both, the first is that where it is not ready.
+static TABLE: [[[[u8; 2]; 2]; 19]; 12] = [
+    // GsOff, 0x00
+    [
+        [[0x40, 0x50], [0x60, 0x70]], // GsOff: StartNode
+        [[0x40, 0x50], [0x60, 0x70]], // GsOff: StopNode
+        [[0x40, 0x50], [0x60, 0x70]], // GsOff: EnterPreOperational2
+        [[0x40, 0x50], [0x60, 0x70]], // GsOff: EnableReadyToOperate
+        [[0x05, 0x05], [0x05, 0x05]], // GsOff: Reset
+        [[0x05, 0x05], [0x05, 0x05]], // GsOff: SwReset
+        [[0x05, 0x05], [0x05, 0x05]], // GsOff: ResetNode
+        [[0x05, 0x05], [0x05, 0x05]], // GsOff: ResetCommunication
+        [[0x05, 0x05], [0x05, 0x05]], // GsOff: ResetConfiguration
+        [[0x40, 0x50], [0x60, 0x70]], // GsOff: EnterEplMode
+        [[0x40, 0x50], [0x60, 0x70]], // GsOff: Timeout
+        [[0x40, 0x50], [0x60, 0x70]], // GsOff: Error
+        [[0x40, 0x50], [0x60, 0x70]], // GsOff: SoAReceived
+        [[0x40, 0x50], [0x60, 0x70]], // GsOff: SocReceived
+        [[0x40, 0x50], [0x60, 0x70]], // GsOff: PowerlinkFrameReceived
+        [[0x40, 0x50], [0x60, 0x70]], // GsOff: CnConfigurationComplete
+        [[0x40, 0x50], [0x60, 0x70]], // GsOff: AllCnsIdentified
+        [[0x40, 0x50], [0x60, 0x70]], // GsOff: ConfigurationCompleteCnsReady
+        [[0x40, 0x50], [0x60, 0x70]], // GsOff: AllMandatoryCnsOperational
+    ],
+    // GsInitialising, 0x19
+    [
+        [[0x41, 0x51], [0x61, 0x71]], // GsInitialising: StartNode
+        [[0x41, 0x51], [0x61, 0x71]], // GsInitialising: StopNode
+        [[0x41, 0x51], [0x61, 0x71]], // GsInitialising: EnterPreOperational2
+        [[0x41, 0x51], [0x61, 0x71]], // GsInitialising: EnableReadyToOperate
+        [[0x05, 0x05], [0x05, 0x05]], // GsInitialising: Reset
+        [[0x05, 0x05], [0x05, 0x05]], // GsInitialising: SwReset
+        [[0x05, 0x05], [0x05, 0x05]], // GsInitialising: ResetNode
+        [[0x05, 0x05], [0x05, 0x05]], // GsInitialising: ResetCommunication
+        [[0x05, 0x05], [0x05, 0x05]], // GsInitialising: ResetConfiguration
+        [[0x41, 0x51], [0x61, 0x71]], // GsInitialising: EnterEplMode
+        [[0x41, 0x51], [0x61, 0x71]], // GsInitialising: Timeout
+        [[0x41, 0x51], [0x61, 0x71]], // GsInitialising: Error
+        [[0x41, 0x51], [0x61, 0x71]], // GsInitialising: SoAReceived
+        [[0x41, 0x51], [0x61, 0x71]], // GsInitialising: SocReceived
+        [[0x41, 0x51], [0x61, 0x71]], // GsInitialising: PowerlinkFrameReceived
+        [[0x41, 0x51], [0x61, 0x71]], // GsInitialising: CnConfigurationComplete
+        [[0x41, 0x51], [0x61, 0x71]], // GsInitialising: AllCnsIdentified
+        [[0x41, 0x51], [0x61, 0x71]], // GsInitialising: ConfigurationCompleteCnsReady
+        [[0x41, 0x51], [0x61, 0x71]], // GsInitialising: AllMandatoryCnsOperational
+    ],
+    // GsResetApplication, 0x29
+    [
+        [[0x42, 0x52], [0x62, 0x72]], // GsResetApplication: StartNode
+        [[0x42, 0x52], [0x62, 0x72]], // GsResetApplication: StopNode
+        [[0x42, 0x52], [0x62, 0x72]], // GsResetApplication: EnterPreOperational2
+        [[0x42, 0x52], [0x62, 0x72]], // GsResetApplication: EnableReadyToOperate
+        [[0x05, 0x05], [0x05, 0x05]], // GsResetApplication: Reset
+        [[0x05, 0x05], [0x05, 0x05]], // GsResetApplication: SwReset
+        [[0x05, 0x05], [0x05, 0x05]], // GsResetApplication: ResetNode
+        [[0x05, 0x05], [0x05, 0x05]], // GsResetApplication: ResetCommunication
+        [[0x05, 0x05], [0x05, 0x05]], // GsResetApplication: ResetConfiguration
+        [[0x42, 0x52], [0x62, 0x72]], // GsResetApplication: EnterEplMode
+        [[0x42, 0x52], [0x62, 0x72]], // GsResetApplication: Timeout
+        [[0x42, 0x52], [0x62, 0x72]], // GsResetApplication: Error
+        [[0x42, 0x52], [0x62, 0x72]], // GsResetApplication: SoAReceived
+        [[0x42, 0x52], [0x62, 0x72]], // GsResetApplication: SocReceived
+        [[0x42, 0x52], [0x62, 0x72]], // GsResetApplication: PowerlinkFrameReceived
+        [[0x42, 0x52], [0x62, 0x72]], // GsResetApplication: CnConfigurationComplete
+        [[0x42, 0x52], [0x62, 0x72]], // GsResetApplication: AllCnsIdentified
+        [[0x42, 0x52], [0x62, 0x72]], // GsResetApplication: ConfigurationCompleteCnsReady
+        [[0x42, 0x52], [0x62, 0x72]], // GsResetApplication: AllMandatoryCnsOperational
+    ],
+    // GsResetCommunication, 0x39
+    [
+        [[0x43, 0x53], [0x63, 0x73]], // GsResetCommunication: StartNode
+        [[0x43, 0x53], [0x63, 0x73]], // GsResetCommunication: StopNode
+        [[0x43, 0x53], [0x63, 0x73]], // GsResetCommunication: EnterPreOperational2
+        [[0x43, 0x53], [0x63, 0x73]], // GsResetCommunication: EnableReadyToOperate
+        [[0x05, 0x05], [0x05, 0x05]], // GsResetCommunication: Reset
+        [[0x05, 0x05], [0x05, 0x05]], // GsResetCommunication: SwReset
+        [[0x05, 0x05], [0x05, 0x05]], // GsResetCommunication: ResetNode
+        [[0x05, 0x05], [0x05, 0x05]], // GsResetCommunication: ResetCommunication
+        [[0x05, 0x05], [0x05, 0x05]], // GsResetCommunication: ResetConfiguration
+        [[0x43, 0x53], [0x63, 0x73]], // GsResetCommunication: EnterEplMode
+        [[0x43, 0x53], [0x63, 0x73]], // GsResetCommunication: Timeout
+        [[0x43, 0x53], [0x63, 0x73]], // GsResetCommunication: Error
+        [[0x43, 0x53], [0x63, 0x73]], // GsResetCommunication: SoAReceived
+        [[0x43, 0x53], [0x63, 0x73]], // GsResetCommunication: SocReceived
+        [[0x43, 0x53], [0x63, 0x73]], // GsResetCommunication: PowerlinkFrameReceived
+        [[0x43, 0x53], [0x63, 0x73]], // GsResetCommunication: CnConfigurationComplete
+        [[0x43, 0x53], [0x63, 0x73]], // GsResetCommunication: AllCnsIdentified
+        [[0x43, 0x53], [0x63, 0x73]], // GsResetCommunication: ConfigurationCompleteCnsReady
+        [[0x43, 0x53], [0x63, 0x73]], // GsResetCommunication: AllMandatoryCnsOperational
+    ],
+    // GsResetConfiguration, 0x79
+    [
+        [[0x44, 0x54], [0x64, 0x74]], // GsResetConfiguration: StartNode
+        [[0x44, 0x54], [0x64, 0x74]], // GsResetConfiguration: StopNode
+        [[0x44, 0x54], [0x64, 0x74]], // GsResetConfiguration: EnterPreOperational2
+        [[0x44, 0x54], [0x64, 0x74]], // GsResetConfiguration: EnableReadyToOperate
+        [[0x05, 0x05], [0x05, 0x05]], // GsResetConfiguration: Reset
+        [[0x05, 0x05], [0x05, 0x05]], // GsResetConfiguration: SwReset
+        [[0x05, 0x05], [0x05, 0x05]], // GsResetConfiguration: ResetNode
+        [[0x05, 0x05], [0x05, 0x05]], // GsResetConfiguration: ResetCommunication
+        [[0x05, 0x05], [0x05, 0x05]], // GsResetConfiguration: ResetConfiguration
+        [[0x44, 0x54], [0x64, 0x74]], // GsResetConfiguration: EnterEplMode
+        [[0x44, 0x54], [0x64, 0x74]], // GsResetConfiguration: Timeout
+        [[0x44, 0x54], [0x64, 0x74]], // GsResetConfiguration: Error
+        [[0x44, 0x54], [0x64, 0x74]], // GsResetConfiguration: SoAReceived
+        [[0x44, 0x54], [0x64, 0x74]], // GsResetConfiguration: SocReceived
+        [[0x44, 0x54], [0x64, 0x74]], // GsResetConfiguration: PowerlinkFrameReceived
+        [[0x44, 0x54], [0x64, 0x74]], // GsResetConfiguration: CnConfigurationComplete
+        [[0x44, 0x54], [0x64, 0x74]], // GsResetConfiguration: AllCnsIdentified
+        [[0x44, 0x54], [0x64, 0x74]], // GsResetConfiguration: ConfigurationCompleteCnsReady
+        [[0x44, 0x54], [0x64, 0x74]], // GsResetConfiguration: AllMandatoryCnsOperational
+    ],
+    // NotActive, 0x1C
+    [
+        [[0x45, 0x55], [0x65, 0x75]], // NotActive: StartNode
+        [[0x45, 0x55], [0x65, 0x75]], // NotActive: StopNode
+        [[0x45, 0x55], [0x65, 0x75]], // NotActive: EnterPreOperational2
+        [[0x45, 0x55], [0x65, 0x75]], // NotActive: EnableReadyToOperate
+        [[0x05, 0x05], [0x05, 0x05]], // NotActive: Reset
+        [[0x05, 0x05], [0x05, 0x05]], // NotActive: SwReset
+        [[0x05, 0x05], [0x05, 0x05]], // NotActive: ResetNode
+        [[0x05, 0x05], [0x05, 0x05]], // NotActive: ResetCommunication
+        [[0x05, 0x05], [0x05, 0x05]], // NotActive: ResetConfiguration
+        [[0x45, 0x55], [0x65, 0x75]], // NotActive: EnterEplMode
+        [[0x0B, 0x1B], [0x0B, 0x1B]], // NotActive: Timeout
+        [[0x45, 0x55], [0x65, 0x75]], // NotActive: Error
+        [[0x06, 0x16], [0x06, 0x16]], // NotActive: SoAReceived
+        [[0x06, 0x16], [0x06, 0x16]], // NotActive: SocReceived
+        [[0x45, 0x55], [0x65, 0x75]], // NotActive: PowerlinkFrameReceived
+        [[0x45, 0x55], [0x65, 0x75]], // NotActive: CnConfigurationComplete
+        [[0x45, 0x55], [0x65, 0x75]], // NotActive: AllCnsIdentified
+        [[0x45, 0x55], [0x65, 0x75]], // NotActive: ConfigurationCompleteCnsReady
+        [[0x45, 0x55], [0x65, 0x75]], // NotActive: AllMandatoryCnsOperational
+    ],
+    // PreOperational1, 0x1D
+    [
+        [[0x46, 0x56], [0x66, 0x76]], // PreOperational1: StartNode
+        [[0x46, 0x56], [0x66, 0x76]], // PreOperational1: StopNode
+        [[0x46, 0x56], [0x66, 0x76]], // PreOperational1: EnterPreOperational2
+        [[0x46, 0x56], [0x66, 0x76]], // PreOperational1: EnableReadyToOperate
+        [[0x05, 0x05], [0x05, 0x05]], // PreOperational1: Reset
+        [[0x05, 0x05], [0x05, 0x05]], // PreOperational1: SwReset
+        [[0x05, 0x05], [0x05, 0x05]], // PreOperational1: ResetNode
+        [[0x05, 0x05], [0x05, 0x05]], // PreOperational1: ResetCommunication
+        [[0x05, 0x05], [0x05, 0x05]], // PreOperational1: ResetConfiguration
+        [[0x46, 0x56], [0x66, 0x76]], // PreOperational1: EnterEplMode
+        [[0x46, 0x56], [0x66, 0x76]], // PreOperational1: Timeout
+        [[0x46, 0x56], [0x66, 0x76]], // PreOperational1: Error
+        [[0x46, 0x56], [0x66, 0x76]], // PreOperational1: SoAReceived
+        [[0x07, 0x17], [0x27, 0x37]], // PreOperational1: SocReceived
+        [[0x46, 0x56], [0x66, 0x76]], // PreOperational1: PowerlinkFrameReceived
+        [[0x46, 0x56], [0x66, 0x76]], // PreOperational1: CnConfigurationComplete
+        [[0x46, 0x56], [0x66, 0x76]], // PreOperational1: AllCnsIdentified
+        [[0x46, 0x56], [0x66, 0x76]], // PreOperational1: ConfigurationCompleteCnsReady
+        [[0x46, 0x56], [0x66, 0x76]], // PreOperational1: AllMandatoryCnsOperational
+    ],
+    // PreOperational2, 0x5D
+    [
+        [[0x27, 0x19], [0x27, 0x19]], // PreOperational2: StartNode
+        [[0x0A, 0x1A], [0x0A, 0x1A]], // PreOperational2: StopNode
+        [[0x47, 0x57], [0x67, 0x77]], // PreOperational2: EnterPreOperational2
+        [[0x27, 0x38], [0x27, 0x38]], // PreOperational2: EnableReadyToOperate
+        [[0x05, 0x05], [0x05, 0x05]], // PreOperational2: Reset
+        [[0x05, 0x05], [0x05, 0x05]], // PreOperational2: SwReset
+        [[0x05, 0x05], [0x05, 0x05]], // PreOperational2: ResetNode
+        [[0x05, 0x05], [0x05, 0x05]], // PreOperational2: ResetCommunication
+        [[0x05, 0x05], [0x05, 0x05]], // PreOperational2: ResetConfiguration
+        [[0x47, 0x57], [0x67, 0x77]], // PreOperational2: EnterEplMode
+        [[0x47, 0x57], [0x67, 0x77]], // PreOperational2: Timeout
+        [[0x06, 0x16], [0x06, 0x16]], // PreOperational2: Error
+        [[0x47, 0x57], [0x67, 0x77]], // PreOperational2: SoAReceived
+        [[0x47, 0x57], [0x67, 0x77]], // PreOperational2: SocReceived
+        [[0x47, 0x57], [0x67, 0x77]], // PreOperational2: PowerlinkFrameReceived
+        [[0x17, 0x17], [0x38, 0x38]], // PreOperational2: CnConfigurationComplete
+        [[0x47, 0x57], [0x67, 0x77]], // PreOperational2: AllCnsIdentified
+        [[0x47, 0x57], [0x67, 0x77]], // PreOperational2: ConfigurationCompleteCnsReady
+        [[0x47, 0x57], [0x67, 0x77]], // PreOperational2: AllMandatoryCnsOperational
+    ],
+    // ReadyToOperate, 0x6D
+    [
+        [[0x09, 0x19], [0x09, 0x19]], // ReadyToOperate: StartNode
+        [[0x0A, 0x1A], [0x0A, 0x1A]], // ReadyToOperate: StopNode
+        [[0x48, 0x58], [0x68, 0x78]], // ReadyToOperate: EnterPreOperational2
+        [[0x08, 0x18], [0x28, 0x38]], // ReadyToOperate: EnableReadyToOperate
+        [[0x05, 0x05], [0x05, 0x05]], // ReadyToOperate: Reset
+        [[0x05, 0x05], [0x05, 0x05]], // ReadyToOperate: SwReset
+        [[0x05, 0x05], [0x05, 0x05]], // ReadyToOperate: ResetNode
+        [[0x05, 0x05], [0x05, 0x05]], // ReadyToOperate: ResetCommunication
+        [[0x05, 0x05], [0x05, 0x05]], // ReadyToOperate: ResetConfiguration
+        [[0x48, 0x58], [0x68, 0x78]], // ReadyToOperate: EnterEplMode
+        [[0x48, 0x58], [0x68, 0x78]], // ReadyToOperate: Timeout
+        [[0x06, 0x16], [0x06, 0x16]], // ReadyToOperate: Error
+        [[0x48, 0x58], [0x68, 0x78]], // ReadyToOperate: SoAReceived
+        [[0x48, 0x58], [0x68, 0x78]], // ReadyToOperate: SocReceived
+        [[0x48, 0x58], [0x68, 0x78]], // ReadyToOperate: PowerlinkFrameReceived
+        [[0x08, 0x18], [0x28, 0x38]], // ReadyToOperate: CnConfigurationComplete
+        [[0x48, 0x58], [0x68, 0x78]], // ReadyToOperate: AllCnsIdentified
+        [[0x48, 0x58], [0x68, 0x78]], // ReadyToOperate: ConfigurationCompleteCnsReady
+        [[0x48, 0x58], [0x68, 0x78]], // ReadyToOperate: AllMandatoryCnsOperational
+    ],
+    // Operational, 0xFD
+    [
+        [[0x49, 0x59], [0x69, 0x79]], // Operational: StartNode
+        [[0x0A, 0x1A], [0x0A, 0x1A]], // Operational: StopNode
+        [[0x07, 0x17], [0x27, 0x37]], // Operational: EnterPreOperational2
+        [[0x49, 0x59], [0x69, 0x79]], // Operational: EnableReadyToOperate
+        [[0x05, 0x05], [0x05, 0x05]], // Operational: Reset
+        [[0x05, 0x05], [0x05, 0x05]], // Operational: SwReset
+        [[0x05, 0x05], [0x05, 0x05]], // Operational: ResetNode
+        [[0x05, 0x05], [0x05, 0x05]], // Operational: ResetCommunication
+        [[0x05, 0x05], [0x05, 0x05]], // Operational: ResetConfiguration
+        [[0x49, 0x59], [0x69, 0x79]], // Operational: EnterEplMode
+        [[0x49, 0x59], [0x69, 0x79]], // Operational: Timeout
+        [[0x06, 0x16], [0x06, 0x16]], // Operational: Error
+        [[0x49, 0x59], [0x69, 0x79]], // Operational: SoAReceived
+        [[0x49, 0x59], [0x69, 0x79]], // Operational: SocReceived
+        [[0x49, 0x59], [0x69, 0x79]], // Operational: PowerlinkFrameReceived
+        [[0x49, 0x59], [0x69, 0x79]], // Operational: CnConfigurationComplete
+        [[0x49, 0x59], [0x69, 0x79]], // Operational: AllCnsIdentified
+        [[0x49, 0x59], [0x69, 0x79]], // Operational: ConfigurationCompleteCnsReady
+        [[0x49, 0x59], [0x69, 0x79]], // Operational: AllMandatoryCnsOperational
+    ],
+    // CsStopped, 0x4D
+    [
+        [[0x4A, 0x5A], [0x6A, 0x7A]], // CsStopped: StartNode
+        [[0x4A, 0x5A], [0x6A, 0x7A]], // CsStopped: StopNode
+        [[0x07, 0x17], [0x27, 0x37]], // CsStopped: EnterPreOperational2
+        [[0x4A, 0x5A], [0x6A, 0x7A]], // CsStopped: EnableReadyToOperate
+        [[0x05, 0x05], [0x05, 0x05]], // CsStopped: Reset
+        [[0x05, 0x05], [0x05, 0x05]], // CsStopped: SwReset
+        [[0x05, 0x05], [0x05, 0x05]], // CsStopped: ResetNode
+        [[0x05, 0x05], [0x05, 0x05]], // CsStopped: ResetCommunication
+        [[0x05, 0x05], [0x05, 0x05]], // CsStopped: ResetConfiguration
+        [[0x4A, 0x5A], [0x6A, 0x7A]], // CsStopped: EnterEplMode
+        [[0x4A, 0x5A], [0x6A, 0x7A]], // CsStopped: Timeout
+        [[0x06, 0x16], [0x06, 0x16]], // CsStopped: Error
+        [[0x4A, 0x5A], [0x6A, 0x7A]], // CsStopped: SoAReceived
+        [[0x4A, 0x5A], [0x6A, 0x7A]], // CsStopped: SocReceived
+        [[0x4A, 0x5A], [0x6A, 0x7A]], // CsStopped: PowerlinkFrameReceived
+        [[0x4A, 0x5A], [0x6A, 0x7A]], // CsStopped: CnConfigurationComplete
+        [[0x4A, 0x5A], [0x6A, 0x7A]], // CsStopped: AllCnsIdentified
+        [[0x4A, 0x5A], [0x6A, 0x7A]], // CsStopped: ConfigurationCompleteCnsReady
+        [[0x4A, 0x5A], [0x6A, 0x7A]], // CsStopped: AllMandatoryCnsOperational
+    ],
+    // BasicEthernet, 0x1E
+    [
+        [[0x4B, 0x5B], [0x6B, 0x7B]], // BasicEthernet: StartNode
+        [[0x4B, 0x5B], [0x6B, 0x7B]], // BasicEthernet: StopNode
+        [[0x4B, 0x5B], [0x6B, 0x7B]], // BasicEthernet: EnterPreOperational2
+        [[0x4B, 0x5B], [0x6B, 0x7B]], // BasicEthernet: EnableReadyToOperate
+        [[0x05, 0x05], [0x05, 0x05]], // BasicEthernet: Reset
+        [[0x05, 0x05], [0x05, 0x05]], // BasicEthernet: SwReset
+        [[0x05, 0x05], [0x05, 0x05]], // BasicEthernet: ResetNode
+        [[0x05, 0x05], [0x05, 0x05]], // BasicEthernet: ResetCommunication
+        [[0x05, 0x05], [0x05, 0x05]], // BasicEthernet: ResetConfiguration
+        [[0x4B, 0x5B], [0x6B, 0x7B]], // BasicEthernet: EnterEplMode
+        [[0x4B, 0x5B], [0x6B, 0x7B]], // BasicEthernet: Timeout
+        [[0x4B, 0x5B], [0x6B, 0x7B]], // BasicEthernet: Error
+        [[0x4B, 0x5B], [0x6B, 0x7B]], // BasicEthernet: SoAReceived
+        [[0x4B, 0x5B], [0x6B, 0x7B]], // BasicEthernet: SocReceived
+        [[0x06, 0x16], [0x06, 0x16]], // BasicEthernet: PowerlinkFrameReceived
+        [[0x4B, 0x5B], [0x6B, 0x7B]], // BasicEthernet: CnConfigurationComplete
+        [[0x4B, 0x5B], [0x6B, 0x7B]], // BasicEthernet: AllCnsIdentified
+        [[0x4B, 0x5B], [0x6B, 0x7B]], // BasicEthernet: ConfigurationCompleteCnsReady
+        [[0x4B, 0x5B], [0x6B, 0x7B]], // BasicEthernet: AllMandatoryCnsOperational
+    ],
+];

@@ -1,23 +1,14 @@
--- `nmt::table::chosen` meets its contract: the row of the pair has the entry that the rule asks for.
+-- `nmt::table::chosen` meets its contract: the table is the one that the rule asks for.
 -- Assumes nothing.
-use native.Mathlib.Omega.{arith}
-use Rattle.nmt.proofs.Chosen.{place_small, event_small, each_entry}
+use Rattle.nmt.specs.Resets.{is_reset, states_entered}
+use Rattle.nmt.specs.Nmt.{row_of, enter, applied, reset_by, processed}
+use Rattle.nmt.specs.Table.{ruled}
+use Rattle.nmt.proofs.Chosen.{each_entry}
 use Rattle.nmt.proofs.table.chosen.Goals as goal
 
-pub overflow_mul-pair : goal.overflow_mul-pair
-overflow_mul-pair c =
-    omega (arith, place_small c.args.state)
-
-pub overflow_add-pair : goal.overflow_add-pair
-overflow_add-pair c =
-    let a = c.args in omega (arith, place_small a.state, event_small a.event)
-
-pub row-requires : goal.row-requires
-row-requires c =
-    let a = c.args in omega (arith, place_small a.state, event_small a.event)
-
 pub returns : goal.returns
+unfolding ruled processed reset_by applied enter row_of is_reset states_entered
 returns c =
     let a = c.args in
-    rw (c.unpack.ensures, c.entry_in.ensures, c.row.ensures, c.place.ensures, c.as_u8.ensures)
-    (each_entry a.state a.event a.enabled a.ready)
+    rw (c.unpack.ensures, c.place.ensures, c.from.ensures, c.as_u8.ensures, c.from-2.ensures, c.from-3.ensures)
+    (each_entry a.state a.event a.enabled a.ready _ _ _ _)
