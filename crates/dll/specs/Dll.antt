@@ -16,7 +16,6 @@ use Rattle.dll.specs.declared.cs_state_machine.DllCsState.{DllCsState}
 use Rattle.dll.specs.declared.cs_state_machine.DllCsState.TheVariants.{NonCyclic, WaitSoc, WaitPreq, WaitSoa}
 use Rattle.dll.specs.declared.cs_state_machine.DllCsStateMachine.{DllCsStateMachine}
 use Rattle.dll.specs.declared.cs_state_machine.DllAnswer.{DllAnswer}
-use Rattle.dll.specs.declared.cs_state_machine.Next.{Next}
 
 -- a state's number is its place in the enum, from 0
 abbrev pub cs_state_number : DllCsState → ℕ
@@ -90,6 +89,3 @@ fresh_machine = record { state = NonCyclic }
 
 abbrev pub cs_outcome : DllAnswer → CsOutcome
 cs_outcome a = record { state = a.machine.state; errors = reported a.errors }
-
-abbrev pub next : Next → CsOutcome
-next n = record { state = n.0; errors = reported n.1 }

@@ -1,6 +1,6 @@
 // The order of frames that a controlled node expects within one cycle, one function for each state.
 ghost use Rattle.std.specs.Prelude.{◌≡◌};
-ghost use Rattle.dll.specs.Dll.{cs_state_number, next, non_cyclic, wait_soc, wait_preq, wait_soa, cyclic, fresh_machine, cs_outcome, cs_processed};
+ghost use Rattle.dll.specs.Dll.{cs_state_number, non_cyclic, wait_soc, wait_preq, wait_soa, cyclic, fresh_machine, cs_outcome, cs_processed};
 
 use types::frame::cs_state_machine::DllCsEvent;
 use types::frame::error::types::{DllError, DllErrors};
@@ -28,12 +28,7 @@ impl DllCsState {
     pub fn as_u8(self) -> u8
         ensures { result ≡ cs_state_number self }
     {
-        match self {
-            DllCsState::NonCyclic => 0,
-            DllCsState::WaitSoc => 1,
-            DllCsState::WaitPreq => 2,
-            DllCsState::WaitSoa => 3,
-        }
+        self as u8
     }
 }
 
@@ -49,79 +44,87 @@ pub struct DllAnswer {
 }
 
 // The next state, and the errors to report.
-#[derive(Clone, Copy)]
-struct Next(DllCsState, DllErrors);
-
-fn non_cyclic(event: DllCsEvent) -> Next
-    ensures { next result ≡ non_cyclic event }
+fn goes(state: DllCsState, errors: DllErrors) -> DllAnswer
+    ensures { result ≡ record { machine = record { state = state }; errors = errors } }
 {
-    let number = event.as_u8();
-    let error = DllError::UnexpectedEventInState {
-        state: 0,
-        event: number,
-    };
-    match event {
-        DllCsEvent::Soc => Next(DllCsState::WaitPreq, DllErrors::None),
-        _ => Next(DllCsState::NonCyclic, DllErrors::One(error)),
+    DllAnswer {
+        machine: DllCsStateMachine { state },
+        errors,
     }
 }
 
-fn wait_soc(event: DllCsEvent) -> Next
-    ensures { next result ≡ wait_soc event }
+fn non_cyclic(event: DllCsEvent) -> DllAnswer
+    ensures { cs_outcome result ≡ non_cyclic event }
 {
+    let state = DllCsState::NonCyclic;
     match event {
-        DllCsEvent::Soc => Next(DllCsState::WaitPreq, DllErrors::None),
-        DllCsEvent::Preq => Next(DllCsState::WaitSoc, DllErrors::One(DllError::LossOfSoc)),
-        DllCsEvent::Pres => Next(DllCsState::WaitSoc, DllErrors::One(DllError::LossOfSoc)),
-        DllCsEvent::Soa => Next(DllCsState::WaitSoc, DllErrors::One(DllError::LossOfSoc)),
-        DllCsEvent::Asnd => Next(DllCsState::WaitSoc, DllErrors::None),
-        DllCsEvent::SocTimeout => Next(DllCsState::WaitSoc, DllErrors::One(DllError::LossOfSoc)),
+        DllCsEvent::Soc => goes(DllCsState::WaitPreq, DllErrors::None),
+        _ => goes(
+            state,
+            DllErrors::One(DllError::UnexpectedEventInState {
+                state: state.as_u8(),
+                event: event.as_u8(),
+            }),
+        ),
     }
 }
 
-fn wait_preq(event: DllCsEvent, expect_preq: bool) -> Next
-    ensures { next result ≡ wait_preq event expect_preq }
+fn wait_soc(event: DllCsEvent) -> DllAnswer
+    ensures { cs_outcome result ≡ wait_soc event }
 {
     match event {
-        DllCsEvent::Soc => Next(DllCsState::WaitPreq, DllErrors::One(DllError::LossOfSoa)),
-        DllCsEvent::Preq => Next(DllCsState::WaitSoa, DllErrors::None),
-        DllCsEvent::Pres => Next(DllCsState::WaitPreq, DllErrors::None),
+        DllCsEvent::Soc => goes(DllCsState::WaitPreq, DllErrors::None),
+        DllCsEvent::Preq => goes(DllCsState::WaitSoc, DllErrors::One(DllError::LossOfSoc)),
+        DllCsEvent::Pres => goes(DllCsState::WaitSoc, DllErrors::One(DllError::LossOfSoc)),
+        DllCsEvent::Soa => goes(DllCsState::WaitSoc, DllErrors::One(DllError::LossOfSoc)),
+        DllCsEvent::Asnd => goes(DllCsState::WaitSoc, DllErrors::None),
+        DllCsEvent::SocTimeout => goes(DllCsState::WaitSoc, DllErrors::One(DllError::LossOfSoc)),
+    }
+}
+
+fn wait_preq(event: DllCsEvent, expect_preq: bool) -> DllAnswer
+    ensures { cs_outcome result ≡ wait_preq event expect_preq }
+{
+    match event {
+        DllCsEvent::Soc => goes(DllCsState::WaitPreq, DllErrors::One(DllError::LossOfSoa)),
+        DllCsEvent::Preq => goes(DllCsState::WaitSoa, DllErrors::None),
+        DllCsEvent::Pres => goes(DllCsState::WaitPreq, DllErrors::None),
         DllCsEvent::Soa => {
             if expect_preq {
-                Next(DllCsState::WaitSoc, DllErrors::One(DllError::LossOfPreq))
+                goes(DllCsState::WaitSoc, DllErrors::One(DllError::LossOfPreq))
             } else {
-                Next(DllCsState::WaitSoc, DllErrors::None)
+                goes(DllCsState::WaitSoc, DllErrors::None)
             }
         }
-        DllCsEvent::Asnd => Next(DllCsState::WaitPreq, DllErrors::One(DllError::LossOfSoa)),
-        DllCsEvent::SocTimeout => Next(
+        DllCsEvent::Asnd => goes(DllCsState::WaitPreq, DllErrors::One(DllError::LossOfSoa)),
+        DllCsEvent::SocTimeout => goes(
             DllCsState::WaitSoc,
             DllErrors::Two(DllError::LossOfSoc, DllError::LossOfSoa),
         ),
     }
 }
 
-fn wait_soa(event: DllCsEvent) -> Next
-    ensures { next result ≡ wait_soa event }
+fn wait_soa(event: DllCsEvent) -> DllAnswer
+    ensures { cs_outcome result ≡ wait_soa event }
 {
     match event {
-        DllCsEvent::Soc => Next(DllCsState::WaitPreq, DllErrors::One(DllError::LossOfSoa)),
-        DllCsEvent::Preq => Next(
+        DllCsEvent::Soc => goes(DllCsState::WaitPreq, DllErrors::One(DllError::LossOfSoa)),
+        DllCsEvent::Preq => goes(
             DllCsState::WaitSoc,
             DllErrors::Two(DllError::LossOfSoc, DllError::LossOfSoa),
         ),
-        DllCsEvent::Pres => Next(DllCsState::WaitSoa, DllErrors::None),
-        DllCsEvent::Soa => Next(DllCsState::WaitSoc, DllErrors::None),
-        DllCsEvent::Asnd => Next(DllCsState::WaitSoa, DllErrors::One(DllError::LossOfSoa)),
-        DllCsEvent::SocTimeout => Next(
+        DllCsEvent::Pres => goes(DllCsState::WaitSoa, DllErrors::None),
+        DllCsEvent::Soa => goes(DllCsState::WaitSoc, DllErrors::None),
+        DllCsEvent::Asnd => goes(DllCsState::WaitSoa, DllErrors::One(DllError::LossOfSoa)),
+        DllCsEvent::SocTimeout => goes(
             DllCsState::WaitSoc,
             DllErrors::Two(DllError::LossOfSoc, DllError::LossOfSoa),
         ),
     }
 }
 
-fn cyclic_event(state: DllCsState, event: DllCsEvent, expect_preq: bool) -> Next
-    ensures { next result ≡ cyclic state event expect_preq }
+fn cyclic_event(state: DllCsState, event: DllCsEvent, expect_preq: bool) -> DllAnswer
+    ensures { cs_outcome result ≡ cyclic state event expect_preq }
 {
     match state {
         DllCsState::NonCyclic => non_cyclic(event),
@@ -141,6 +144,7 @@ impl DllCsStateMachine {
     }
 
     // An event, in an NMT state; expect_preq tells whether the managing node polls this node in this cycle.
+    #[tactic(auto, unfolding(crate::specs::Dll::cs_processed))]
     pub fn process_event(
         self,
         event: DllCsEvent,
@@ -153,22 +157,8 @@ impl DllCsStateMachine {
             NmtState::NmtPreOperational2
             | NmtState::NmtReadyToOperate
             | NmtState::NmtOperational
-            | NmtState::NmtCsStopped => {
-                let current = self.state;
-                let next = cyclic_event(current, event, expect_preq);
-                let state = next.0;
-                let errors = next.1;
-                DllAnswer {
-                    machine: DllCsStateMachine { state },
-                    errors,
-                }
-            }
-            _ => DllAnswer {
-                machine: DllCsStateMachine {
-                    state: DllCsState::NonCyclic,
-                },
-                errors: DllErrors::None,
-            },
+            | NmtState::NmtCsStopped => cyclic_event(self.state, event, expect_preq),
+            _ => goes(DllCsState::NonCyclic, DllErrors::None),
         }
     }
 
