@@ -1,286 +1,190 @@
 // The page docs/TRANSITIONS.md, written from the NMT table: a chart for each state, and a picture of the moves; and a picture of the positions that a head can reach.
 #![tactic(auto)]
 
-ghost use Rattle.std.specs.Prelude.{◌≡◌, true, false, not, ltb};
-ghost use Rattle.types.specs.Pick.{pick};
-ghost use Rattle.types.specs.States.{same_state};
-ghost use Rattle.nmt.specs.Resets.{is_reset};
-ghost use Rattle.nmt.specs.Table.{event_at, standing, ruled};
+ghost use Rattle.std.specs.Prelude.{◌≡◌, true, false};
+ghost use Rattle.nmt.specs.Table.{standing, ruled};
 
+use forms::hex::HexByte;
 use forms::output::Output;
 use head::parts::{nmt_of, set_nmt};
 use nmt::cn_state_machine::CnNmtStateMachine;
 use nmt::state_machine::{EnteredStates, is_reset, reset_sequence};
-use nmt::table::{chosen, state_at};
+use nmt::table::chosen;
 use node::calls::{nmt_event, withdraw};
 use reach::Line;
-use std::io;
+use std::fmt::Display;
+use std::{fmt, io};
 use types::nmt::events::NmtEvent;
 use types::nmt::flags::FeatureFlags;
 use types::nmt::states::NmtState;
 use types::types::NodeId;
 
-fn say(out: &mut Output, text: &[u8]) {
-    out.write(text);
-}
+// A state by its name. An event's name is that of its variant, which `{:?}` prints.
+#[derive(Clone, Copy)]
+struct Name(NmtState);
 
-fn say_state(out: &mut Output, state: NmtState) {
-    match state {
-        NmtState::NmtGsOff => say(out, b"GsOff"),
-        NmtState::NmtGsInitialising => say(out, b"GsInitialising"),
-        NmtState::NmtGsResetApplication => say(out, b"GsResetApplication"),
-        NmtState::NmtGsResetCommunication => say(out, b"GsResetCommunication"),
-        NmtState::NmtGsResetConfiguration => say(out, b"GsResetConfiguration"),
-        NmtState::NmtNotActive => say(out, b"NotActive"),
-        NmtState::NmtPreOperational1 => say(out, b"PreOperational1"),
-        NmtState::NmtPreOperational2 => say(out, b"PreOperational2"),
-        NmtState::NmtReadyToOperate => say(out, b"ReadyToOperate"),
-        NmtState::NmtOperational => say(out, b"Operational"),
-        NmtState::NmtCsStopped => say(out, b"CsStopped"),
-        NmtState::NmtBasicEthernet => say(out, b"BasicEthernet"),
+impl Display for Name {
+    fn fmt<W: fmt::Write>(&self, f: &mut fmt::Formatter<W>) -> fmt::Result {
+        f.write_str(match self.0 {
+            NmtState::NmtGsOff => "GsOff",
+            NmtState::NmtGsInitialising => "GsInitialising",
+            NmtState::NmtGsResetApplication => "GsResetApplication",
+            NmtState::NmtGsResetCommunication => "GsResetCommunication",
+            NmtState::NmtGsResetConfiguration => "GsResetConfiguration",
+            NmtState::NmtNotActive => "NotActive",
+            NmtState::NmtPreOperational1 => "PreOperational1",
+            NmtState::NmtPreOperational2 => "PreOperational2",
+            NmtState::NmtReadyToOperate => "ReadyToOperate",
+            NmtState::NmtOperational => "Operational",
+            NmtState::NmtCsStopped => "CsStopped",
+            NmtState::NmtBasicEthernet => "BasicEthernet",
+        })
     }
 }
 
-fn say_event(out: &mut Output, event: NmtEvent) {
-    match event {
-        NmtEvent::StartNode => say(out, b"StartNode"),
-        NmtEvent::StopNode => say(out, b"StopNode"),
-        NmtEvent::EnterPreOperational2 => say(out, b"EnterPreOperational2"),
-        NmtEvent::EnableReadyToOperate => say(out, b"EnableReadyToOperate"),
-        NmtEvent::Reset => say(out, b"Reset"),
-        NmtEvent::SwReset => say(out, b"SwReset"),
-        NmtEvent::ResetNode => say(out, b"ResetNode"),
-        NmtEvent::ResetCommunication => say(out, b"ResetCommunication"),
-        NmtEvent::ResetConfiguration => say(out, b"ResetConfiguration"),
-        NmtEvent::EnterEplMode => say(out, b"EnterEplMode"),
-        NmtEvent::Timeout => say(out, b"Timeout"),
-        NmtEvent::Error => say(out, b"Error"),
-        NmtEvent::SoAReceived => say(out, b"SoAReceived"),
-        NmtEvent::SocReceived => say(out, b"SocReceived"),
-        NmtEvent::PowerlinkFrameReceived => say(out, b"PowerlinkFrameReceived"),
-        NmtEvent::CnConfigurationComplete => say(out, b"CnConfigurationComplete"),
-        NmtEvent::AllCnsIdentified => say(out, b"AllCnsIdentified"),
-        NmtEvent::ConfigurationCompleteCnsReady => say(out, b"ConfigurationCompleteCnsReady"),
-        NmtEvent::AllMandatoryCnsOperational => say(out, b"AllMandatoryCnsOperational"),
+// A transition by its number, NMT_CT; the comments of the original do not name one of each.
+#[derive(Clone, Copy)]
+struct Transition(Option<u8>);
+
+impl Transition {
+    fn of(state: NmtState, event: NmtEvent) -> Self {
+        Transition(match event {
+            NmtEvent::SoAReceived => Some(2),
+            NmtEvent::SocReceived => match state {
+                NmtState::NmtNotActive => Some(2),
+                _ => Some(4),
+            },
+            NmtEvent::Timeout => Some(3),
+            NmtEvent::EnableReadyToOperate => match state {
+                NmtState::NmtPreOperational2 => Some(5),
+                _ => None,
+            },
+            NmtEvent::CnConfigurationComplete => match state {
+                NmtState::NmtPreOperational2 => Some(6),
+                _ => None,
+            },
+            NmtEvent::StartNode => match state {
+                NmtState::NmtReadyToOperate => Some(7),
+                _ => None,
+            },
+            NmtEvent::StopNode => Some(8),
+            NmtEvent::EnterPreOperational2 => match state {
+                NmtState::NmtOperational => Some(9),
+                _ => Some(10),
+            },
+            NmtEvent::Error => Some(11),
+            NmtEvent::PowerlinkFrameReceived => Some(12),
+            _ => Some(1),
+        })
     }
 }
 
-fn event_at(i: usize) -> NmtEvent
-    ensures { result ≡ event_at i }
-{
-    match NmtEvent::try_from(i as u64) {
-        Ok(event) => event,
-        Err(_) => NmtEvent::StartNode,
-    }
-}
-
-// The number of the transition, NMT_CT, by the comments of the original; 0 where they name none.
-fn transition(state: NmtState, event: NmtEvent) -> u64 {
-    match event {
-        NmtEvent::SoAReceived => 2,
-        NmtEvent::SocReceived => match state {
-            NmtState::NmtNotActive => 2,
-            _ => 4,
-        },
-        NmtEvent::Timeout => 3,
-        NmtEvent::EnableReadyToOperate => match state {
-            NmtState::NmtPreOperational2 => 5,
-            _ => 0,
-        },
-        NmtEvent::CnConfigurationComplete => match state {
-            NmtState::NmtPreOperational2 => 6,
-            _ => 0,
-        },
-        NmtEvent::StartNode => match state {
-            NmtState::NmtReadyToOperate => 7,
-            _ => 0,
-        },
-        NmtEvent::StopNode => 8,
-        NmtEvent::EnterPreOperational2 => match state {
-            NmtState::NmtOperational => 9,
-            _ => 10,
-        },
-        NmtEvent::Error => 11,
-        NmtEvent::PowerlinkFrameReceived => 12,
-        _ => 1,
-    }
-}
-
-fn say_transition(out: &mut Output, number: u64) {
-    if number == 0 {
-        return say(out, b"no NMT_CT");
-    }
-    say(out, b"NMT_CT");
-    out.write_number(number);
-}
-
-fn is_same(a: NmtState, b: NmtState) -> bool
-    ensures { result ≡ same_state a b }
-{
-    a.as_u8() == b.as_u8()
-}
-
-fn say_change(out: &mut Output, before: bool, after: bool, set: &[u8], cleared: &[u8]) {
-    if after {
-        if before {
-            return;
+impl Display for Transition {
+    fn fmt<W: fmt::Write>(&self, f: &mut fmt::Formatter<W>) -> fmt::Result {
+        match self.0 {
+            Some(number) => write!(f, "NMT_CT{number}"),
+            None => f.write_str("no NMT_CT"),
         }
-        return say(out, set);
-    }
-    if before {
-        say(out, cleared);
     }
 }
 
-// A reset enters NotActive from there too.
-fn say_next(out: &mut Output, state: NmtState, event: NmtEvent, next: NmtState) {
-    if is_reset(event) {
-        return say_state(out, next);
+fn say_change(out: &mut Output, name: &str, before: bool, after: bool) {
+    match (before, after) {
+        (false, true) => write!(out, ", sets {name}"),
+        (true, false) => write!(out, ", clears {name}"),
+        _ => {}
     }
-    if is_same(state, next) {
-        return say(out, b"stays");
-    }
-    say_state(out, next);
 }
 
-// Where the entry leads, and what it does to enabled and ready.
+// Where the entry leads, and what it does to enabled and ready. A reset enters NotActive from there too.
 fn say_cell(out: &mut Output, state: NmtState, event: NmtEvent, enabled: bool, ready: bool) {
     let entry = chosen(state, event, enabled, ready);
-    let next = entry.state;
-    say(out, b" | ");
-    say_next(out, state, event, next);
-    say_change(
-        out,
-        enabled,
-        entry.enabled,
-        b", sets enabled",
-        b", clears enabled",
-    );
-    say_change(out, ready, entry.ready, b", sets ready", b", clears ready");
+    if entry.state == state && !is_reset(event) {
+        write!(out, " | stays");
+    } else {
+        write!(out, " | {}", Name(entry.state));
+    }
+    say_change(out, "enabled", enabled, entry.enabled);
+    say_change(out, "ready", ready, entry.ready);
 }
 
 fn say_row(out: &mut Output, state: NmtState, event: NmtEvent) {
-    say(out, b"| ");
-    say_event(out, event);
-    say_cell(out, state, event, false, false);
-    say_cell(out, state, event, false, true);
-    say_cell(out, state, event, true, false);
-    say_cell(out, state, event, true, true);
-    say(out, b" | ");
-    say_transition(out, transition(state, event));
-    say(out, b" |\n");
+    write!(out, "| {event:?}");
+    for enabled in [false, true] {
+        for ready in [false, true] {
+            say_cell(out, state, event, enabled, ready);
+        }
+    }
+    writeln!(out, " | {} |", Transition::of(state, event));
 }
 
 // Whether the pair has no row.
 fn is_unexpected(state: NmtState, event: NmtEvent) -> bool
     ensures { result ≡ (ruled state event false false).unexpected }
 {
-    let entry = chosen(state, event, false, false);
-    entry.unexpected
+    chosen(state, event, false, false).unexpected
 }
 
-fn print_rows(out: &mut Output, state: NmtState) {
-    for e in 0..19usize {
-        let event = event_at(e);
+fn print_state(out: &mut Output, state: NmtState) {
+    write!(
+        out,
+        "\n## {}, {}\n\n| event | neither | ready | enabled | enabled and ready | transition |\n|---|---|---|---|---|---|\n",
+        Name(state),
+        HexByte(state.as_u8())
+    );
+    for event in NmtEvent::ALL {
         if !is_unexpected(state, event) {
             say_row(out, state, event);
         }
     }
-}
-
-fn print_rest(out: &mut Output, state: NmtState) {
-    for e in 0..19usize {
-        let event = event_at(e);
+    write!(out, "\nNo row:");
+    for event in NmtEvent::ALL {
         if is_unexpected(state, event) {
-            say(out, b" ");
-            say_event(out, event);
-            say(out, b",");
+            write!(out, " {event:?},");
         }
     }
+    writeln!(out, " and no other.");
 }
 
-fn print_state(out: &mut Output, state: NmtState) {
-    say(out, b"\n## ");
-    say_state(out, state);
-    say(out, b", ");
-    say(out, &forms::hex2(state.as_u8() as u64));
-    say(
-        out,
-        b"\n\n| event | neither | ready | enabled | enabled and ready | transition |\n|---|---|---|---|---|---|\n",
-    );
-    print_rows(out, state);
-    say(out, b"\nNo row:");
-    print_rest(out, state);
-    say(out, b" and no other.\n");
-}
-
-fn print_states(out: &mut Output) {
-    for s in 0..12usize {
-        print_state(out, state_at(s as u8));
+fn say_all(out: &mut Output, states: &[NmtState]) {
+    for (place, &state) in states.iter().enumerate() {
+        if 0 < place {
+            write!(out, ", ");
+        }
+        write!(out, "{}", Name(state));
     }
-}
-
-fn say_through(out: &mut Output, a: NmtState) {
-    say_state(out, a);
-    say(out, b", ");
 }
 
 // The states that a reset enters, in order.
 fn say_entered(out: &mut Output, entered: EnteredStates) {
     match entered {
         EnteredStates::None => {}
-        EnteredStates::Two(a, b) => {
-            say_through(out, a);
-            say_state(out, b);
-        }
-        EnteredStates::Three(a, b, c) => {
-            say_through(out, a);
-            say_through(out, b);
-            say_state(out, c);
-        }
-        EnteredStates::Four(a, b, c, d) => {
-            say_through(out, a);
-            say_through(out, b);
-            say_through(out, c);
-            say_state(out, d);
-        }
-        EnteredStates::Five(a, b, c, d, e) => {
-            say_through(out, a);
-            say_through(out, b);
-            say_through(out, c);
-            say_through(out, d);
-            say_state(out, e);
-        }
+        EnteredStates::Two(a, b) => say_all(out, &[a, b]),
+        EnteredStates::Three(a, b, c) => say_all(out, &[a, b, c]),
+        EnteredStates::Four(a, b, c, d) => say_all(out, &[a, b, c, d]),
+        EnteredStates::Five(a, b, c, d, e) => say_all(out, &[a, b, c, d, e]),
     }
 }
 
 fn print_resets(out: &mut Output) {
-    for e in 0..19usize {
-        let event = event_at(e);
+    for event in NmtEvent::ALL {
         if is_reset(event) {
-            let reset = reset_sequence(event);
-            let entered = reset.entered;
-            say(out, b"| ");
-            say_event(out, event);
-            say(out, b" | ");
-            say_entered(out, entered);
-            say(out, b" |\n");
+            write!(out, "| {event:?} | ");
+            say_entered(out, reset_sequence(event).entered);
+            writeln!(out, " |");
         }
     }
 }
 
 // An arrow of the picture, with the event, what it asks for and the transition.
-fn say_arrow(out: &mut Output, state: NmtState, event: NmtEvent, next: NmtState, condition: &[u8]) {
-    say(out, b"    ");
-    say_state(out, state);
-    say(out, b" --> ");
-    say_state(out, next);
-    say(out, b" : ");
-    say_event(out, event);
-    say(out, condition);
-    say(out, b" (");
-    say_transition(out, transition(state, event));
-    say(out, b")\n");
+fn say_arrow(out: &mut Output, state: NmtState, event: NmtEvent, next: NmtState, condition: &str) {
+    writeln!(
+        out,
+        "    {} --> {} : {event:?}{condition} ({})",
+        Name(state),
+        Name(next),
+        Transition::of(state, event)
+    );
 }
 
 // Where a ready or an enabled machine moves and another does not, the arrow says so.
@@ -288,22 +192,21 @@ fn say_move(out: &mut Output, state: NmtState, event: NmtEvent) {
     let neither = chosen(state, event, false, false).state;
     let ready = chosen(state, event, false, true).state;
     let enabled = chosen(state, event, true, false).state;
-    if !is_same(state, neither) {
-        return say_arrow(out, state, event, neither, b"");
-    }
-    if !is_same(state, ready) {
-        return say_arrow(out, state, event, ready, b", if ready");
-    }
-    if !is_same(state, enabled) {
-        say_arrow(out, state, event, enabled, b", if enabled");
+    if neither != state {
+        say_arrow(out, state, event, neither, "");
+    } else if ready != state {
+        say_arrow(out, state, event, ready, ", if ready");
+    } else if enabled != state {
+        say_arrow(out, state, event, enabled, ", if enabled");
     }
 }
 
 fn print_moves(out: &mut Output) {
-    for k in 0..228usize {
-        let event = event_at(k % 19);
-        if !is_reset(event) {
-            say_move(out, state_at((k / 19) as u8), event);
+    for state in NmtState::ALL {
+        for event in NmtEvent::ALL {
+            if !is_reset(event) {
+                say_move(out, state, event);
+            }
         }
     }
 }
@@ -312,9 +215,8 @@ fn print_moves(out: &mut Output) {
 fn machine_at(line: Line) -> CnNmtStateMachine
     ensures { result ≡ standing line.0 line.1 line.2 }
 {
-    let state = line.0;
     CnNmtStateMachine {
-        current_state: state,
+        current_state: line.0,
         node_id: NodeId(0),
         feature_flags: FeatureFlags(0),
         basic_ethernet_timeout: 0,
@@ -323,149 +225,140 @@ fn machine_at(line: Line) -> CnNmtStateMachine
     }
 }
 
-// The machine after a step of a head: the event k, or a withdrawal for 19, which is asked of the node itself.
-fn after_step(machine: CnNmtStateMachine, k: usize) -> CnNmtStateMachine {
-    let mut head = [0u32; 60];
-    set_nmt(&mut head, machine);
-    if k < 19 {
-        nmt_event(&mut head, k as u64);
-    } else {
-        withdraw(&mut head);
-    }
-    nmt_of(&head)
+// A step of a head.
+#[derive(Clone, Copy)]
+enum Step {
+    Event(NmtEvent),
+    Withdrawal,
 }
 
-fn is_same_position(a: CnNmtStateMachine, b: CnNmtStateMachine) -> bool {
-    let before = a.current_state;
-    let after = b.current_state;
-    is_same(before, after)
-        & (a.ready_to_operate_enabled == b.ready_to_operate_enabled)
-        & (a.app_ready == b.app_ready)
-}
-
-fn say_if(out: &mut Output, on: bool, text: &[u8]) {
-    if on {
-        say(out, text);
-    }
-}
-
-// A position's key in the picture.
-fn say_key(out: &mut Output, machine: CnNmtStateMachine) {
-    let state = machine.current_state;
-    say_state(out, state);
-    say_if(out, machine.ready_to_operate_enabled, b"_E");
-    say_if(out, machine.app_ready, b"_R");
-}
-
-// A position of the picture, with its least number of steps.
-fn say_position(out: &mut Output, line: Line) {
-    let state = line.0;
-    say(out, b"    state \"");
-    out.write_number(line.3 as u64);
-    say(out, b": ");
-    say_state(out, state);
-    say_if(out, line.1, b", enabled");
-    say_if(out, line.2, b", ready");
-    say(out, b"\" as ");
-    say_key(out, machine_at(line));
-    say(out, b"\n");
-}
-
-fn print_positions(out: &mut Output) {
-    let lines = reach::lines();
-    for k in 0..14usize {
-        say_position(out, lines[k]);
-    }
-}
-
-fn say_step_name(out: &mut Output, k: usize) {
-    if k < 19 {
-        return say_event(out, event_at(k));
-    }
-    say(out, b"withdrawal");
-}
-
-// An arrow of the picture, where a step leads to another position.
-fn say_step(out: &mut Output, machine: CnNmtStateMachine, k: usize) {
-    let after = after_step(machine, k);
-    if is_same_position(machine, after) {
-        return;
-    }
-    say(out, b"    ");
-    say_key(out, machine);
-    say(out, b" --> ");
-    say_key(out, after);
-    say(out, b" : ");
-    say_step_name(out, k);
-    say(out, b"\n");
-}
-
-// The resets have an arrow of their own.
-fn is_drawn(k: usize) -> bool
-    ensures { result ≡ pick (ltb k 19) (not (is_reset (event_at k))) true }
-{
-    if k < 19 {
-        return !is_reset(event_at(k));
-    }
-    true
-}
-
-fn print_steps(out: &mut Output) {
-    let lines = reach::lines();
-    for k in 0..280usize {
-        if is_drawn(k % 20) {
-            say_step(out, machine_at(lines[k / 20]), k % 20);
+impl Display for Step {
+    fn fmt<W: fmt::Write>(&self, f: &mut fmt::Formatter<W>) -> fmt::Result {
+        match *self {
+            Step::Event(event) => write!(f, "{event:?}"),
+            Step::Withdrawal => f.write_str("withdrawal"),
         }
     }
 }
 
+// The machine after a step of a head, which is asked of the node itself. One that is refused leaves it.
+fn after_step(machine: CnNmtStateMachine, step: Step) -> CnNmtStateMachine {
+    let mut head = [0; 60];
+    set_nmt(&mut head, machine);
+    match step {
+        Step::Event(event) => {
+            let _ = nmt_event(&mut head, u64::from(event.as_u8()));
+        }
+        Step::Withdrawal => {
+            let _ = withdraw(&mut head);
+        }
+    }
+    nmt_of(&head)
+}
+
+// A position's key in the picture.
+#[derive(Clone, Copy)]
+struct Key(CnNmtStateMachine);
+
+impl Display for Key {
+    fn fmt<W: fmt::Write>(&self, f: &mut fmt::Formatter<W>) -> fmt::Result {
+        let enabled = if self.0.ready_to_operate_enabled {
+            "_E"
+        } else {
+            ""
+        };
+        let ready = if self.0.app_ready { "_R" } else { "" };
+        write!(f, "{}{enabled}{ready}", Name(self.0.current_state))
+    }
+}
+
+// A position of the picture, with its least number of steps.
+fn say_position(out: &mut Output, line: Line) {
+    let Line(state, enabled, ready, steps) = line;
+    let is_enabled = if enabled { ", enabled" } else { "" };
+    let is_ready = if ready { ", ready" } else { "" };
+    writeln!(
+        out,
+        "    state \"{steps}: {}{is_enabled}{is_ready}\" as {}",
+        Name(state),
+        Key(machine_at(line))
+    );
+}
+
+fn print_positions(out: &mut Output) {
+    for line in reach::lines() {
+        say_position(out, line);
+    }
+}
+
+// An arrow of the picture, where a step leads to another position.
+fn say_step(out: &mut Output, machine: CnNmtStateMachine, step: Step) {
+    let after = after_step(machine, step);
+    if after != machine {
+        writeln!(out, "    {} --> {} : {step}", Key(machine), Key(after));
+    }
+}
+
+// The resets have an arrow of their own.
+fn print_steps(out: &mut Output) {
+    for line in reach::lines() {
+        let machine = machine_at(line);
+        for event in NmtEvent::ALL {
+            if !is_reset(event) {
+                say_step(out, machine, Step::Event(event));
+            }
+        }
+        say_step(out, machine, Step::Withdrawal);
+    }
+}
+
 fn print_reachable(out: &mut Output) {
-    say(
+    write!(
         out,
-        b"\n## Every position\n\nA position is an NMT state, whether enabled and whether ready. A fresh head reaches these by NMT events and withdrawals, and no others; before each stands the least number of steps to it. That is proved ([the lines](../crates/reach/src/lib.rt), which the program `positions` prints).\n",
+        "\n## Every position\n\nA position is an NMT state, whether enabled and whether ready. A fresh head reaches these by NMT events and withdrawals, and no others; before each stands the least number of steps to it. That is proved ([the lines](../crates/reach/src/lib.rt), which the program `positions` prints).\n"
     );
-    say(
+    write!(
         out,
-        b"A step is one withdrawal or one whole event: the states that a reset passes are no positions. At ReadyToOperate a withdrawal is refused (number 8), which is no step. The arrows are what the node's own calls do; a step that leads to where it starts has none.\n",
+        "A step is one withdrawal or one whole event: the states that a reset passes are no positions. At ReadyToOperate a withdrawal is refused (number 8), which is no step. The arrows are what the node's own calls do; a step that leads to where it starts has none.\n"
     );
-    say(
+    write!(
         out,
-        b"\n```mermaid\nstateDiagram-v2\n    state \"every position\" as Every\n",
+        "\n```mermaid\nstateDiagram-v2\n    state \"every position\" as Every\n"
     );
     print_positions(out);
-    say(
+    write!(
         out,
-        b"    [*] --> GsInitialising_R\n    Every --> NotActive : a reset event\n",
+        "    [*] --> GsInitialising_R\n    Every --> NotActive : a reset event\n"
     );
     print_steps(out);
-    say(out, b"```\n");
+    write!(out, "```\n");
 }
 
 // What the page says before its picture and charts.
 fn print_head(out: &mut Output) {
-    say(
+    write!(
         out,
-        b"# NMT transitions\n\nWritten by the program `crates/chart` from [the table of the NMT state machine](../crates/nmt/src/table.rt); `make test` fails where it is not what the program writes.\n",
+        "# NMT transitions\n\nWritten by the program `crates/chart` from [the table of the NMT state machine](../crates/nmt/src/table.rt); `make test` fails where it is not what the program writes.\n"
     );
-    say(
+    write!(
         out,
-        b"\nStates, events and transitions (NMT_CT) have the names of EPSG DS 301. A machine is *enabled* once the managing node has enabled ReadyToOperate, and *ready* once the application has given its ready word.\n",
+        "\nStates, events and transitions (NMT_CT) have the names of EPSG DS 301. A machine is *enabled* once the managing node has enabled ReadyToOperate, and *ready* once the application has given its ready word.\n"
     );
-    say(
+    write!(
         out,
-        b"A chart has four columns for the two; a cell says where the event leads and what it sets or clears.\n",
+        "A chart has four columns for the two; a cell says where the event leads and what it sets or clears.\n"
     );
-    say(
+    write!(
         out,
-        b"\nAn event without a row in a state leaves the state, enabled and ready as they are, and reports UnexpectedEventInState with the numbers of state and event.\n",
+        "\nAn event without a row in a state leaves the state, enabled and ready as they are, and reports UnexpectedEventInState with the numbers of state and event.\n"
     );
-    say(
+    write!(
         out,
-        b"No machine stands in GsOff and in the three reset states after a whole event; they have entries by the same rule.\n",
+        "No machine stands in GsOff and in the three reset states after a whole event; they have entries by the same rule.\n"
     );
-    say(
+    write!(
         out,
-        b"\nIn the table an entry is two hexadecimal digits. The second is the next state's place, from GsOff, 0, to BasicEthernet, B, in the order of the charts. The first is 1 where it is ready then, 2 where enabled, 4 where the pair has no row.\n",
+        "\nIn the table an entry is two hexadecimal digits. The second is the next state's place, from GsOff, 0, to BasicEthernet, B, in the order of the charts. The first is 1 where it is ready then, 2 where enabled, 4 where the pair has no row.\n"
     );
 }
 
@@ -473,18 +366,20 @@ fn main(rt: HostRuntime) -> io::Result<()> {
     let mut output = Output::new(rt.stdout());
     let out = &mut output;
     print_head(out);
-    say(
+    write!(
         out,
-        b"\n## The moves\n\n```mermaid\nstateDiagram-v2\n    state \"every state\" as Every\n    Every --> NotActive : a reset event (NMT_CT1)\n",
+        "\n## The moves\n\n```mermaid\nstateDiagram-v2\n    state \"every state\" as Every\n    Every --> NotActive : a reset event (NMT_CT1)\n"
     );
     print_moves(out);
-    say(out, b"```\n");
+    write!(out, "```\n");
     print_reachable(out);
-    say(
+    write!(
         out,
-        b"\n## Resets\n\nA reset event enters these states one after the other, the last by NMT_CT1.\n\n| event | states |\n|---|---|\n",
+        "\n## Resets\n\nA reset event enters these states one after the other, the last by NMT_CT1.\n\n| event | states |\n|---|---|\n"
     );
     print_resets(out);
-    print_states(out);
+    for state in NmtState::ALL {
+        print_state(out, state);
+    }
     output.end()
 }

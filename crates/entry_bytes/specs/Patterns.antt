@@ -1,13 +1,10 @@
 -- The patterns of bytes that are read, and the entries that join the history.
 -- Assumes nothing.
-use Rattle.std.specs.Prelude.{ℕ, zero, suc, ◌+◌, ◌*◌, ◌/◌, ◌%◌, true, false, List, set}
+use Rattle.std.specs.Prelude.{ℕ, zero, suc, ◌+◌, ◌/◌, ◌%◌, true, false, List, set}
 use Rattle.types.specs.Common.{net_time}
 use Rattle.entries.specs.declared.status_response.ErrorEntryMode.TheVariants.{EventOccurred}
 use Rattle.entries.specs.declared.status_response.ErrorEntry.{ErrorEntry}
-
--- the number that follows x
-abbrev pub drawn : ℕ → ℕ
-drawn x = (x % 2147483648 * 1103515245 + 12345) % 2147483648
+use Rattle.forms.specs.Generator.{drawn}
 
 -- the last of the k numbers that follow x
 abbrev pub last : ℕ → ℕ → ℕ

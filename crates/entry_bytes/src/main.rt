@@ -3,144 +3,95 @@
 #![tactic(auto)]
 
 ghost use Rattle.std.specs.Prelude.{◌≡◌};
-ghost use Rattle.entry_bytes.specs.Patterns.{drawn, last, filled, numbered};
+ghost use Rattle.entry_bytes.specs.Patterns.{last, filled, numbered};
 
 use entries::desk;
 use entries::error_history::{ErrorHistory, write_error_to_history};
 use entries::status_response::{EntryType, ErrorEntry, ErrorEntryMode};
+use forms::generator::Generator;
 use forms::output::Output;
 use std::io;
 use types::common::NetTime;
 
-fn say(out: &mut Output, text: &[u8]) {
-    out.write(text);
-}
-
-fn say_number(out: &mut Output, n: u64) {
-    out.write_number(n);
-}
-
-fn say_flag(out: &mut Output, on: bool) {
-    if on {
-        say(out, b"1");
-    } else {
-        say(out, b"0");
-    }
-}
-
-// Two hexadecimal digits, without the 0x.
-fn say_digits(out: &mut Output, byte: u8) {
-    let form = forms::hex2(byte as u64);
-    say(out, &[form[2], form[3]]);
-}
-
 fn say_bytes(out: &mut Output, bytes: &[u8]) {
-    for i in 0..bytes.len() {
-        say_digits(out, bytes[i]);
+    for byte in bytes {
+        write!(out, "{byte:02X}");
     }
-}
-
-fn say_type(out: &mut Output, entry_type: EntryType) {
-    let mode = entry_type.mode;
-    say(out, b" (status ");
-    say_flag(out, entry_type.is_status_entry);
-    say(out, b") (queue ");
-    say_flag(out, entry_type.send_to_queue);
-    say(out, b") (mode ");
-    say_number(out, mode.as_u16() as u64);
-    say(out, b") (profile ");
-    say_number(out, entry_type.profile as u64);
-    say(out, b")");
-}
-
-fn say_time(out: &mut Output, time: NetTime) {
-    say(out, b" (seconds ");
-    say_number(out, time.seconds as u64);
-    say(out, b") (nanoseconds ");
-    say_number(out, time.nanoseconds as u64);
-    say(out, b")");
 }
 
 fn say_entry(out: &mut Output, entry: ErrorEntry) {
-    let entry_type = entry.entry_type;
-    let time = entry.timestamp;
-    say_type(out, entry_type);
-    say(out, b" (code ");
-    say(out, &forms::hex4(entry.error_code as u64));
-    say(out, b")");
-    say_time(out, time);
-    say(out, b" (information ");
-    say_number(out, entry.additional_information);
-    say(out, b")");
+    let EntryType {
+        is_status_entry,
+        send_to_queue,
+        mode,
+        profile,
+    } = entry.entry_type;
+    let NetTime {
+        seconds,
+        nanoseconds,
+    } = entry.timestamp;
+    write!(
+        out,
+        " (status {}) (queue {}) (mode {}) (profile {profile})",
+        u8::from(is_status_entry),
+        u8::from(send_to_queue),
+        mode.as_u16()
+    );
+    write!(
+        out,
+        " (code {:#06X}) (seconds {seconds}) (nanoseconds {nanoseconds}) (information {})",
+        entry.error_code, entry.additional_information
+    );
 }
 
 fn print_entry(out: &mut Output, pattern: &[u8]) {
     match desk::read_at(pattern, 0) {
         Ok(entry) => {
-            say(out, b"(entry ");
+            write!(out, "(entry ");
             say_bytes(out, pattern);
             say_entry(out, entry);
-            say(out, b" (bytes ");
+            write!(out, " (bytes ");
             say_bytes(out, &entry.serialize());
-            say(out, b"))\n");
+            writeln!(out, "))");
         }
-        Err(_) => say(out, b"(entry short)\n"),
+        Err(_) => writeln!(out, "(entry short)"),
     }
 }
 
-// The generator of compare/driver/generator.rs. It keeps x below 2^31; the first `%` says so where the product must fit.
-fn next(x: u64) -> u64
-    ensures { result ≡ drawn x }
-{
-    (x % 2147483648 * 1103515245 + 12345) % 2147483648
-}
-
-// Fills the pattern with the bytes of the numbers that follow x; the last of these numbers.
-fn fill(pattern: &mut [u8; 20], mut x: u64) -> u64
-    ensures { (result ≡ last 20 x) × (pattern.new ≡ filled 20 0 x pattern.old) }
+// Fills the pattern with the next bytes of the generator.
+fn fill(pattern: &mut [u8; 20], generator: &mut Generator)
+    ensures { (generator.new.x ≡ last 20 generator.old.x) × (pattern.new ≡ filled 20 0 generator.old.x pattern.old) }
 {
     for i in 0..20usize {
-        x = next(x);
-        pattern[i] = (x / 65536 % 256) as u8;
+        pattern[i] = generator.below(256) as u8;
     }
-    x
-}
-
-// Its type says that the pattern still has 20 bytes after it was lent to `fill`.
-fn print_pattern(out: &mut Output, pattern: &[u8; 20]) {
-    print_entry(out, pattern);
 }
 
 fn print_patterns(out: &mut Output) {
-    let mut pattern = [0u8; 20];
-    let mut x = 1;
-    for _ in 2..40usize {
-        x = fill(&mut pattern, x);
-        print_pattern(out, &pattern);
+    let mut pattern = [0; 20];
+    let mut generator = Generator::new();
+    for _ in 2..40 {
+        fill(&mut pattern, &mut generator);
+        print_entry(out, &pattern);
     }
 }
 
 fn print_read(out: &mut Output, buffer: &[u8], place: u64) {
-    say(out, b"(read ");
-    say_number(out, place);
+    write!(out, "(read {place}");
     match desk::read_at(buffer, place) {
         Ok(entry) => say_entry(out, entry),
-        Err(_) => say(out, b" short"),
+        Err(_) => write!(out, " short"),
     }
-    say(out, b")\n");
+    writeln!(out, ")");
 }
 
 // At the front, behind it, at the last place that has 20 bytes, behind that, at the end and past it.
 fn print_reads(out: &mut Output) {
     let buffer =
         b"\x03\x07\x0B\x0F\x13\x17\x1B\x1F\x23\x27\x2B\x2F\x33\x37\x3B\x3F\x43\x47\x4B\x4F\x53\x57\x5B\x5F\x63\x67\x6B\x6F\x73\x77\x7B\x7F\x83\x87\x8B\x8F\x93\x97\x9B\x9F\xA3\xA7\xAB\xAF\xB3\xB7\xBB\xBF\xC3\xC7\xCB\xCF\xD3\xD7\xDB\xDF\xE3\xE7\xEB\xEF";
-    print_read(out, buffer, 0);
-    print_read(out, buffer, 1);
-    print_read(out, buffer, 40);
-    print_read(out, buffer, 41);
-    print_read(out, buffer, 60);
-    print_read(out, buffer, 61);
-    print_read(out, buffer, 18446744073709551615);
+    for place in [0, 1, 40, 41, 60, 61, u64::MAX] {
+        print_read(out, buffer, place);
+    }
 }
 
 // An entry like that of a crossing, with a number in its code and its seconds.
@@ -156,45 +107,35 @@ fn numbered_entry(number: u16) -> ErrorEntry
     ErrorEntry {
         entry_type,
         error_code: number,
-        timestamp: NetTime::new(number as u32, 0),
+        timestamp: NetTime::new(u32::from(number), 0),
         additional_information: 0,
     }
 }
 
-fn say_code(out: &mut Output, found: Option<ErrorEntry>) {
-    match found {
-        Some(entry) => {
-            say(out, b" ");
-            say_number(out, entry.error_code as u64);
-        }
-        None => say(out, b" none"),
-    }
-}
-
+// How many entries the history has, and the codes of its newest and its oldest.
 fn print_history(out: &mut Output, memory: &[u8; 5080], history: ErrorHistory) {
-    let count = history.count as usize;
-    say(out, b"(history ");
-    say_number(out, count as u64);
+    let count = usize::from(history.count);
+    write!(out, "(history {count}");
     if 0 < count {
-        say_code(out, history.get(memory, 0));
-        say_code(out, history.get(memory, count - 1));
+        for place in [0, count - 1] {
+            match history.get(memory, place) {
+                Some(entry) => write!(out, " {}", entry.error_code),
+                None => write!(out, " none"),
+            }
+        }
     }
-    say(out, b")\n");
+    writeln!(out, ")");
 }
 
 // Prints the history after the first entries, around its limit of 254, and after the last.
-fn print_some(out: &mut Output, number: u16, memory: &[u8; 5080], history: ErrorHistory) {
-    match number {
-        1 | 2 | 253 | 254 | 255 | 260 => print_history(out, memory, history),
-        _ => {}
-    }
-}
-
-fn print_histories(out: &mut Output, memory: &mut [u8; 5080]) {
+fn print_histories(out: &mut Output) {
+    let mut memory = [0; 5080];
     let mut history = ErrorHistory::new();
-    for number in 1..=260u16 {
-        history = write_error_to_history(memory, history, numbered_entry(number));
-        print_some(out, number, memory, history);
+    for number in 1..=260 {
+        history = write_error_to_history(&mut memory, history, numbered_entry(number));
+        if matches!(number, 1 | 2 | 253 | 254 | 255 | 260) {
+            print_history(out, &memory, history);
+        }
     }
 }
 
@@ -206,7 +147,6 @@ fn main(rt: HostRuntime) -> io::Result<()> {
     print_patterns(out);
     print_entry(out, &[0x00; 19]);
     print_reads(out);
-    let mut memory = [0u8; 5080];
-    print_histories(out, &mut memory);
+    print_histories(out);
     output.end()
 }

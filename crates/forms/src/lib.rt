@@ -3,6 +3,7 @@
 
 pub mod errors;
 pub mod find;
+pub mod generator;
 pub mod hex;
 pub mod output;
 #[cfg(test)]

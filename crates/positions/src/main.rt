@@ -5,11 +5,9 @@ use forms::output::Output;
 use std::io;
 
 fn main(rt: HostRuntime) -> io::Result<()> {
-    let mut output = Output::new(rt.stdout());
-    let out = &mut output;
-    let lines = reach::lines();
-    for k in 0..14usize {
-        out.write(&reach::form(lines[k]));
+    let mut out = Output::new(rt.stdout());
+    for line in reach::lines() {
+        out.write(&reach::form(line));
     }
-    output.end()
+    out.end()
 }

@@ -4,4 +4,4 @@ use Rattle.entry_bytes.proofs.Filling.{Left}
 use Rattle.entry_bytes.proofs.fill.Given as goal
 
 abbrev pub invariant-loop-i : goal.invariant-loop-i
-invariant-loop-i l = Left l.initial.pattern l.initial.x l.pattern l.x l.i
+invariant-loop-i l = Left l.initial.pattern l.initial.generator.x l.pattern l.generator.x l.i

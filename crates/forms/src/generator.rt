@@ -1,0 +1,27 @@
+// The numbers that choose the calls and bytes of a long comparison, as in compare/driver/generator.rs: the same in every run.
+ghost use Rattle.std.specs.Prelude.{◌≡◌, ◌<◌, ◌/◌, ◌%◌};
+ghost use Rattle.forms.specs.Generator.{drawn};
+
+#[derive(Clone, Copy)]
+pub struct Generator {
+    pub x: u64,
+    ghost small: { x < 2147483648 },
+}
+
+impl Generator {
+    pub fn new() -> Self
+        ensures { result.x ≡ 1 }
+    {
+        Self { x: 1 }
+    }
+
+    // The next number, below a limit. It is made of the upper bits of x, since the lower ones repeat soon.
+    pub fn below(&mut self, limit: u64) -> u64
+        requires { 0 < limit }
+        ensures number { result ≡ drawn self.old.x / 65536 % limit }
+        ensures next { self.new.x ≡ drawn self.old.x }
+    {
+        self.x = (self.x * 1103515245 + 12345) % 2147483648;
+        self.x / 65536 % limit
+    }
+}
