@@ -1,12 +1,12 @@
 // The heartbeats of a tick: the look at the watched nodes, and the errors of the late ones.
 ghost use Rattle.std.specs.Prelude.{◌≡◌, ℕ, ◌≤◌, true, List, map};
 ghost use Rattle.watched.specs.declared.nodes.WatchedNode.{WatchedNode};
-ghost use Rattle.watched.specs.Watched.{well_formed, watched_node, watched_of};
+ghost use Rattle.watched.specs.Watched.{well_formed, watched_of};
 ghost use Rattle.node.specs.Tick.{is_late, looked, late_ones, beat, beat_all};
 ghost use Rattle.node.specs.Refines.{plain};
 ghost use Rattle.heartbeats.specs.Parts.{looked_first};
 ghost use Rattle.head.specs.Words.{head_of};
-ghost use Rattle.watched.specs.Nodes.{nodes_of, never, soonest};
+ghost use Rattle.watched.specs.Nodes.{node_of, nodes_of, never, soonest};
 ghost use Rattle.heartbeats.specs.PartWords.{looked_time, looked_words, beat_words, beat_all_words};
 ghost use Rattle.heartbeats.specs.PartsIn.{TicksIn};
 
@@ -17,32 +17,33 @@ use node::calls::handled;
 use node::timing::time_since;
 use types::frame::error::types::{DllError, DllErrors};
 use types::types::NodeId;
-use watched::nodes::{NEVER, NodeWords, all_places, sooner};
+use watched::nodes::{NEVER, NodeWords};
+use watched::record::NodeRecord;
 
 // A node that was heard once, and then not for longer than its timeout.
-pub fn is_late(timeout: u64, last_heard: u64, time: u64) -> bool
-    ensures { result ≡ is_late time (watched_node 0 timeout last_heard) }
+pub fn is_late(node: NodeRecord, time: u64) -> bool
+    ensures { result ≡ is_late time (node_of node) }
 {
-    if last_heard == 0 {
+    if node.last_heard == 0 {
         return false;
     }
-    if timeout == 0 {
+    if node.timeout == 0 {
         return false;
     }
-    timeout < time_since(time, last_heard)
+    node.timeout < time_since(time, node.last_heard)
 }
 
 // A node that was never heard, or is late, counts as heard now.
-pub fn looked(timeout: u64, last_heard: u64, time: u64) -> u64
-    ensures { result ≡ looked_time time timeout last_heard }
+pub fn looked(node: NodeRecord, time: u64) -> u64
+    ensures { result ≡ looked_time time node.timeout node.last_heard }
 {
-    if last_heard == 0 {
+    if node.last_heard == 0 {
         return time;
     }
-    if is_late(timeout, last_heard, time) {
+    if is_late(node, time) {
         return time;
     }
-    last_heard
+    node.last_heard
 }
 
 // All nodes, and the soonest moment at which one would be late then.
@@ -52,16 +53,12 @@ pub fn look_all(nodes: &mut NodeWords, count: usize, time: u64) -> u64
         × (nodes_of nodes.new ≡ looked_first time count (nodes_of nodes.old))
         × (result ≡ soonest never (map (looked time) (watched_of (nodes_of nodes.old) count))) }
 {
-    all_places(nodes);
     let mut soonest = NEVER;
-    let mut i: usize = 0;
-    while i < count {
-        let at = 3 * i;
-        let timeout = nodes[at + 1];
-        let last_heard = looked(timeout, nodes[at + 2], time);
-        nodes[at + 2] = last_heard;
-        soonest = sooner(soonest, timeout, last_heard);
-        i += 1;
+    for i in 0..count {
+        let mut node = NodeRecord::at(nodes, i);
+        node.last_heard = looked(node, time);
+        nodes[3 * i + 2] = node.last_heard;
+        soonest = node.sooner(soonest);
     }
     soonest
 }
@@ -94,17 +91,13 @@ pub fn beat_all(head: &mut Head, nodes: &NodeWords, count: usize, time: u64) -> 
         logged: DllErrors::None,
         ended: false,
     };
-    let mut i: usize = 0;
-    'walk: while i < count {
-        let at = 3 * i;
-        if is_late(nodes[at + 1], nodes[at + 2], time) {
-            dealt = beat(head, nodes[at]);
+    for i in 0..count {
+        let node = NodeRecord::at(nodes, i);
+        if is_late(node, time) {
+            dealt = beat(head, node.node);
             if dealt.ended {
-                break 'walk;
+                return dealt;
             }
-            i += 1;
-        } else {
-            i += 1;
         }
     }
     dealt

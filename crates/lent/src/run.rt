@@ -12,7 +12,8 @@ use head::state::Head;
 use heartbeats::heartbeats::{is_late, looked};
 use lentlaws::{fold, scan};
 use tick::tick::checks_heartbeats;
-use watched::nodes::{NEVER, WatchedNode, follows, heard_by, sooner};
+use watched::nodes::{NEVER, WatchedNode};
+use watched::record::NodeRecord;
 
 // Number 3, node by node.
 #[derive(Clone, Copy)]
@@ -181,7 +182,7 @@ fn rises(formed: bool, last: u8, w: WatchedNode) -> bool
     if !formed {
         return false;
     }
-    follows(last as u64, w.node as u64, w.timeout, w.last_heard)
+    NodeRecord::from(w).follows(last as u64)
 }
 
 fn try_node(tried: Tried, w: WatchedNode) -> Tried
@@ -201,7 +202,7 @@ fn beat(beats: Beats, w: WatchedNode, time: u64) -> Beats
     if beats.crossed {
         return beats;
     }
-    if !is_late(w.timeout, w.last_heard, time) {
+    if !is_late(NodeRecord::from(w), time) {
         return beats;
     }
     let counter = beats.counter;
@@ -227,7 +228,7 @@ fn and_after(after: bool, w: WatchedNode, time: u64) -> bool
     ensures { result ≡ both after (not_before time w) }
 {
     if after {
-        return heard_by(w.timeout, w.last_heard, time);
+        return NodeRecord::from(w).heard_by(time);
     }
     false
 }
@@ -250,7 +251,7 @@ pub fn set(setting: Setting, mut w: WatchedNode) -> WatchedNode
             w
         }
         Setting::Looked(time) => {
-            w.last_heard = looked(w.timeout, w.last_heard, time);
+            w.last_heard = looked(NodeRecord::from(w), time);
             w
         }
     }
@@ -261,7 +262,7 @@ fn soonest_with(soonest: u64, setting: Setting, w: WatchedNode) -> u64
     ensures { result ≡ sooner_by soonest (settled setting w) }
 {
     let after = set(setting, w);
-    sooner(soonest, after.timeout, after.last_heard)
+    NodeRecord::from(after).sooner(soonest)
 }
 
 // One node.

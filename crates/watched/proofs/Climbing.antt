@@ -1,6 +1,6 @@
 -- Number 3 in two parts: nodes climb, which is tried as they are walked, and each has a node's number, which is tried from the last one back.
 -- Assumes nothing.
-use Prim.Native.Nat.{ℕ, zero, suc, ◌+◌, ◌*◌, ◌-◌, ◌<◌, ◌≤◌}
+use Prim.Native.Nat.{ℕ, zero, suc, ◌+◌, ◌-◌, ◌<◌, ◌≤◌}
 use mathlib.Core.Path.{◌≡◌, refl, sym, ap, ap₂, ◌∙◌}
 use mathlib.Core.Bool.{Bool, true, false}
 use mathlib.Core.List.{List, [], ◌∷◌}
@@ -17,7 +17,7 @@ use Rattle.watched.specs.declared.nodes.Seen.TheVariants as seen
 use Rattle.watched.specs.Watched.{latest, in_time, timed, fits, all_of, no_node}
 use Rattle.watched.specs.Nodes.{node_at, nodes_of, not_before, rising, climbing, numbered, roused_from}
 use Rattle.watched.proofs.Lists.{at_end}
-use Rattle.watched.proofs.Watching.{places, node_at_lem, turn as turn_at}
+use Rattle.watched.proofs.Watching.{places, node_at_lem, turn_read}
 
 pub both_false : (b : Bool) → both b false ≡ false
 both_false true = refl
@@ -125,8 +125,8 @@ module _ (ns : List ℕ) (k : ℕ) (below : k ≤ 32) where
         abbrev j : ℕ
         j = e - 1 - p
 
-        here : get_or (left p) j no_node ≡ node_at ns (e - 1)
-        here =
+        at_end_of : get_or (left p) j no_node ≡ node_at ns (e - 1)
+        at_end_of =
             get_or-drop p (take k (nodes_of ns)) j no_node
             ∙ ap (λ (m : ℕ). get_or (take k (nodes_of ns)) m no_node) (omega arith)
             ∙ get_or-take k (nodes_of ns) (e - 1) no_node (omega arith)
@@ -138,41 +138,50 @@ module _ (ns : List ℕ) (k : ℕ) (below : k ≤ 32) where
         one_more_lem : b ≡ all_of numbered (take (suc j) (left p))
         one_more_lem = let m : e - p ≡ suc j = omega arith in inv ∙ ap (λ (m : ℕ). all_of numbered (take m (left p))) m
 
-        turn : b ≡ both (all_of numbered (take j (left p))) (is_node (get_or ns (3 * (e - 1)) 0))
-        turn = one_more_lem ∙ all_more numbered (left p) j no_node in_left ∙ ap (λ (w : WatchedNode). both (all_of numbered (take j (left p))) (numbered w)) here
+        -- at the node that was read there
+        module _ (w : WatchedNode) (is : w ≡ node_at ns (e - 1)) where
+          here : get_or (left p) j no_node ≡ w
+          here = at_end_of ∙ sym is
 
-        pub numbers_stop : (z : Bool) → z ≡ is_node (get_or ns (3 * (e - 1)) 0) → z ≡ false → b ≡ false
-        numbers_stop z f h = turn ∙ ap (both (all_of numbered (take j (left p)))) (sym f ∙ h) ∙ both_false (all_of numbered (take j (left p)))
+          turn : b ≡ both (all_of numbered (take j (left p))) (numbered w)
+          turn = one_more_lem ∙ all_more numbered (left p) j no_node in_left ∙ ap (λ (w : WatchedNode). both (all_of numbered (take j (left p))) (numbered w)) here
 
-        pub numbers_next : (z : Bool) → z ≡ is_node (get_or ns (3 * (e - 1)) 0) → z ≡ true → b ≡ all_of numbered (take (e - 1 - p) (left p))
-        numbers_next z f h = turn ∙ ap (both (all_of numbered (take j (left p)))) (sym f ∙ h) ∙ both_true (all_of numbered (take j (left p)))
+          pub numbers_stop : (z : Bool) → z ≡ numbered w → z ≡ false → b ≡ false
+          numbers_stop z f h = turn ∙ ap (both (all_of numbered (take j (left p)))) (sym f ∙ h) ∙ both_false (all_of numbered (take j (left p)))
 
-        pub numbers_rest : (n : ℕ) → climbing n (left p) ≡ true → get_or ns (3 * (e - 1)) 0 ≤ 240 → b ≡ true
-        numbers_rest n c l = one_more_lem ∙ numbers_low n (left p) j no_node c in_left (rw here l)
+          pub numbers_next : (z : Bool) → z ≡ numbered w → z ≡ true → b ≡ all_of numbered (take (e - 1 - p) (left p))
+          numbers_next z f h = turn ∙ ap (both (all_of numbered (take j (left p)))) (sym f ∙ h) ∙ both_true (all_of numbered (take j (left p)))
+
+          pub numbers_above : (n : ℕ) → climbing n (left p) ≡ true → n < w.node
+          numbers_above n c = rw (← here) (climb_above n (left p) j no_node c in_left)
+
+          pub numbers_rest : (n : ℕ) → climbing n (left p) ≡ true → w.node ≤ 240 → b ≡ true
+          numbers_rest n c l = one_more_lem ∙ numbers_low n (left p) j no_node c in_left (rw here l)
 
   -- whether what is left climbs, and whether it is before now, as the whole
   module _ (i n : ℕ) (b : Bool) (e : b ≡ climbing n (left i)) where
     pub climbing_ends : k ≤ i → b ≡ true
     climbing_ends h = e ∙ ap (climbing n) (at_end (nodes_of ns) k (places ns) below i h)
 
-    module _ (inside : i < k) (z : Bool) (f : z ≡ both (ltb n (get_or ns (3 * i) 0)) (timed (node_at ns i))) where
-      climbing_turn : (y : Bool) → z ≡ y → b ≡ both y (climbing (get_or ns (3 * i) 0) (left (i + 1)))
-      climbing_turn y h = e ∙ ap (climbing n) (turn_at ns k below i inside) ∙ ap (λ (y : Bool). both y (climbing (get_or ns (3 * i) 0) (left (i + 1)))) (sym f ∙ h)
+    module _ (inside : i < k) (w : WatchedNode) (is : w ≡ node_at ns i) (z : Bool) (f : z ≡ both (ltb n w.node) (timed w)) where
+      climbing_turn : (y : Bool) → z ≡ y → b ≡ both y (climbing w.node (left (i + 1)))
+      climbing_turn y h = e ∙ ap (climbing n) (turn_read ns k below i inside w is) ∙ ap (λ (y : Bool). both y (climbing w.node (left (i + 1)))) (sym f ∙ h)
 
       pub climbing_stops : z ≡ false → b ≡ false
       climbing_stops = climbing_turn false
 
-      pub climbing_next : z ≡ true → b ≡ climbing (get_or ns (3 * i) 0) (left (i + 1))
+      pub climbing_next : z ≡ true → b ≡ climbing w.node (left (i + 1))
       climbing_next = climbing_turn true
 
   module _ (i t : ℕ) (b y : Bool) (e : b ≡ both y (all_of (not_before t) (left i))) where
     pub heard_all_ends : k ≤ i → y ≡ b
     heard_all_ends h = sym (e ∙ ap (λ (l : List WatchedNode). both y (all_of (not_before t) l)) (at_end (nodes_of ns) k (places ns) below i h) ∙ both_true y)
 
-    pub heard_all_next : i < k → (z : Bool) → z ≡ both y (not_before t (node_at ns i)) → b ≡ both z (all_of (not_before t) (left (i + 1)))
-    heard_all_next inside z f =
-        e ∙ ap (λ (l : List WatchedNode). both y (all_of (not_before t) l)) (turn_at ns k below i inside)
-        ∙ both_assoc y (not_before t (node_at ns i)) (all_of (not_before t) (left (i + 1)))
+    pub heard_all_next :
+        i < k → (w : WatchedNode) → w ≡ node_at ns i → (z : Bool) → z ≡ both y (not_before t w) → b ≡ both z (all_of (not_before t) (left (i + 1)))
+    heard_all_next inside w is z f =
+        e ∙ ap (λ (l : List WatchedNode). both y (all_of (not_before t) l)) (turn_read ns k below i inside w is)
+        ∙ both_assoc y (not_before t w) (all_of (not_before t) (left (i + 1)))
         ∙ ap (λ (z : Bool). both z (all_of (not_before t) (left (i + 1)))) (sym f)
 
 -- number 3 of the nodes behind one, by the two parts

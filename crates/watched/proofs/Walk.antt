@@ -21,7 +21,7 @@ use Rattle.watched.specs.Nodes.{node_at, nodes_of, climbing, numbered, never, so
 use Rattle.watched.specs.Climb.{one_less, sum_of, three_before, climbed, over, climb_of, climbed_of, first_heard, heard_climbed}
 use Rattle.watched.proofs.Lists.{at_end, whole}
 use Rattle.watched.proofs.Climbing.{both_false, both_assoc, climb_head, not_climbing, not_numbered, is_rising}
-use Rattle.watched.proofs.Watching.{places, turn as turn_at, sooner_idle, sooner_unheard, both_up, tried_unformed, tried_formed, formed_begins, find_unformed, find_formed}
+use Rattle.watched.proofs.Watching.{places, turn as turn_at, turn_read, sooner_idle, sooner_unheard, both_up, tried_unformed, tried_formed, formed_begins, find_unformed, find_formed}
 
 -- the walk in words: what is left gives what the whole gives
 module _ (ns : List ℕ) (k : ℕ) (below : k ≤ 32) where
@@ -32,32 +32,29 @@ module _ (ns : List ℕ) (k : ℕ) (below : k ≤ 32) where
     pub walk_ends : k ≤ i → climbed i n t s ≡ a
     walk_ends h = sym (e ∙ ap (climb_of m (climbed i n t s)) (at_end (nodes_of ns) k (places ns) below i h))
 
-    module _ (inside : i < k) where
-      abbrev number : ℕ
-      number = get_or ns (3 * i) 0
-
+    module _ (inside : i < k) (w : WatchedNode) (is : w ≡ node_at ns i) where
       abbrev next : Climbed
-      next = climb_of m (over (climbed i n t s) (node_at ns i)) (left (i + 1))
+      next = climb_of m (over (climbed i n t s) w) (left (i + 1))
 
-      walk_turn : a ≡ pick (leb number n) (climbed i n t s) (pick (eqb number m) (climbed i n t s) next)
-      walk_turn = e ∙ ap (climb_of m (climbed i n t s)) (turn_at ns k below i inside)
+      walk_turn : a ≡ pick (leb w.node n) (climbed i n t s) (pick (eqb w.node m) (climbed i n t s) next)
+      walk_turn = e ∙ ap (climb_of m (climbed i n t s)) (turn_read ns k below i inside w is)
 
-      pub walk_low : number ≤ n → climbed i n t s ≡ a
-      walk_low h = sym (walk_turn ∙ ap (λ (b : Bool). pick b (climbed i n t s) (pick (eqb number m) (climbed i n t s) next)) (le-leb number n h))
+      pub walk_low : w.node ≤ n → climbed i n t s ≡ a
+      walk_low h = sym (walk_turn ∙ ap (λ (b : Bool). pick b (climbed i n t s) (pick (eqb w.node m) (climbed i n t s) next)) (le-leb w.node n h))
 
-      module _ (up : n < number) where
-        up_turn : a ≡ pick (eqb number m) (climbed i n t s) next
-        up_turn = walk_turn ∙ ap (λ (b : Bool). pick b (climbed i n t s) (pick (eqb number m) (climbed i n t s) next)) (lt-leb number n up)
+      module _ (up : n < w.node) where
+        up_turn : a ≡ pick (eqb w.node m) (climbed i n t s) next
+        up_turn = walk_turn ∙ ap (λ (b : Bool). pick b (climbed i n t s) (pick (eqb w.node m) (climbed i n t s) next)) (lt-leb w.node n up)
 
-        pub walk_found : number ≡ m → climbed i n t s ≡ a
-        walk_found h = sym (up_turn ∙ ap (λ (b : Bool). pick b (climbed i n t s) next) (eq-eqb number m h))
+        pub walk_found : w.node ≡ m → climbed i n t s ≡ a
+        walk_found h = sym (up_turn ∙ ap (λ (b : Bool). pick b (climbed i n t s) next) (eq-eqb w.node m h))
 
         pub walk_next :
-            (number ≡ m → ⊥) → (x : ℕ) → x ≡ min s (three_before (node_at ns i)) →
-            a ≡ climb_of m (climbed (i + 1) number (bit_or (bit_or t (get_or ns (3 * i + 1) 0)) (get_or ns (3 * i + 2) 0)) x) (left (i + 1))
+            (w.node ≡ m → ⊥) → (x : ℕ) → x ≡ min s (three_before w) →
+            a ≡ climb_of m (climbed (i + 1) w.node (bit_or (bit_or t w.timeout) w.last_heard) x) (left (i + 1))
         walk_next h x g =
-            up_turn ∙ ap (λ (b : Bool). pick b (climbed i n t s) next) (ne_eqb number m h)
-            ∙ ap (λ (x : ℕ). climb_of m (climbed (i + 1) number (bit_or (bit_or t (get_or ns (3 * i + 1) 0)) (get_or ns (3 * i + 2) 0)) x) (left (i + 1))) (sym g)
+            up_turn ∙ ap (λ (b : Bool). pick b (climbed i n t s) next) (ne_eqb w.node m h)
+            ∙ ap (λ (x : ℕ). climb_of m (climbed (i + 1) w.node (bit_or (bit_or t w.timeout) w.last_heard) x) (left (i + 1))) (sym g)
 
 -- all times together are within their limit where each is
 or_least : (a b : ℕ) → a ≤ bit_or a b
@@ -321,21 +318,21 @@ module _ (ns : List ℕ) (k : ℕ) (below : k ≤ 32) (p n s t : ℕ) where
   pub first_none : k ≤ p → Some s ≡ heard_climbed n s t (left ns k below p)
   first_none h = sym (ap (heard_climbed n s t) (at_end (nodes_of ns) k (places ns) below p h))
 
-  module _ (inside : p < k) (z : Bool) (f : z ≡ both (ltb n (get_or ns (3 * p) 0)) (timed (node_at ns p))) where
+  module _ (inside : p < k) (w : WatchedNode) (is : w ≡ node_at ns p) (z : Bool) (f : z ≡ both (ltb n w.node) (timed w)) where
     abbrev heard_if : Bool → Option ℕ
     heard_if z =
-        pick (both z (climbing (get_or ns (3 * p) 0) (left ns k below (p + 1))))
-        (Some (soonest (sooner_by s (heard_now t (node_at ns p))) (left ns k below (p + 1)))) None
+        pick (both z (climbing w.node (left ns k below (p + 1))))
+        (Some (soonest (sooner_by s (heard_now t w)) (left ns k below (p + 1)))) None
 
     first_turn : (y : Bool) → z ≡ y → heard_climbed n s t (left ns k below p) ≡ heard_if y
-    first_turn y h = ap (heard_climbed n s t) (turn_at ns k below p inside) ∙ ap heard_if (sym f ∙ h)
+    first_turn y h = ap (heard_climbed n s t) (turn_read ns k below p inside w is) ∙ ap heard_if (sym f ∙ h)
 
     pub first_stops : z ≡ false → None ≡ heard_climbed n s t (left ns k below p)
     first_stops h = sym (first_turn false h)
 
     pub first_next :
-        z ≡ true → (x : ℕ) → x ≡ sooner_by s (heard_now t (node_at ns p)) → climbed_of (get_or ns (3 * p) 0) x (left ns k below (p + 1)) ≡ heard_climbed n s t (left ns k below p)
-    first_next h x g = ap (λ (x : ℕ). climbed_of (get_or ns (3 * p) 0) x (left ns k below (p + 1))) g ∙ sym (first_turn true h)
+        z ≡ true → (x : ℕ) → x ≡ sooner_by s (heard_now t w) → climbed_of w.node x (left ns k below (p + 1)) ≡ heard_climbed n s t (left ns k below p)
+    first_next h x g = ap (λ (x : ℕ). climbed_of w.node x (left ns k below (p + 1))) g ∙ sym (first_turn true h)
 
 -- the node sought among all: number 3 by climbing and by the numbers, its place, and the soonest moment with it heard at t
 module _ (ns : List ℕ) (k : ℕ) (below : k ≤ 32) (m t : ℕ) (r : Climbed) (e : r ≡ climb_of m (climbed 0 0 0 never) (left ns k below 0)) where

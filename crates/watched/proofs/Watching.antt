@@ -22,7 +22,7 @@ use Rattle.std.specs.declared.option.Option.{Option}
 use Rattle.std.specs.declared.option.Option.TheVariants.{Some, None}
 use Rattle.watched.specs.declared.nodes.Seen.{Seen}
 use Rattle.watched.specs.declared.nodes.Seen.TheVariants as seen
-use Rattle.watched.specs.Nodes.{node_at, nodes_of, rests, not_before, rising, never, sooner_by, rest_until, soonest, roused_from, nodes_tried, found_of, seen_of}
+use Rattle.watched.specs.Nodes.{node_at, nodes_of, rests, not_before, rising, never, sooner_by, soonest, roused_from, nodes_tried, found_of, seen_of}
 
 -- the item at an index of a list that is given by index
 pub listed_at : {A : Type 0} (f : ℕ → A) (n i : ℕ) (d : A) → i < n → get_or (listed f n) i d ≡ f i
@@ -195,64 +195,6 @@ lent_inside r a =
     let k : r.number ≤ 32 = Lists.few r.places r.number true (sym (both_second (eqb (length r.places) 32) _ a)) refl in
     omega (arith, l, k)
 
--- both at once: a node that rests, with the soonest moment
-module _ (t s : ℕ) (w : WatchedNode) where
-  abbrev o' : ℕ
-  o' = w.timeout
-
-  abbrev l' : ℕ
-  l' = w.last_heard
-
-  until_by : (b : Bool) → b ≡ rests t w → (x : ℕ) → x ≡ pick b (sooner_by s w) 0 → x ≡ rest_until t s w
-  until_by b e x g = g ∙ ap (λ (b : Bool). pick b (sooner_by s w) 0) e
-
-  pub until_unheard : l' ≡ 0 → 0 ≡ rest_until t s w
-  until_unheard h = until_by false (rests_unheard t w h) 0 refl
-
-  module _ (heard : l' ≡ 0 → ⊥) where
-    pub until_idle : o' ≡ 0 → s ≡ rest_until t s w
-    until_idle h = until_by true (rests_idle t w heard h) s (sooner_idle s w h)
-
-    module _ (timed : o' ≡ 0 → ⊥) where
-      pub until_before : t < l' → 0 ≡ rest_until t s w
-      until_before h = until_by false (rests_before t w heard timed h) 0 refl
-
-      module _ (after : l' ≤ t) where
-        pub until_late : l' + o' + 1 ≤ t → 0 ≡ rest_until t s w
-        until_late h = until_by false (sym (lt-leb (t - l') o' (omega (arith, h))) ∙ rests_tested t w heard timed after) 0 refl
-
-        in_time_lem : t < l' + o' + 1 → true ≡ rests t w
-        in_time_lem h = sym (le-leb (t - l') o' (omega (arith, h, after))) ∙ rests_tested t w heard timed after
-
-        pub until_this : t < l' + o' + 1 → l' + o' + 1 < s → l' + o' + 1 ≡ rest_until t s w
-        until_this h g = until_by true (in_time_lem h) (l' + o' + 1) (sooner_this s w timed heard g)
-
-        pub until_kept : t < l' + o' + 1 → s ≤ l' + o' + 1 → s ≡ rest_until t s w
-        until_kept h g = until_by true (in_time_lem h) s (sooner_kept s w timed heard g)
-
-  -- and what the number says
-  module _ (up : 0 < s) (x : ℕ) (e : x ≡ rest_until t s w) where
-    more : 0 < sooner_by s w
-    more = by (both (ltb 0 o') (ltb 0 l'))
-      where
-        by : (b : Bool) → 0 < pick b (min s (l' + o' + 1)) s
-        by true = omega (arith, up)
-        by false = up
-
-    pub until_none : x ≡ 0 → rests t w ≡ false
-    until_none h = by (rests t w) e
-      where
-        by : (b : Bool) → x ≡ pick b (sooner_by s w) 0 → b ≡ false
-        by true g = absurd (omega (arith, more, g, h))
-        by false g = refl
-
-    pub until_one : (x ≡ 0 → ⊥) → (rests t w ≡ true) × (x ≡ sooner_by s w) × (0 < x)
-    until_one h = by (rests t w) e
-      where
-        by : (b : Bool) → x ≡ pick b (sooner_by s w) 0 → (b ≡ true) × (x ≡ sooner_by s w) × (0 < x)
-        by true g = (refl, g, omega (arith, more, g))
-        by false g = absurd (h g)
-
 module _ (ws : List ℕ) where
   pub places : length (nodes_of ws) ≡ 32
   unfolding nodes_of
@@ -319,30 +261,35 @@ module _ (ws : List ℕ) where
               from_here (nodes_of ws) k places below i no_node inside
               ∙ ap (λ (w : WatchedNode). w ∷ left (i + 1)) (node_at_lem i (omega arith))
 
-          module _ (b : Bool) (n : ℕ) (e : b ≡ rising n (left i)) (z : Bool) (f : z ≡ both (ltb n (get_or ws (3 * i) 0)) (fits (node_at ws i))) where
-            formed_turn : b ≡ both z (rising (get_or ws (3 * i) 0) (left (i + 1)))
-            formed_turn = e ∙ ap (rising n) turn ∙ ap (λ (z : Bool). both z (rising (get_or ws (3 * i) 0) (left (i + 1)))) (sym f)
+          -- at the node that was read there
+          module _ (w : WatchedNode) (is : w ≡ node_at ws i) where
+            pub turn_read : left i ≡ w ∷ left (i + 1)
+            turn_read = turn ∙ ap (λ (w : WatchedNode). w ∷ left (i + 1)) (sym is)
 
-            pub formed_stops : z ≡ false → b ≡ false
-            formed_stops h = formed_turn ∙ ap (λ (z : Bool). both z (rising (get_or ws (3 * i) 0) (left (i + 1)))) h
+            module _ (b : Bool) (n : ℕ) (e : b ≡ rising n (left i)) (z : Bool) (f : z ≡ both (ltb n w.node) (fits w)) where
+              formed_turn : b ≡ both z (rising w.node (left (i + 1)))
+              formed_turn = e ∙ ap (rising n) turn_read ∙ ap (λ (z : Bool). both z (rising w.node (left (i + 1)))) (sym f)
 
-            pub formed_next : z ≡ true → b ≡ rising (get_or ws (3 * i) 0) (left (i + 1))
-            formed_next h = formed_turn ∙ ap (λ (z : Bool). both z (rising (get_or ws (3 * i) 0) (left (i + 1)))) h
+              pub formed_stops : z ≡ false → b ≡ false
+              formed_stops h = formed_turn ∙ ap (λ (z : Bool). both z (rising w.node (left (i + 1)))) h
 
-          -- the soonest moment of the nodes
-          pub soonest_next : (x s : ℕ) → x ≡ soonest s (left i) → (y : ℕ) → y ≡ sooner_by s (node_at ws i) → x ≡ soonest y (left (i + 1))
-          soonest_next x s e y g = e ∙ ap (soonest s) turn ∙ ap (λ (y : ℕ). soonest y (left (i + 1))) (sym g)
+              pub formed_next : z ≡ true → b ≡ rising w.node (left (i + 1))
+              formed_next h = formed_turn ∙ ap (λ (z : Bool). both z (rising w.node (left (i + 1)))) h
 
-          -- a test of all nodes
-          module _ (p : WatchedNode → Bool) (b : Bool) (e : b ≡ all_of p (left i)) where
-            all_turn : (z : Bool) → p (node_at ws i) ≡ z → b ≡ both z (all_of p (left (i + 1)))
-            all_turn z f = e ∙ ap (all_of p) turn ∙ ap (λ (z : Bool). both z (all_of p (left (i + 1)))) f
+            -- the soonest moment of the nodes
+            pub soonest_next : (x s : ℕ) → x ≡ soonest s (left i) → (y : ℕ) → y ≡ sooner_by s w → x ≡ soonest y (left (i + 1))
+            soonest_next x s e y g = e ∙ ap (soonest s) turn_read ∙ ap (λ (y : ℕ). soonest y (left (i + 1))) (sym g)
 
-            pub all_stops : p (node_at ws i) ≡ false → b ≡ false
-            all_stops = all_turn false
+            -- a test of all nodes
+            module _ (p : WatchedNode → Bool) (b : Bool) (e : b ≡ all_of p (left i)) where
+              all_turn : (z : Bool) → p w ≡ z → b ≡ both z (all_of p (left (i + 1)))
+              all_turn z f = e ∙ ap (all_of p) turn_read ∙ ap (λ (z : Bool). both z (all_of p (left (i + 1)))) f
 
-            pub all_next : p (node_at ws i) ≡ true → b ≡ all_of p (left (i + 1))
-            all_next = all_turn true
+              pub all_stops : p w ≡ false → b ≡ false
+              all_stops = all_turn false
+
+              pub all_next : p w ≡ true → b ≡ all_of p (left (i + 1))
+              all_next = all_turn true
 
     pub nodes_unformed : well_formed vs ≡ false → None ≡ nodes_tried vs
     nodes_unformed h = sym (ap (λ (b : Bool). pick b (Some (soonest never vs)) None) h)

@@ -1,6 +1,6 @@
 -- What the walk over the nodes carries (`climb`): for the contracts of private functions; no public one cites it.
 -- Assumes nothing.
-use Rattle.std.specs.Prelude.{ℕ, ◌+◌, ◌-◌, min, List, [], ◌∷◌, eqb, leb}
+use Rattle.std.specs.Prelude.{ℕ, ◌+◌, ◌-◌, min, List, [], ◌∷◌, eqb, leb, take, drop}
 use Rattle.std.specs.Int.Bits.{bit_or}
 use Rattle.types.specs.Pick.{pick}
 use Rattle.watched.specs.declared.nodes.WatchedNode.{WatchedNode}
@@ -8,7 +8,11 @@ use Rattle.watched.specs.declared.nodes.Climbed.{Climbed}
 use Rattle.std.specs.declared.option.Option.{Option}
 use Rattle.std.specs.declared.option.Option.TheVariants.{Some, None}
 use Rattle.watched.specs.Watched.{heard_now}
-use Rattle.watched.specs.Nodes.{climbing, never, soonest}
+use Rattle.watched.specs.Nodes.{nodes_of, climbing, never, soonest}
+
+-- the watched nodes in words from the place p on
+abbrev pub nodes_from : ℕ → ℕ → List ℕ → List WatchedNode
+nodes_from p k ns = drop p (take k (nodes_of ns))
 
 abbrev pub one_less : ℕ → ℕ
 one_less x = pick (eqb x 0) never (x - 1)

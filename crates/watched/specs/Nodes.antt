@@ -55,9 +55,9 @@ never = 18446744073709551615
 abbrev pub sooner_by : ℕ → WatchedNode → ℕ
 sooner_by s w = pick (both (ltb 0 w.timeout) (ltb 0 w.last_heard)) (min s (w.last_heard + w.timeout + 1)) s
 
--- the same of a node that rests, and 0 for one that does not
-abbrev pub rest_until : ℕ → ℕ → WatchedNode → ℕ
-rest_until t s w = pick (rests t w) (sooner_by s w) 0
+-- the same of a node that rests, and none for one that does not
+abbrev pub rest_until : ℕ → ℕ → WatchedNode → Option ℕ
+rest_until t s w = pick (rests t w) (Some (sooner_by s w)) None
 
 abbrev pub soonest : ℕ → List WatchedNode → ℕ
 soonest s [] = s

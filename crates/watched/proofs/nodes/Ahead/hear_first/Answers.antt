@@ -1,0 +1,20 @@
+-- `watched::nodes::Ahead::hear_first` meets its contract: the first node, then those behind it.
+-- Assumes nothing.
+use mathlib.Core.Path.{◌∙◌}
+use Rattle.watched.specs.Nodes.{node_of}
+use Rattle.watched.proofs.Walk.{first_stops, first_next}
+use Rattle.watched.proofs.nodes.Ahead.hear_first.Goals as goal
+
+pub returns-then-not-climbs : goal.returns-then-not-climbs
+returns-then-not-climbs c =
+    let s = c.args.self in
+    first_stops s.nodes.now s.count s.few s.place s.last c.args.«before» c.args.time c.if-self.false (node_of c.at-node.result) c.at-node.ensures
+    c.climbs.result c.climbs.ensures c.if-not-climbs.true
+
+pub returns : goal.returns
+returns c =
+    let s = c.args.self in
+    let e = c.after.ensures in
+    rw (e.0, e.1, e.2, e.3) at c.climb_from.ensures
+    ∙ first_next s.nodes.now s.count s.few s.place s.last c.args.«before» c.args.time c.if-self.false (node_of c.at-node.result) c.at-node.ensures
+    c.climbs.result c.climbs.ensures c.if-not-climbs.false c.sooner.result c.sooner.ensures

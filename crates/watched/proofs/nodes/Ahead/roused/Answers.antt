@@ -1,0 +1,46 @@
+-- `watched::nodes::Ahead::roused` meets its contract.
+-- Assumes nothing.
+use mathlib.Core.Path.{sym, ap, ◌∙◌}
+use Rattle.types.specs.Pick.{both}
+use Rattle.watched.specs.Nodes.{node_of, not_before}
+use Rattle.watched.specs.Climb.{nodes_from}
+use Rattle.watched.proofs.Climbing.{climbing_stops, climbing_next, climbing_ends, heard_all_next, heard_all_ends, not_climbing, not_numbered, is_rising, roused_not, roused_all}
+use Rattle.watched.proofs.nodes.Ahead.roused.Goals.{then-heard, else-heard}
+use Rattle.watched.proofs.nodes.Ahead.roused.Goals as goal
+
+pub returns-then-not-climbs : goal.returns-then-not-climbs
+returns-then-not-climbs c =
+    let l = c.loop-i in
+    let s = c.args.self in
+    let ws = nodes_from s.place s.count s.nodes.now in
+    roused_not s.last ws c.args.time (not_climbing s.last ws
+    (climbing_stops s.nodes.now s.count s.few l.i l.above _ l.invariant.0 c.loop-i-test.true (node_of c.at-node.result) c.at-node.ensures c.climbs.result c.climbs.ensures c.if-not-climbs.true))
+
+pub loop-i-preserved : goal.loop-i-preserved
+loop-i-preserved c =
+    let l = c.loop-i in
+    let s = c.args.self in (
+      climbing_next s.nodes.now s.count s.few l.i l.above _ l.invariant.0 c.loop-i-test.true (node_of c.at-node.result) c.at-node.ensures c.climbs.result c.climbs.ensures c.if-not-climbs.false,
+      heard_all_next s.nodes.now s.count s.few l.i c.args.time _ l.heard l.invariant.1 c.loop-i-test.true (node_of c.at-node.result) c.at-node.ensures c.if-heard.heard
+          (elim c.if-heard.branch [
+            then-heard w ↦ w.heard-is ∙ w.heard_by-heard.ensures ∙ sym (ap (λ b. both b (not_before c.args.time (node_of c.at-node.result))) w.if-heard.true)
+          | else-heard w ↦ w.heard-is ∙ w.if-heard.false ∙ sym (ap (λ b. both b (not_before c.args.time (node_of c.at-node.result))) w.if-heard.false) ]),
+    )
+
+pub returns-then-not-have_numbers : goal.returns-then-not-have_numbers
+returns-then-not-have_numbers c =
+    let l = c.loop-i in
+    let s = c.args.self in
+    let ws = nodes_from s.place s.count s.nodes.now in
+    roused_not s.last ws c.args.time (not_numbered s.last ws
+    (climbing_ends s.nodes.now s.count s.few l.i l.above _ l.invariant.0 c.loop-i-test.false)
+    (sym c.have_numbers.ensures ∙ c.if-not-have_numbers.true))
+
+pub returns : goal.returns
+returns c =
+    let l = c.loop-i in
+    let s = c.args.self in
+    let ws = nodes_from s.place s.count s.nodes.now in
+    roused_all s.last ws c.args.time l.heard (heard_all_ends s.nodes.now s.count s.few l.i c.args.time _ l.heard l.invariant.1 c.loop-i-test.false)
+    (is_rising s.last ws (climbing_ends s.nodes.now s.count s.few l.i l.above _ l.invariant.0 c.loop-i-test.false)
+    (sym c.have_numbers.ensures ∙ c.if-not-have_numbers.false))
