@@ -1,7 +1,7 @@
 -- The heartbeats in words: the look at the nodes, and the walk over the late ones. What they make of the head is by the laws on a head by its parts;
 -- the words are beside it.
 -- Assumes nothing.
-use Rattle.std.proofs.Common.{◌≡◌, ℕ, suc, ◌+◌, ◌-◌, ◌*◌, ◌<◌, ◌≤◌, Bool, true, false, eqb, ltb, leb, List, [], ◌∷◌, ◌++◌, map, length, get_or, take, drop, set, sym, refl, ap, ◌∙◌, subst, ap₂, add-one, arith, length-set, take-append-drop, length-take-le, get_or-take, ltb-true, le-ltb, lt-ltb, eq-eqb, ne_eqb, eqb-true, leb-true}
+use Rattle.std.proofs.Common.{◌≡◌, ℕ, suc, ◌+◌, ◌-◌, ◌*◌, ◌<◌, ◌≤◌, Bool, true, false, eqb, ltb, leb, List, [], ◌∷◌, ◌++◌, map, length, get_or, take, drop, set, sym, refl, ap, ◌∙◌, subst, ap₂, add-one, arith, take-append-drop, length-take-le, get_or-take, ltb-true, le-ltb, lt-ltb, eq-eqb, ne_eqb, eqb-true, leb-true}
 use mathlib.Core.Bool.{false≢true}
 use borrow.Author.Tests.{eqb-false}
 use Rattle.types.specs.Pick.{pick, both, either}
@@ -69,7 +69,10 @@ unfolding looked_words
 looks_begin t ns = refl
 
 -- a turn of the look
-module _ (t : ℕ) (ns₀ ns : List ℕ) (i : ℕ) (inside : i < 32) (long : length ns ≡ 96) (x : ℕ) (e : x ≡ looked_time t (get_or ns (3 * i + 1) 0) (get_or ns (3 * i + 2) 0)) where
+module _ (t : ℕ) (ns₀ ns : List ℕ) (i : ℕ) (inside : i < 32) (long : length ns ≡ 96) (r : WatchedNode) (is : r ≡ node_at ns i) (x : ℕ) (f : x ≡ looked_time t r.timeout r.last_heard) where
+  e : x ≡ looked_time t (get_or ns (3 * i + 1) 0) (get_or ns (3 * i + 2) 0)
+  e = f ∙ ap (λ (w : WatchedNode). looked_time t w.timeout w.last_heard) is
+
   pub look_words_lem : ns ≡ looked_words t i ns₀ → set ns (3 * i + 2) x ≡ looked_words t (i + 1) ns₀
   unfolding looked_words
   look_words_lem a = ap (set ns (3 * i + 2)) e ∙ ap (look_words t i) a ∙ ap (λ (n : ℕ). looked_words t n ns₀) (sym (add-one i))
@@ -83,9 +86,6 @@ module _ (t : ℕ) (ns₀ ns : List ℕ) (i : ℕ) (inside : i < 32) (long : len
       ∙ each_turn (looked t) (nodes_of ns₀) (nodes_of ns) i no_node (rw (places ns₀) inside) b (heard_now x w)
       (ap (λ (x : ℕ). heard_now x w) v ∙ looked_by t w)
 
-  pub look_long : length (set ns (3 * i + 2) x) ≡ 96
-  look_long = length-set ns (3 * i + 2) x ∙ long
-
 -- the nodes that the look has not reached, and the soonest moment
 module _ (t : ℕ) (ns₀ ns : List ℕ) (k i : ℕ) (formed : well_formed (watched_of (nodes_of ns₀) k) ≡ true) (inside : i < k) (b : nodes_of ns ≡ looked_first t i (nodes_of ns₀)) where
   below : k ≤ 32
@@ -97,13 +97,13 @@ module _ (t : ℕ) (ns₀ ns : List ℕ) (k i : ℕ) (formed : well_formed (watc
       ∙ each_ahead (looked t) (nodes_of ns₀) (nodes_of ns) i no_node (rw (places ns₀) (omega (arith, inside, below))) b
       ∙ node_at_lem ns₀ i (omega (arith, inside, below))
 
-  -- a node as the look at its words leaves it
-  abbrev seen : ℕ → WatchedNode
-  seen x = heard_now x (node_at ns i)
+  module _ (r : WatchedNode) (is : r ≡ node_at ns i) (x : ℕ) (e : x ≡ looked_time t r.timeout r.last_heard) where
+    -- the node that was read as the look at it leaves it
+    abbrev seen : ℕ → WatchedNode
+    seen x = heard_now x r
 
-  module _ (x : ℕ) (e : x ≡ looked_time t (get_or ns (3 * i + 1) 0) (get_or ns (3 * i + 2) 0)) where
     is_looked : seen x ≡ looked t (node_at ns₀ i)
-    is_looked = ap seen e ∙ looked_by t (node_at ns i) ∙ ap (looked t) as_it_was
+    is_looked = ap seen e ∙ looked_by t r ∙ ap (looked t) (is ∙ as_it_was)
 
     pub look_sooner :
         (y s : ℕ) → y ≡ soonest s (map (looked t) (drop i (take k (nodes_of ns₀)))) → (z : ℕ) → z ≡ sooner_by s (seen x) →
@@ -299,7 +299,7 @@ module _ (ns : List ℕ) (k : ℕ) (few : k ≤ 32) (t : ℕ) (ws₀ : List ℕ)
           words = sym (b.words ∙ ap (λ (l : List WatchedNode). beat_all_words ws (late_ones t l)) (at_end nodes k (places ns) few i z));
         }
 
-    module _ (inside : i < k) (z : Bool) (l : z ≡ is_late t (node_at ns i)) where
+    module _ (inside : i < k) (r : WatchedNode) (is : r ≡ node_at ns i) (z : Bool) (l : z ≡ is_late t r) where
       abbrev w : WatchedNode
       w = get_or nodes i no_node
 
@@ -307,7 +307,7 @@ module _ (ns : List ℕ) (k : ℕ) (few : k ≤ 32) (t : ℕ) (ws₀ : List ℕ)
       left = drop (i + 1) (take k nodes)
 
       read : z ≡ is_late t w
-      read = late_at t ns i (omega arith) z l
+      read = late_at t ns i (omega arith) z (l ∙ ap (is_late t) is)
 
       turn : (y : Bool) → z ≡ y → late_ones t (drop i (take k nodes)) ≡ pick y (w ∷ late_ones t left) (late_ones t left)
       turn y e =
@@ -321,31 +321,31 @@ module _ (ns : List ℕ) (k : ℕ) (few : k ≤ 32) (t : ℕ) (ws₀ : List ℕ)
             words = b.words ∙ ap (beat_all_words ws) (turn false e);
           }
 
-      module _ (late : z ≡ true) (r : Dealt) (ws' : List ℕ) (y : (v : WatchedNode) → v.node ≡ get_or ns (3 * i) 0 → (q m : List ℕ) → TicksIn ws q m (beat (plain (head_of ws) q m) v) r ws' q m (beat_words ws v)) where
-        beaten : (q m : List ℕ) → TicksIn ws q m (beat (plain (head_of ws) q m) w) r ws' q m (beat_words ws w)
-        beaten = y w (ap (λ (v : WatchedNode). v.node) (node_at_lem ns i (omega arith)))
+      module _ (late : z ≡ true) (r' : Dealt) (ws' : List ℕ) (y : (v : WatchedNode) → v.node ≡ r.node → (q m : List ℕ) → TicksIn ws q m (beat (plain (head_of ws) q m) v) r' ws' q m (beat_words ws v)) where
+        beaten : (q m : List ℕ) → TicksIn ws q m (beat (plain (head_of ws) q m) w) r' ws' q m (beat_words ws w)
+        beaten = y w (ap (λ (v : WatchedNode). v.node) (node_at_lem ns i (omega arith) ∙ sym is))
 
-        ends : r.ended ≡ ends_by ws (timeout_of w)
+        ends : r'.ended ≡ ends_by ws (timeout_of w)
         unfolding head_of beat
         ends = (beaten [] []).ticks.ended
 
         abbrev ahead : Bool → List ℕ
         ahead c = pick c (beat_words ws w) (beat_all_words (beat_words ws w) (late_ones t left))
 
-        here : (c : Bool) → r.ended ≡ c → beat_all_words ws₀ (late_ones t all) ≡ ahead c
+        here : (c : Bool) → r'.ended ≡ c → beat_all_words ws₀ (late_ones t all) ≡ ahead c
         unfolding beat_all_words
         here c e = b.words ∙ ap (beat_all_words ws) (turn true late) ∙ ap ahead (sym ends ∙ e)
 
-        pub walk_stops : r.ended ≡ true → (q m : List ℕ) → TicksIn ws₀ q m (beat_all (plain (head_of ws₀) q m) (late_ones t all)) r ws' q m (beat_all_words ws₀ (late_ones t all))
+        pub walk_stops : r'.ended ≡ true → (q m : List ℕ) → TicksIn ws₀ q m (beat_all (plain (head_of ws₀) q m) (late_ones t all)) r' ws' q m (beat_all_words ws₀ (late_ones t all))
         walk_stops e q m =
             record {
-              ticks = beats_stop nodes k (places ns) few t (head_of ws₀) (dealt_of ws d) i b.beating no_node inside z read late (dealt_of ws' r) (λ q m. (beaten q m).ticks) e q m;
+              ticks = beats_stop nodes k (places ns) few t (head_of ws₀) (dealt_of ws d) i b.beating no_node inside z read late (dealt_of ws' r') (λ q m. (beaten q m).ticks) e q m;
               words = (beaten q m).words ∙ sym (here true e);
             }
 
-        pub walk_goes_on : r.ended ≡ false → BeatingIn t all ws₀ ws' r left
+        pub walk_goes_on : r'.ended ≡ false → BeatingIn t all ws₀ ws' r' left
         walk_goes_on e =
             record {
-              beating = beats_go_on nodes k (places ns) few t (head_of ws₀) (dealt_of ws d) i b.beating no_node inside z read late (dealt_of ws' r) (λ q m. (beaten q m).ticks) e;
+              beating = beats_go_on nodes k (places ns) few t (head_of ws₀) (dealt_of ws d) i b.beating no_node inside z read late (dealt_of ws' r') (λ q m. (beaten q m).ticks) e;
               words = here false e ∙ ap (λ (l : List ℕ). beat_all_words l (late_ones t left)) (sym (beaten [] []).words);
             }

@@ -24,23 +24,14 @@ use watched::record::NodeRecord;
 pub fn is_late(node: NodeRecord, time: u64) -> bool
     ensures { result ≡ is_late time (node_of node) }
 {
-    if node.last_heard == 0 {
-        return false;
-    }
-    if node.timeout == 0 {
-        return false;
-    }
-    node.timeout < time_since(time, node.last_heard)
+    node.last_heard != 0 && node.timeout != 0 && node.timeout < time_since(time, node.last_heard)
 }
 
 // A node that was never heard, or is late, counts as heard now.
 pub fn looked(node: NodeRecord, time: u64) -> u64
     ensures { result ≡ looked_time time node.timeout node.last_heard }
 {
-    if node.last_heard == 0 {
-        return time;
-    }
-    if is_late(node, time) {
+    if node.last_heard == 0 || is_late(node, time) {
         return time;
     }
     node.last_heard
@@ -91,8 +82,8 @@ pub fn beat_all(head: &mut Head, nodes: &NodeWords, count: usize, time: u64) -> 
         logged: DllErrors::None,
         ended: false,
     };
-    for i in 0..count {
-        let node = NodeRecord::at(nodes, i);
+    for place in 0..count {
+        let node = NodeRecord::at(nodes, place);
         if is_late(node, time) {
             dealt = beat(head, node.node);
             if dealt.ended {

@@ -1,32 +1,45 @@
--- `heartbeats::heartbeats::beat_all` meets its contract. The invariant of the walk: the late nodes that are left give what all of them give, and nothing has joined.
+-- `heartbeats::heartbeats::beat_all` meets its contract.
 -- Assumes nothing.
-use Rattle.std.proofs.Common.{true, sym, refl, arith}
+use Rattle.std.proofs.Common.{ap, arith}
+use Rattle.watched.specs.declared.nodes.WatchedNode.{WatchedNode}
+use Rattle.watched.specs.Nodes.{node_of}
 use Rattle.watched.proofs.Limits.{number_small}
-use Rattle.watched.proofs.Lists.{few}
-use Rattle.watched.specs.Nodes.{nodes_of}
+use Rattle.watched.proofs.Watching.{few}
 use Rattle.heartbeats.proofs.Beatings.{walk_begins, walk_over, walk_passes, walk_stops, walk_goes_on}
+use Rattle.heartbeats.proofs.heartbeats.beat_all.Goals.{then-is_late+else-dealt, else-is_late}
 use Rattle.heartbeats.proofs.heartbeats.beat_all.Goals as goal
 
-pub walk-init : goal.walk-init
-walk-init c =
-    let f = few (nodes_of c.args.nodes.now) c.args.count true (sym c.requires) refl in (walk_begins c.args.nodes.now c.args.count f c.args.time c.args.head.now, omega arith, f, c.requires)
+pub loop-place-init : goal.loop-place-init
+loop-place-init c =
+    let a = c.args in
+    walk_begins a.nodes.now a.count (few a.nodes.now a.count c.requires) a.time a.head.now
+
+pub at-node-requires : goal.at-node-requires
+at-node-requires c =
+    omega (arith, c.loop-place-test.true, few c.args.nodes.now c.args.count c.requires)
 
 pub beat-dealt-requires : goal.beat-dealt-requires
 beat-dealt-requires c =
-    number_small c.args.nodes.now c.args.count c.walk.invariant.2 c.walk.invariant.3 c.walk.i c.walk-test.true
+    let a = c.args in
+    omega (arith, ap (λ (w : WatchedNode). w.node) c.at-node.ensures, number_small a.nodes.now a.count (few a.nodes.now a.count c.requires) c.requires c.loop-place.place c.loop-place-test.true)
 
-pub walk-preserved-then-is_late : goal.walk-preserved-then-is_late
-walk-preserved-then-is_late c =
-    (walk_goes_on c.args.nodes.now c.args.count c.walk.invariant.2 c.args.time c.args.head.now c.walk.head c.walk.dealt c.walk.i c.walk.invariant.0 c.walk-test.true c.is_late.result c.is_late.ensures c.if-is_late.true c.beat-dealt.result _ c.beat-dealt.ensures c.if-dealt.false, omega arith, c.walk.invariant.2, c.walk.invariant.3)
+pub loop-place-preserved : goal.loop-place-preserved
+loop-place-preserved c =
+    let a = c.args in
+    let l = c.loop-place in
+    elim c.if-is_late.branch [
+      | then-is_late+else-dealt w ↦ rw (w.head-is, w.dealt-is) (walk_goes_on a.nodes.now a.count (few a.nodes.now a.count c.requires) a.time a.head.now l.head l.dealt l.place l.invariant c.loop-place-test.true (node_of c.at-node.result) c.at-node.ensures c.is_late.result c.is_late.ensures w.if-is_late.true w.beat-dealt.result _ w.beat-dealt.ensures w.if-dealt.false)
+      | else-is_late w ↦ rw (w.head-is, w.dealt-is) (walk_passes a.nodes.now a.count (few a.nodes.now a.count c.requires) a.time a.head.now l.head l.dealt l.place l.invariant c.loop-place-test.true (node_of c.at-node.result) c.at-node.ensures c.is_late.result c.is_late.ensures w.if-is_late.false)
+    ]
 
-pub walk-preserved : goal.walk-preserved
-walk-preserved c =
-    (walk_passes c.args.nodes.now c.args.count c.walk.invariant.2 c.args.time c.args.head.now c.walk.head c.walk.dealt c.walk.i c.walk.invariant.0 c.walk-test.true c.is_late.result c.is_late.ensures c.if-is_late.false, omega arith, c.walk.invariant.2, c.walk.invariant.3)
-
-pub returns-after-walk : goal.returns-after-walk
-returns-after-walk c =
-    walk_over c.args.nodes.now c.args.count c.walk.invariant.2 c.args.time c.args.head.now c.walk.head c.walk.dealt c.walk.i c.walk.invariant.0 (omega arith)
+pub returns : goal.returns
+returns c =
+    let a = c.args in
+    let l = c.loop-place in
+    walk_over a.nodes.now a.count (few a.nodes.now a.count c.requires) a.time a.head.now l.head l.dealt l.place l.invariant c.loop-place-test.false
 
 pub returns-then-dealt : goal.returns-then-dealt
 returns-then-dealt c =
-    walk_stops c.args.nodes.now c.args.count c.walk.invariant.2 c.args.time c.args.head.now c.walk.head c.walk.dealt c.walk.i c.walk.invariant.0 c.walk-test.true c.is_late.result c.is_late.ensures c.if-is_late.true c.beat-dealt.result _ c.beat-dealt.ensures c.if-dealt.true
+    let a = c.args in
+    let l = c.loop-place in
+    walk_stops a.nodes.now a.count (few a.nodes.now a.count c.requires) a.time a.head.now l.head l.dealt l.place l.invariant c.loop-place-test.true (node_of c.at-node.result) c.at-node.ensures c.is_late.result c.is_late.ensures c.if-is_late.true c.beat-dealt.result _ c.beat-dealt.ensures c.if-dealt.true

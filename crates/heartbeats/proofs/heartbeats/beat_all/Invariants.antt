@@ -1,17 +1,11 @@
 -- `heartbeats::heartbeats::beat_all` meets its contract. The invariant of the walk: the late nodes that are left give what all of them give, and nothing has joined.
 -- Assumes nothing.
-use Rattle.std.proofs.Common.{◌≡◌, ◌-◌, ◌≤◌, true, take, drop}
-use Rattle.watched.specs.Watched.{well_formed, watched_of}
+use Rattle.std.proofs.Common.{take, drop}
+use Rattle.watched.specs.Watched.{watched_of}
 use Rattle.watched.specs.Nodes.{nodes_of}
 use Rattle.heartbeats.proofs.Beatings.{BeatingIn}
 use Rattle.heartbeats.proofs.heartbeats.beat_all.Given as goal
 
-abbrev pub invariant-walk : goal.invariant-walk
-invariant-walk l =
-    BeatingIn l.time (watched_of (nodes_of l.nodes) l.count) l.initial.head l.head l.dealt (drop l.i (take l.count (nodes_of l.nodes)))
-    × (l.i ≤ l.count)
-    × (l.count ≤ 32)
-    × (well_formed (watched_of (nodes_of l.nodes) l.count) ≡ true)
-
-abbrev pub decreases-walk : goal.decreases-walk
-decreases-walk l = l.count - l.i
+abbrev pub invariant-loop-place : goal.invariant-loop-place
+invariant-loop-place l =
+    BeatingIn l.time (watched_of (nodes_of l.nodes) l.count) l.initial.head l.head l.dealt (drop l.place (take l.count (nodes_of l.nodes)))

@@ -1,35 +1,29 @@
--- `heartbeats::heartbeats::look_all` meets its contract. The invariant: the first i nodes are looked at, as words and as nodes, and the soonest moment is theirs.
+-- `heartbeats::heartbeats::look_all` meets its contract.
 -- Assumes nothing.
-use Rattle.std.proofs.Common.{◌≡◌, ℕ, refl, ap, ◌∙◌, arith}
-use Rattle.watched.specs.Nodes.{nodes_of}
+use Rattle.std.proofs.Common.{◌≡◌, ◌<◌, ℕ, refl, ap, ◌∙◌, arith}
+use Rattle.watched.specs.Nodes.{node_of, nodes_of}
 use Rattle.watched.proofs.Watching.{few}
 use Rattle.heartbeats.specs.Parts.{looked_first}
 use Rattle.heartbeats.specs.PartWords.{looked_words}
-use Rattle.heartbeats.proofs.Beatings.{looks_begin, look_words_lem, look_nodes, look_long, look_sooner, sooner_begins, sooner_ends}
+use Rattle.heartbeats.proofs.Beatings.{looks_begin, look_words_lem, look_nodes, look_sooner, sooner_begins, sooner_ends}
 use Rattle.heartbeats.proofs.heartbeats.look_all.Goals as goal
 
 pub loop-i-init : goal.loop-i-init
 loop-i-init c =
-    let a = c.args in (
-      looks_begin a.time a.nodes.now,
-      refl,
-      omega arith,
-      few a.nodes.now a.count c.requires,
-      c.all_places.ensures,
-      sooner_begins a.time a.nodes.now a.count c.requires,
-    )
+    let a = c.args in
+    (looks_begin a.time a.nodes.now, refl, sooner_begins a.time a.nodes.now a.count c.requires, few a.nodes.now a.count c.requires)
 
 pub loop-i-preserved : goal.loop-i-preserved
 loop-i-preserved c =
     let l = c.loop-i in
-    let a = c.args in (
-      look_words_lem a.time a.nodes.now l.nodes l.i (omega arith) l.invariant.4 c.looked-last_heard.result c.looked-last_heard.ensures l.invariant.0,
-      look_nodes a.time a.nodes.now l.nodes l.i (omega arith) l.invariant.4 c.looked-last_heard.result c.looked-last_heard.ensures l.invariant.1,
-      omega arith,
+    let a = c.args in
+    let h : l.i < 32 = omega (arith, c.loop-i-test.true, l.invariant.3) in
+    let w = node_of c.at-node.result in (
+      look_words_lem a.time a.nodes.now l.nodes l.i h (omega arith) w c.at-node.ensures c.looked.result c.looked.ensures l.invariant.0,
+      look_nodes a.time a.nodes.now l.nodes l.i h (omega arith) w c.at-node.ensures c.looked.result c.looked.ensures l.invariant.1,
+      look_sooner a.time a.nodes.now l.nodes a.count l.i c.requires c.loop-i-test.true l.invariant.1 w c.at-node.ensures c.looked.result c.looked.ensures
+          _ l.soonest l.invariant.2 c.sooner-soonest.result c.sooner-soonest.ensures,
       l.invariant.3,
-      look_long a.time a.nodes.now l.nodes l.i (omega arith) l.invariant.4 c.looked-last_heard.result c.looked-last_heard.ensures,
-      look_sooner a.time a.nodes.now l.nodes a.count l.i c.requires c.loop-i-test.true l.invariant.1 c.looked-last_heard.result c.looked-last_heard.ensures
-          _ l.soonest l.invariant.5 c.sooner-soonest.result c.sooner-soonest.ensures,
     )
 
 pub returns : goal.returns
@@ -39,5 +33,5 @@ returns c =
     let e : l.i ≡ a.count = omega arith in (
       l.invariant.0 ∙ ap (λ (k : ℕ). looked_words a.time k a.nodes.now) e,
       l.invariant.1 ∙ ap (λ (k : ℕ). looked_first a.time k (nodes_of a.nodes.now)) e,
-      sooner_ends a.time a.nodes.now a.count c.requires l.i _ l.soonest l.invariant.5 c.loop-i-test.false,
+      sooner_ends a.time a.nodes.now a.count c.requires l.i _ l.soonest l.invariant.2 c.loop-i-test.false,
     )

@@ -1,6 +1,6 @@
 -- `heartbeats::heartbeats::look_all` meets its contract. The invariant: the first i nodes are looked at, as words and as nodes, and the soonest moment is theirs.
 -- Assumes nothing.
-use Rattle.std.proofs.Common.{◌≡◌, ◌-◌, ◌≤◌, map, length, take, drop}
+use Rattle.std.proofs.Common.{◌≡◌, ◌≤◌, map, take, drop}
 use Rattle.watched.specs.Watched.{watched_of}
 use Rattle.watched.specs.Nodes.{nodes_of, never, soonest}
 use Rattle.node.specs.Tick.{looked}
@@ -12,10 +12,5 @@ abbrev pub invariant-loop-i : goal.invariant-loop-i
 invariant-loop-i l =
     (l.nodes ≡ looked_words l.time l.i l.initial.nodes)
     × (nodes_of l.nodes ≡ looked_first l.time l.i (nodes_of l.initial.nodes))
-    × (l.i ≤ l.count)
-    × (l.count ≤ 32)
-    × (length l.nodes ≡ 96)
     × (soonest never (map (looked l.time) (watched_of (nodes_of l.initial.nodes) l.count)) ≡ soonest l.soonest (map (looked l.time) (drop l.i (take l.count (nodes_of l.initial.nodes)))))
-
-abbrev pub decreases-loop-i : goal.decreases-loop-i
-decreases-loop-i l = l.count - l.i
+    × (l.count ≤ 32)
