@@ -1,6 +1,6 @@
 // The threshold counters (EPSG DS 301, Section 4.7.4.1) and those of a controlled node (Section 4.7.8).
 ghost use Rattle.std.specs.Prelude.{◌≡◌};
-ghost use Rattle.counters.specs.Counters.{add_top, new_counter, incremented, decremented, after_check, after_error, active, new_counters, counter, replaced, unsignalled, signalled_answer, counted_error, effect, effect_of, handled, lowered, any_active, completed, same_for_all, thresholds_fit};
+ghost use Rattle.counters.specs.Counters.{new_counter, incremented, decremented, after_check, after_error, active, new_counters, counter, replaced, unsignalled, signalled_answer, counted_error, effect, effect_of, handled, lowered, any_active, completed, same_for_all, thresholds_fit};
 
 use types::frame::error::types::{DllError, DllErrors, NmtAction};
 
@@ -22,17 +22,6 @@ pub struct ThresholdCheck {
     pub reached: bool,
 }
 
-// a + b, stopping at the 32-bit top.
-pub fn saturating_add(a: u32, b: u32) -> u32
-    ensures { result ≡ add_top a b }
-{
-    if a <= 4294967295 - b {
-        a + b
-    } else {
-        4294967295
-    }
-}
-
 impl ThresholdCounter {
     pub fn new(threshold: u32) -> Self
         ensures { result ≡ new_counter threshold }
@@ -48,8 +37,8 @@ impl ThresholdCounter {
     pub fn increment(mut self) -> Self
         ensures { result ≡ incremented self }
     {
-        self.cumulative_cnt = saturating_add(self.cumulative_cnt, 1);
-        self.threshold_cnt = saturating_add(self.threshold_cnt, 8);
+        self.cumulative_cnt = self.cumulative_cnt.saturating_add(1);
+        self.threshold_cnt = self.threshold_cnt.saturating_add(8);
         self
     }
 
@@ -68,7 +57,7 @@ impl ThresholdCounter {
     {
         if 0 < self.threshold && self.threshold <= self.threshold_cnt {
             self.threshold_cnt = 0;
-            self.crossings_cnt = saturating_add(self.crossings_cnt, 1);
+            self.crossings_cnt = self.crossings_cnt.saturating_add(1);
             ThresholdCheck {
                 counter: self,
                 reached: true,
@@ -82,6 +71,7 @@ impl ThresholdCounter {
     }
 
     // An error that counts: the level rises, and is checked.
+    #[tactic(auto, unfolding(crate::specs::Counters::after_error))]
     pub fn count_error(self) -> ThresholdCheck
         ensures { result ≡ after_error self }
     {
@@ -168,6 +158,7 @@ impl Thresholds {
         }
     }
 
+    #[tactic(auto, unfolding(crate::specs::Counters::thresholds_fit))]
     pub fn is_within_limit(self) -> bool
         ensures { result ≡ thresholds_fit self }
     {
@@ -267,6 +258,7 @@ impl CnErrorCounters {
     }
 
     // The counters with that of a kind replaced.
+    #[tactic(auto, unfolding(crate::specs::Counters::replaced))]
     fn replace(mut self, kind: CounterKind, by: ThresholdCounter) -> Self
         ensures { result ≡ replaced kind by self }
     {
@@ -283,6 +275,7 @@ impl CnErrorCounters {
     }
 
     // An error that counts for a kind. A crossing asks for a reset, signals and is logged.
+    #[tactic(auto, unfolding(crate::specs::Counters::counted_error, crate::specs::Counters::after_error))]
     fn count(self, kind: CounterKind, error: DllError) -> HandledError
         ensures { result ≡ counted_error kind self error }
     {
@@ -300,13 +293,14 @@ impl CnErrorCounters {
         }
     }
 
+    #[tactic(auto, unfolding(crate::specs::Counters::handled))]
     pub fn handle_error(mut self, error: DllError) -> HandledError
         ensures { result ≡ handled self error }
     {
         match effect_of(error) {
             ErrorEffect::Counts(kind) => self.count(kind, error),
             ErrorEffect::LosesLink => {
-                self.loss_of_link_cumulative = saturating_add(self.loss_of_link_cumulative, 1);
+                self.loss_of_link_cumulative = self.loss_of_link_cumulative.saturating_add(1);
                 signalled(self, error)
             }
             ErrorEffect::IsLogged => signalled(self, error),
@@ -315,6 +309,7 @@ impl CnErrorCounters {
     }
 
     // Each level above 0 lowered by 1.
+    #[tactic(auto, unfolding(crate::specs::Counters::lowered))]
     fn decrement(mut self) -> Self
         ensures { result ≡ lowered self }
     {
@@ -328,6 +323,7 @@ impl CnErrorCounters {
         self
     }
 
+    #[tactic(auto, unfolding(crate::specs::Counters::any_active))]
     fn is_any_active(self) -> bool
         ensures { result ≡ any_active self }
     {
@@ -340,6 +336,7 @@ impl CnErrorCounters {
             || self.heartbeat_timeout.is_active()
     }
 
+    #[tactic(auto, unfolding(crate::specs::Counters::completed))]
     pub fn on_cycle_complete(self) -> CompletedCycle
         ensures { result ≡ completed self }
     {

@@ -34,8 +34,8 @@ fn unpack(entry: u8) -> Entry
 pub fn chosen(state: NmtState, event: NmtEvent, enabled: bool, ready: bool) -> Entry
     ensures { result ≡ ruled state event enabled ready }
 {
-    let line = TABLE[place(state)][usize::from(event.as_u8())];
-    unpack(line[usize::from(enabled)][usize::from(ready)])
+    let event = usize::from(event.as_u8());
+    unpack(TABLE[place(state)][event][usize::from(enabled)][usize::from(ready)])
 }
 
 // A state's place in the table.
@@ -81,7 +81,8 @@ pub fn state_at(place: u8) -> NmtState
 }
 
 // The table: a block for each state, a line for each event, and in it four entries. Those where it is not enabled stand left, those where it is
-// enabled right; of both, the first is that where it is not ready.
+// enabled right; of both, the first is that where it is not ready. It is a `static`, which is read where it lies: an array constant would be written to
+// the stack, all of it, at each event.
 static TABLE: [[[[u8; 2]; 2]; 19]; 12] = [
     // GsOff, 0x00
     [

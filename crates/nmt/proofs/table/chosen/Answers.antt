@@ -10,5 +10,5 @@ pub returns : goal.returns
 unfolding ruled processed reset_by applied enter row_of is_reset states_entered
 returns c =
     let a = c.args in
-    rw (c.unpack.ensures, c.place.ensures, c.from.ensures, c.as_u8.ensures, c.from-2.ensures, c.from-3.ensures)
+    rw (c.unpack.ensures, c.place.ensures, c.from-event.ensures, c.as_u8.ensures, c.from.ensures, c.from-2.ensures)
     (each_entry a.state a.event a.enabled a.ready _ _ _ _)
