@@ -12,7 +12,7 @@ ghost use Rattle.head.specs.Words.{counter_at, errors_of, head_of};
 ghost use Rattle.node.specs.InPlace.{InPlace, Processed, said, nmt_said, dll_said, error_said, replied, effect_words, withdraw_words, nmt_words, dll_words, error_words, cycle_words, arm_words, hand_out_words};
 
 use crate::timing::armed;
-use counters::counters::{CounterKind, ErrorEffect, effect_of, saturating_add};
+use counters::counters::{CounterKind, ErrorEffect, effect_of};
 use entries::status_response::ErrorEntry;
 use head::parts::{
     counter_of, dll_of, errors_of, forget, links_of, nmt_of, od_of, queue_of, set_counter, set_dll,
@@ -131,7 +131,7 @@ pub fn handled(head: &mut Head, error: DllError) -> ErrorTaken
             }
         }
         ErrorEffect::LosesLink => {
-            set_links(head, saturating_add(links_of(head), 1));
+            set_links(head, links_of(head).saturating_add(1));
             signalled(NmtAction::None, error)
         }
         ErrorEffect::IsLogged => signalled(NmtAction::None, error),
