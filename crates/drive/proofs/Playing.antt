@@ -18,26 +18,26 @@ use Rattle.std.specs.declared.result.Result.{Result}
 use Rattle.std.specs.declared.result.Result.TheVariants.{Ok, Err}
 use Rattle.start.specs.Started.{StartedIn}
 use Rattle.drive.specs.declared.Row.{Row}
-use Rattle.drive.specs.declared.Counts.{Counts}
+use Rattle.drive.specs.declared.Tag.TheVariants.{Lend}
 use Rattle.drive.specs.Script.{call_of, lent_by, row_at, number_of, numbers, numbers_written, Turned, Plays, Played, Lent, lent, PlayedAll, Replayed}
 
 -- one row, over what it left
 pub plays_lends :
     {r : Row} {bytes ws q m ns out ns' : List ℕ} {k n : ℕ} →
-    r.tag ≡ 10 →
+    r.tag ≡ Lend →
     ns' ≡ lent_by r ns →
-    Plays r bytes ws q m ns k out n ws q m ns' out (record { watched = r.e; made = n })
+    Plays r bytes ws q m ns k out n ws q m ns' r.e out n
 plays_lends {r} {bytes} {ws} {q} {m} {ns} {out} {ns'} {k} {n} e f =
-    subst (λ (l : List ℕ). Plays r bytes ws q m ns k out n ws q m l out (record { watched = r.e; made = n })) (sym f) (Plays.lends e)
+    subst (λ (l : List ℕ). Plays r bytes ws q m ns k out n ws q m l r.e out n) (sym f) (Plays.lends e)
 
 pub plays_calls :
     {r : Row} {bytes ws q m ns out ws' q' m' ns' out' : List ℕ} {k k' n x : ℕ} →
-    (r.tag ≡ 10 → ⊥) →
+    (r.tag ≡ Lend → ⊥) →
     Turned ws q m ns k (call_of r (run (nodes_of ns) k) bytes) x ws' q' m' ns' k' →
     out' ≡ set out n x →
-    Plays r bytes ws q m ns k out n ws' q' m' ns' out' (record { watched = k'; made = n + 1 })
+    Plays r bytes ws q m ns k out n ws' q' m' ns' k' out' (n + 1)
 plays_calls {r} {bytes} {ws} {q} {m} {ns} {out} {ws'} {q'} {m'} {ns'} {out'} {k} {k'} {n} {x} e t f =
-    subst (λ (l : List ℕ). Plays r bytes ws q m ns k out n ws' q' m' ns' l (record { watched = k'; made = n + 1 })) (sym f) (Plays.calls e t)
+    subst (λ (l : List ℕ). Plays r bytes ws q m ns k out n ws' q' m' ns' k' l (n + 1)) (sym f) (Plays.calls e t)
 
 -- a number more, at the end
 written_more :
@@ -76,11 +76,11 @@ module _ (script bytes : List ℕ) (k₀ : ℕ) (x : Lent) (n : ℕ) where
       }
 
   one_more_lem :
-      {ws ns q m out : List ℕ} {k made i : ℕ} {ws' q' m' ns' out' : List ℕ} {p : Counts} →
+      {ws ns q m out : List ℕ} {k made i k' made' : ℕ} {ws' q' m' ns' out' : List ℕ} →
       Going script bytes k₀ x n ws ns q m out k made i →
       i < n →
-      Plays (row_at script i) bytes ws q m ns k out made ws' q' m' ns' out' p →
-      Going script bytes k₀ x n ws' ns' q' m' out' p.watched p.made (suc i)
+      Plays (row_at script i) bytes ws q m ns k out made ws' q' m' ns' k' out' made' →
+      Going script bytes k₀ x n ws' ns' q' m' out' k' made' (suc i)
   one_more_lem g l (Plays.lends e) =
       record {
         within = omega arith;
@@ -111,34 +111,40 @@ module _ (script bytes : List ℕ) (k₀ : ℕ) (x : Lent) (n : ℕ) where
       }
 
   pub going_next :
-      {ws ns q m out ws' q' m' ns' out' : List ℕ} {k made i : ℕ} {r : Row} {p : Counts} →
+      {ws ns q m out ws' q' m' ns' out' : List ℕ} {k made i k' made' : ℕ} {r : Row} →
       Going script bytes k₀ x n ws ns q m out k made i →
       i < n →
       r ≡ row_at script i →
-      Plays r bytes ws q m ns k out made ws' q' m' ns' out' p →
-      Going script bytes k₀ x n ws' ns' q' m' out' p.watched p.made (i + 1)
-  going_next {ws} {ns} {q} {m} {out} {ws'} {q'} {m'} {ns'} {out'} {k} {made} {i} {r} {p} g l e a =
-      let b = subst (λ (y : Row). Plays y bytes ws q m ns k out made ws' q' m' ns' out' p) e a in
-      subst (Going script bytes k₀ x n ws' ns' q' m' out' p.watched p.made) (sym (add-one i)) (one_more_lem g l b)
+      Plays r bytes ws q m ns k out made ws' q' m' ns' k' out' made' →
+      Going script bytes k₀ x n ws' ns' q' m' out' k' made' (i + 1)
+  going_next {ws} {ns} {q} {m} {out} {ws'} {q'} {m'} {ns'} {out'} {k} {made} {i} {k'} {made'} {r} g l e a =
+      let b = subst (λ (y : Row). Plays y bytes ws q m ns k out made ws' q' m' ns' k' out' made') e a in
+      subst (Going script bytes k₀ x n ws' ns' q' m' out' k' made') (sym (add-one i)) (one_more_lem g l b)
 
-  -- every row was played
+  -- every row was played, and each reference is left as its last row left it
   pub going_end :
-      {x' : Lent} {k made i : ℕ} →
-      Going script bytes k₀ x n x'.head x'.nodes x'.queue x'.history x'.out k made i →
+      {ws ns q m out ws' ns' q' m' out' : List ℕ} {k made i : ℕ} →
+      Going script bytes k₀ x n ws ns q m out k made i →
       n ≤ i →
       n ≡ length script / 11 →
-      PlayedAll script bytes k₀ x x'
-  going_end {x'} {k} {made} {i} g l e =
+      ws' ≡ ws →
+      ns' ≡ ns →
+      q' ≡ q →
+      m' ≡ m →
+      out' ≡ out →
+      PlayedAll script bytes k₀ x (lent ws' ns' q' m' out')
+  going_end {ws} {ns} {q} {m} {out} {ws'} {ns'} {q'} {m'} {out'} {k} {made} {i} g l e a b c d o =
       let f : i ≡ n = let h = g.within in omega arith in
+      let p : PlayedAll script bytes k₀ x (lent ws ns q m out) =
       record {
         calls = g.calls;
         says = g.says;
         count = k;
-        played =
-            subst (λ (j : ℕ). Played script bytes x.head x.queue x.history x.nodes k₀ j g.calls g.says x'.head x'.queue x'.history x'.nodes k) (f ∙ e)
-            g.played;
+        played = subst (λ (j : ℕ). Played script bytes x.head x.queue x.history x.nodes k₀ j g.calls g.says ws q m ns k) (f ∙ e) g.played;
         numbered = g.numbered;
       }
+      in
+      subst (PlayedAll script bytes k₀ x) (λ i. lent (sym a i) (sym b i) (sym c i) (sym d i) (sym o i)) p
 
 -- by what start answered
 module _ {k n t c : ℕ} {f : FeatureFlags} {o : Dictionary} {ts : Thresholds} {a : Result (Unit {0}) Refusal} (script bytes : List ℕ) where

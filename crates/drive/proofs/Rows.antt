@@ -34,16 +34,13 @@ keeps =
 module _ (l : Run) (bytes : List ℕ) where
   -- 261 is no node, and not node 5; a byte that does not fit is 0
   no_node_lem : call_of (row_at (row 5 261 7 0 []) 0) l bytes ≡ heard 0 7 l
-  unfolding call_of
   no_node_lem = refl
 
   no_byte : call_of (row_at (row 2 8 255 256 []) 0) l bytes ≡ error 8 255 0
-  unfolding call_of
   no_byte = refl
 
   -- partner 5 with timeout 50 comes, and goes
   partner : (call_of (row_at (row 13 5 50 0 []) 0) l bytes ≡ add 5 50 l) × (call_of (row_at (row 14 5 0 0 []) 0) l bytes ≡ remove 5 l)
-  unfolding call_of
   partner = (refl, refl)
 
 -- two loads of one script, each with its own part; past the end there is none
@@ -51,7 +48,7 @@ parts :
     (l : Run) →
     (call_of (row_at (loads 1 2 (loads 3 9 [])) 0) l (10 ∷ 11 ∷ 12 ∷ 13 ∷ 14 ∷ []) ≡ load keeps (history_update true (11 ∷ 12 ∷ [])))
     × (call_of (row_at (loads 1 2 (loads 3 9 [])) 1) l (10 ∷ 11 ∷ 12 ∷ 13 ∷ 14 ∷ []) ≡ load keeps (history_update true (13 ∷ 14 ∷ [])))
-unfolding call_of values_of
+unfolding values_of
 parts l = (refl, refl)
 
 -- the second of three places is set; a place past the 32 is none

@@ -10,6 +10,7 @@ use Rattle.std.specs.declared.option.Option.{Option}
 use Rattle.std.specs.declared.result.Result.TheVariants.{Ok, Err}
 use Rattle.std.specs.declared.option.Option.TheVariants.{Some, None}
 use Rattle.types.specs.declared.refusals.Refusal.{Refusal}
+use Rattle.types.specs.Refusals.{refusal_number}
 use Rattle.node.specs.declared.load.DictionaryUpdate.{DictionaryUpdate}
 use Rattle.watched.specs.Watched.{Run, run}
 use Rattle.node.specs.Plain.{Call, nmt_event, dll_event, error, cycle_complete, withdraw, heard, hand_out, load, arm, tick, range, margin, add, remove, Answer, refused, taken, nmt_answer, dll_answer, error_answer, cycle_answer, hand_out_answer, tick_answer, range_answer, margin_answer}
@@ -18,7 +19,8 @@ use Rattle.node.specs.Refines.{history_update}
 use Rattle.watched.specs.Nodes.{nodes_of}
 use Rattle.start.specs.Started.{StartedIn}
 use Rattle.drive.specs.declared.Row.{Row}
-use Rattle.drive.specs.declared.Counts.{Counts}
+use Rattle.drive.specs.declared.Tag.{Tag}
+use Rattle.drive.specs.declared.Tag.TheVariants.{NmtEvent, DllEvent, Error, CycleComplete, Withdraw, Heard, HandOut, Load, Tick, Lend, Range, Margin, Add, Remove, Arm}
 use Rattle.trace.specs.Driven.{Made}
 
 -- a number of a byte, and of a word of 32 bits: what does not fit is read as 0, never modulo; so it is no node
@@ -51,28 +53,48 @@ values_of r =
       counter_5 = counter_update r.g;
     }
 
+-- the call of a row's first number; every number is one's, but for 10
+abbrev pub tag_of : ℕ → Tag
+tag_of n =
+    pick (eqb n 0) NmtEvent
+    (pick (eqb n 1) DllEvent
+    (pick (eqb n 2) Error
+    (pick (eqb n 3) CycleComplete
+    (pick (eqb n 4) Withdraw
+    (pick (eqb n 5) Heard
+    (pick (eqb n 6) HandOut
+    (pick (eqb n 7) Load
+    (pick (eqb n 9) Tick
+    (pick (eqb n 10) Lend
+    (pick (eqb n 11) Range (pick (eqb n 12) Margin (pick (eqb n 13) Add (pick (eqb n 14) Remove Arm)))))))))))))
+
 -- the part of the bytes that a load's row names: j of them from the i-th on, as far as there are so many
 abbrev pub part_of : Row → List ℕ → List ℕ
 part_of r bytes = take r.j (drop r.i bytes)
 
 -- The call of a row, with the run l that is lent to heard, a tick, add and removal, and the bytes of which a load names a part. Every row is one, but for
--- tag 10.
-unfoldable pub call_of : Row → Run → List ℕ → Call
-call_of r l bytes =
-    pick (eqb r.tag 0) (nmt_event r.a)
-    (pick (eqb r.tag 1) (dll_event r.a (eqb r.b 1))
-    (pick (eqb r.tag 2) (error r.a (byte_of r.b) (byte_of r.c))
-    (pick (eqb r.tag 3) cycle_complete
-    (pick (eqb r.tag 4) withdraw
-    (pick (eqb r.tag 5) (heard (byte_of r.a) r.b l)
-    (pick (eqb r.tag 6) hand_out
-    (pick (eqb r.tag 7) (load (values_of r) (history_update (eqb r.h 1) (part_of r bytes)))
-    (pick (eqb r.tag 9) (tick r.a l)
-    (pick (eqb r.tag 11) (range r.a r.b)
-    (pick (eqb r.tag 12) (margin r.a)
-    (pick (eqb r.tag 13) (add (byte_of r.a) r.b l) (pick (eqb r.tag 14) (remove (byte_of r.a) l) (arm r.a)))))))))))))
+-- `Lend`.
+abbrev pub call_tagged : Tag → Row → Run → List ℕ → Call
+call_tagged NmtEvent r l bytes = nmt_event r.a
+call_tagged DllEvent r l bytes = dll_event r.a (eqb r.b 1)
+call_tagged Error r l bytes = error r.a (byte_of r.b) (byte_of r.c)
+call_tagged CycleComplete r l bytes = cycle_complete
+call_tagged Withdraw r l bytes = withdraw
+call_tagged Heard r l bytes = heard (byte_of r.a) r.b l
+call_tagged HandOut r l bytes = hand_out
+call_tagged Load r l bytes = load (values_of r) (history_update (eqb r.h 1) (part_of r bytes))
+call_tagged Tick r l bytes = tick r.a l
+call_tagged Range r l bytes = range r.a r.b
+call_tagged Margin r l bytes = margin r.a
+call_tagged Add r l bytes = add (byte_of r.a) r.b l
+call_tagged Remove r l bytes = remove (byte_of r.a) l
+call_tagged Lend r l bytes = arm r.a
+call_tagged Arm r l bytes = arm r.a
 
--- A row of tag 10 is no call: it sets what is lent next. The a-th of the 32 places gets the number b, the timeout c and the time d; past them none does. Then e
+abbrev pub call_of : Row → Run → List ℕ → Call
+call_of r l bytes = call_tagged r.tag r l bytes
+
+-- A row of `Lend` is no call: it sets what is lent next. The a-th of the 32 places gets the number b, the timeout c and the time d; past them none does. Then e
 -- nodes are watched.
 abbrev pub lent_by : Row → List ℕ → List ℕ
 lent_by r ns =
@@ -82,7 +104,7 @@ lent_by r ns =
 abbrev pub row_at : List ℕ → ℕ → Row
 row_at s i =
     record {
-      tag = get_or s (11 * i) 0;
+      tag = tag_of (get_or s (11 * i) 0);
       a = get_or s (11 * i + 1) 0;
       b = get_or s (11 * i + 2) 0;
       c = get_or s (11 * i + 3) 0;
@@ -108,6 +130,11 @@ number_of (tick_answer es) = 0
 number_of (range_answer v) = 0
 number_of (margin_answer z) = 0
 
+-- the number of what declined a call, or 0
+abbrev pub number_in : Option Refusal → ℕ
+number_in (Some r) = refusal_number r
+number_in None = 0
+
 abbrev pub numbers : List Said → List ℕ
 numbers ss = map (λ (s : Said). number_of s.answer) ss
 
@@ -124,13 +151,13 @@ pub record Turned (ws q m ns : List ℕ) (k : ℕ) (c : Call) (n : ℕ) (ws' q' 
 
 -- One row: the words of the head, the bytes of queue and history, the words of the nodes and how many are watched; `out`, and how many numbers it has; all of
 -- them after the row.
-pub data Plays (r : Row) (bytes ws q m ns : List ℕ) (k : ℕ) (out : List ℕ) (n : ℕ) : List ℕ → List ℕ → List ℕ → List ℕ → List ℕ → Counts → Type 0 where
-  lends : r.tag ≡ 10 → Plays r bytes ws q m ns k out n ws q m (lent_by r ns) out (record { watched = r.e; made = n })
+pub data Plays (r : Row) (bytes ws q m ns : List ℕ) (k : ℕ) (out : List ℕ) (n : ℕ) : List ℕ → List ℕ → List ℕ → List ℕ → ℕ → List ℕ → ℕ → Type 0 where
+  lends : r.tag ≡ Lend → Plays r bytes ws q m ns k out n ws q m (lent_by r ns) r.e out n
   calls :
       {ws' q' m' ns' : List ℕ} {k' x : ℕ} →
-      (r.tag ≡ 10 → ⊥) →
+      (r.tag ≡ Lend → ⊥) →
       Turned ws q m ns k (call_of r (run (nodes_of ns) k) bytes) x ws' q' m' ns' k' →
-      Plays r bytes ws q m ns k out n ws' q' m' ns' (set out n x) (record { watched = k'; made = n + 1 })
+      Plays r bytes ws q m ns k out n ws' q' m' ns' k' (set out n x) (n + 1)
 
 -- The first so many rows of a script, each on what the last one left: the calls that they are, what these said, and the words of the head, the bytes of queue and
 -- history, the words of the nodes and how many are watched after them.
@@ -139,12 +166,12 @@ pub data Played (script bytes ws₀ q₀ m₀ ns₀ : List ℕ) (k₀ : ℕ) : �
   lends :
       {i k : ℕ} {cs : List Call} {ss : List Said} {ws q m ns : List ℕ} →
       Played script bytes ws₀ q₀ m₀ ns₀ k₀ i cs ss ws q m ns k →
-      (row_at script i).tag ≡ 10 →
+      (row_at script i).tag ≡ Lend →
       Played script bytes ws₀ q₀ m₀ ns₀ k₀ (suc i) cs ss ws q m (lent_by (row_at script i) ns) (row_at script i).e
   calls :
       {i k k' : ℕ} {cs : List Call} {ss : List Said} {s : Said} {ws q m ns ws' q' m' ns' : List ℕ} →
       Played script bytes ws₀ q₀ m₀ ns₀ k₀ i cs ss ws q m ns k →
-      ((row_at script i).tag ≡ 10 → ⊥) →
+      ((row_at script i).tag ≡ Lend → ⊥) →
       Made ws q m ns k (call_of (row_at script i) (run (nodes_of ns) k) bytes) s ws' q' m' ns' k' →
       Played script bytes ws₀ q₀ m₀ ns₀ k₀ (suc i) (cs ++ (call_of (row_at script i) (run (nodes_of ns) k) bytes ∷ [])) (ss ++ (s ∷ [])) ws' q' m' ns' k'
 

@@ -5,10 +5,8 @@
 ghost use Rattle.std.specs.Prelude.{◌≡◌, List, ℕ, ◌+◌, ◌*◌, ◌<◌, ltb, length, set};
 ghost use Rattle.types.specs.Pick.{pick};
 ghost use Rattle.watched.specs.Watched.{run};
-ghost use Rattle.node.specs.Plain.{Call};
 ghost use Rattle.watched.specs.Nodes.{nodes_of};
-ghost use Rattle.node.specs.InPlace.{said};
-ghost use Rattle.drive.specs.Script.{byte_of, word_of, byte_update, counter_update, object_update, values_of, call_of, lent_by, row_at, number_of, Turned, Plays, lent, PlayedAll, Replayed};
+ghost use Rattle.drive.specs.Script.{byte_of, word_of, byte_update, counter_update, object_update, values_of, tag_of, part_of, call_of, lent_by, row_at, number_in, Turned, Plays, lent, PlayedAll, Replayed};
 
 use counters::counters::Thresholds;
 use head::state::{Dictionary, Head};
@@ -20,13 +18,57 @@ use partners::{add, remove};
 use start::start::start;
 use tick::tick::process_tick;
 use types::nmt::flags::FeatureFlags;
-use watched::nodes::NodeWords;
 use types::refusals::Refusal;
+use watched::nodes::NodeWords;
 
-// A row of a script: which call, and its arguments; of tag 10, a watched node that is lent next.
+// Which call a row is. A row of `Lend` is none: it says which watched nodes are lent next.
+#[derive(Clone, Copy)]
+pub enum Tag {
+    NmtEvent,
+    DllEvent,
+    Error,
+    CycleComplete,
+    Withdraw,
+    Heard,
+    HandOut,
+    Load,
+    Tick,
+    Lend,
+    Range,
+    Margin,
+    Add,
+    Remove,
+    Arm,
+}
+
+impl From<u64> for Tag {
+    ghost from_gives = { λ n t. t ≡ tag_of n };
+
+    fn from(n: u64) -> Tag {
+        match n {
+            0 => Tag::NmtEvent,
+            1 => Tag::DllEvent,
+            2 => Tag::Error,
+            3 => Tag::CycleComplete,
+            4 => Tag::Withdraw,
+            5 => Tag::Heard,
+            6 => Tag::HandOut,
+            7 => Tag::Load,
+            9 => Tag::Tick,
+            10 => Tag::Lend,
+            11 => Tag::Range,
+            12 => Tag::Margin,
+            13 => Tag::Add,
+            14 => Tag::Remove,
+            _ => Tag::Arm,
+        }
+    }
+}
+
+// A row of a script: which call, and its arguments.
 #[derive(Clone, Copy)]
 pub struct Row {
-    pub tag: u64,
+    pub tag: Tag,
     pub a: u64,
     pub b: u64,
     pub c: u64,
@@ -39,30 +81,31 @@ pub struct Row {
     pub j: u64,
 }
 
-// How many nodes are watched, and how many calls were made: so far go the numbers in `out`.
-#[derive(Clone, Copy)]
-pub struct Counts {
-    pub watched: usize,
-    pub made: usize,
+// What the rows of a script are played on: a head with its memory, the nodes that are lent to it with how many of them are watched, the bytes of which a load
+// names a part, and where the number of each call goes, with how many were made.
+#[derive(Drop)]
+struct Player<'a> {
+    head: &'a mut Head,
+    nodes: &'a mut NodeWords,
+    watched: usize,
+    queue: &'a mut [u8; 640],
+    history: &'a mut [u8; 5080],
+    bytes: &'a [u8],
+    out: &'a mut [u64],
+    made: usize,
 }
 
 // A number that is no byte is read as 0, which is no node.
 fn byte_of(n: u64) -> u8
     ensures { result ≡ byte_of n }
 {
-    if n <= 255 {
-        return n as u8;
-    }
-    0
+    u8::try_from(n).unwrap_or(0)
 }
 
 fn word_of(n: u64) -> u32
     ensures { result ≡ word_of n }
 {
-    if n <= 4294967295 {
-        return n as u32;
-    }
-    0
+    u32::try_from(n).unwrap_or(0)
 }
 
 fn byte_update(n: u64) -> Option<u8>
@@ -121,253 +164,16 @@ fn values(row: Row) -> DictionaryUpdate
 fn cut(n: u64, most: usize) -> usize
     ensures { result ≡ pick (ltb n most) n most }
 {
-    if n < most as u64 {
-        return n as usize;
-    }
-    most
+    n.min(most as u64) as usize
 }
 
-// An NMT event.
-fn nmt_turn(head: &mut Head, event: u64) -> u64
-    ensures { (q m ns : List ℕ) (k : ℕ) → Turned head.old q m ns k (Call.nmt_event event) result head.new q m ns k }
-{
-    match nmt_event(head, event) {
-        Ok(_) => {
-            return 0;
-        }
-        Err(refusal) => {
-            return refusal.number() as u64;
-        }
-    }
-}
-
-// A DLL event.
-fn dll_turn(head: &mut Head, event: u64, expect_preq: bool) -> u64
-    ensures { (q m ns : List ℕ) (k : ℕ) → Turned head.old q m ns k (Call.dll_event event expect_preq) result head.new q m ns k }
-{
-    match dll_event(head, event, expect_preq) {
-        Ok(_) => {
-            return 0;
-        }
-        Err(refusal) => {
-            return refusal.number() as u64;
-        }
-    }
-}
-
-// An error to the counters.
-fn error_turn(head: &mut Head, kind: u64, a: u8, b: u8) -> u64
-    ensures { (q m ns : List ℕ) (k : ℕ) → Turned head.old q m ns k (Call.error kind a b) result head.new q m ns k }
-{
-    match handle_error(head, kind, a, b) {
-        Ok(_) => {
-            return 0;
-        }
-        Err(refusal) => {
-            return refusal.number() as u64;
-        }
-    }
-}
-
-// The end of a cycle.
-fn cycle_turn(head: &mut Head) -> u64
-    ensures { (q m ns : List ℕ) (k : ℕ) → Turned head.old q m ns k Call.cycle_complete result head.new q m ns k }
-{
-    on_cycle_complete(head);
-    0
-}
-
-fn number(answer: Result<(), Refusal>) -> u64
-    ensures { result ≡ number_of (said answer) }
-{
-    match answer {
-        Ok(()) => {
-            return 0;
-        }
-        Err(refusal) => {
-            return refusal.number() as u64;
-        }
-    }
-}
-
-// The ready word is taken back.
-fn withdraw_turn(head: &mut Head) -> u64
-    ensures { (q m ns : List ℕ) (k : ℕ) → Turned head.old q m ns k Call.withdraw result head.new q m ns k }
-{
-    number(withdraw(head))
-}
-
-// An SoC.
-fn arm_turn(head: &mut Head, time: u64) -> u64
-    ensures { (q m ns : List ℕ) (k : ℕ) → Turned head.old q m ns k (Call.arm time) result head.new q m ns k }
-{
-    number(arm(head, time))
-}
-
-// The SoC between two readings.
-fn range_turn(head: &Head, earliest: u64, latest: u64) -> u64
-    ensures { (q m ns : List ℕ) (k : ℕ) → Turned head.now q m ns k (Call.range earliest latest) result head.now q m ns k }
-{
-    match soc_range(head, earliest, latest) {
-        Ok(_) => {
-            return 0;
-        }
-        Err(refusal) => {
-            return refusal.number() as u64;
-        }
-    }
-}
-
-// The margin of a reading.
-fn margin_turn(head: &Head, time: u64) -> u64
-    ensures { (q m ns : List ℕ) (k : ℕ) → Turned head.now q m ns k (Call.margin time) result head.now q m ns k }
-{
-    match soc_margin(head, time) {
-        Ok(_) => {
-            return 0;
-        }
-        Err(refusal) => {
-            return refusal.number() as u64;
-        }
-    }
-}
-
-// The oldest entry is handed out.
-fn hand_out_turn(head: &mut Head, queue: &[u8; 640]) -> u64
-    ensures { (m ns : List ℕ) (k : ℕ) → Turned head.old queue.now m ns k Call.hand_out result head.new queue.now m ns k }
-{
-    hand_out(head, queue);
-    0
-}
-
-// A watched node was heard.
-fn heard_turn(head: &mut Head, nodes: &mut NodeWords, count: usize, node: u8, time: u64) -> u64
-    ensures { (q m : List ℕ) → Turned head.old q m nodes.old count (Call.heard node time (run (nodes_of nodes.old) count)) result
-        head.new q m nodes.new count }
-{
-    number(heard(head, nodes, count, node, time))
-}
-
-// A node is watched from now on.
-fn add_turn(
-    head: &mut Head,
-    nodes: &mut NodeWords,
-    count: &mut usize,
-    node: u8,
-    timeout: u64,
-) -> u64
-    ensures { (q m : List ℕ) → Turned head.old q m nodes.old count.old (Call.add node timeout (run (nodes_of nodes.old) count.old)) result
-        head.new q m nodes.new count.new }
-{
-    let answer = add(head, nodes, count, node, timeout);
-    number(answer)
-}
-
-// A node is watched no more.
-fn remove_turn(head: &mut Head, nodes: &mut NodeWords, count: &mut usize, node: u8) -> u64
-    ensures { (q m : List ℕ) → Turned head.old q m nodes.old count.old (Call.remove node (run (nodes_of nodes.old) count.old)) result
-        head.new q m nodes.new count.new }
-{
-    let answer = remove(head, nodes, count, node);
-    number(answer)
-}
-
-// Values, and where the row says so the history from its own part of the bytes.
-fn load_turn(head: &mut Head, history: &mut [u8; 5080], bytes: &[u8], row: Row) -> u64
-    requires { row.tag ≡ 7 }
-    ensures { (q ns : List ℕ) (k : ℕ) → Turned head.old q history.old ns k (call_of row (run (nodes_of ns) k) bytes.now) result head.new q history.new ns k }
+// The part of the bytes that a load's row names.
+fn part<'a>(bytes: &'a [u8], row: Row) -> &'a [u8]
+    ensures { result.now ≡ part_of row bytes.now }
 {
     let from = cut(row.i, bytes.len());
     let to = from + cut(row.j, bytes.len() - from);
-    load(head, history, values(row), row.h == 1, &bytes[from..to]);
-    0
-}
-
-// A tick.
-fn tick_turn(
-    head: &mut Head,
-    queue: &mut [u8; 640],
-    history: &mut [u8; 5080],
-    nodes: &mut NodeWords,
-    count: usize,
-    time: u64,
-) -> u64
-    ensures { Turned head.old queue.old history.old nodes.old count (Call.tick time (run (nodes_of nodes.old) count)) result
-        head.new queue.new history.new nodes.new count }
-{
-    match process_tick(head, queue, history, nodes, count, time) {
-        Ok(_) => {
-            return 0;
-        }
-        Err(refusal) => {
-            return refusal.number() as u64;
-        }
-    }
-}
-
-// A call that is lent the head alone.
-fn head_call(head: &mut Head, row: Row) -> u64
-    requires { (row.tag ≡ 5 → ⊥) × (row.tag ≡ 6 → ⊥) × (row.tag ≡ 7 → ⊥) × (row.tag ≡ 9 → ⊥) × (row.tag ≡ 13 → ⊥) × (row.tag ≡ 14 → ⊥) }
-    ensures { (q m ns bytes : List ℕ) (k : ℕ) → Turned head.old q m ns k (call_of row (run (nodes_of ns) k) bytes) result head.new q m ns k }
-{
-    if row.tag == 0 {
-        return nmt_turn(head, row.a);
-    }
-    if row.tag == 1 {
-        return dll_turn(head, row.a, row.b == 1);
-    }
-    if row.tag == 2 {
-        let a = byte_of(row.b);
-        let b = byte_of(row.c);
-        return error_turn(head, row.a, a, b);
-    }
-    if row.tag == 3 {
-        return cycle_turn(head);
-    }
-    if row.tag == 4 {
-        return withdraw_turn(head);
-    }
-    if row.tag == 11 {
-        return range_turn(head, row.a, row.b);
-    }
-    if row.tag == 12 {
-        return margin_turn(head, row.a);
-    }
-    arm_turn(head, row.a)
-}
-
-// The call of a row; heard, a tick, add and remove are lent the watched nodes, the last two their number too.
-fn call(
-    head: &mut Head,
-    nodes: &mut NodeWords,
-    count: &mut usize,
-    queue: &mut [u8; 640],
-    history: &mut [u8; 5080],
-    bytes: &[u8],
-    row: Row,
-) -> u64
-    ensures { Turned head.old queue.old history.old nodes.old count.old (call_of row (run (nodes_of nodes.old) count.old) bytes.now) result
-        head.new queue.new history.new nodes.new count.new }
-{
-    if row.tag == 5 {
-        return heard_turn(head, nodes, *count, byte_of(row.a), row.b);
-    }
-    if row.tag == 6 {
-        return hand_out_turn(head, queue);
-    }
-    if row.tag == 7 {
-        return load_turn(head, history, bytes, row);
-    }
-    if row.tag == 9 {
-        return tick_turn(head, queue, history, nodes, *count, row.a);
-    }
-    if row.tag == 13 {
-        return add_turn(head, nodes, count, byte_of(row.a), row.b);
-    }
-    if row.tag == 14 {
-        return remove_turn(head, nodes, count, byte_of(row.a));
-    }
-    head_call(head, row)
+    &bytes[from..to]
 }
 
 // The watched node at a place is set; past the 32 places none is.
@@ -383,6 +189,16 @@ fn lend(nodes: &mut NodeWords, row: Row)
     }
 }
 
+// The number of what declined a call, or 0.
+fn number(declined: Option<Refusal>) -> u64
+    ensures { result ≡ number_in declined }
+{
+    match declined {
+        Some(refusal) => u64::from(refusal.number()),
+        None => 0,
+    }
+}
+
 // The i-th row of a script.
 fn row_at(script: &[u64], i: usize) -> Row
     requires { 11 * i + 10 < length script.now }
@@ -390,7 +206,7 @@ fn row_at(script: &[u64], i: usize) -> Row
 {
     let at = 11 * i;
     Row {
-        tag: script[at],
+        tag: Tag::from(script[at]),
         a: script[at + 1],
         b: script[at + 2],
         c: script[at + 3],
@@ -413,35 +229,84 @@ fn put(out: &mut [u64], i: usize, n: u64)
     }
 }
 
-// One row: a call, whose number is written, or what is lent next.
-fn play(
-    head: &mut Head,
-    nodes: &mut NodeWords,
-    count: usize,
-    queue: &mut [u8; 640],
-    history: &mut [u8; 5080],
-    bytes: &[u8],
-    row: Row,
-    out: &mut [u64],
-    made: usize,
-) -> Counts
-    requires { made < 18446744073709551615 }
-    ensures { Plays row bytes.now head.old queue.old history.old nodes.old count out.old made
-        head.new queue.new history.new nodes.new out.new result }
-{
-    if row.tag == 10 {
-        lend(nodes, row);
-        return Counts {
-            watched: row.e as usize,
-            made,
-        };
+impl Player<'_> {
+    // The call of a row, and what declined it.
+    fn call(&mut self, row: Row) -> Option<Refusal>
+        ensures turned { Turned self.old.head.now self.old.queue.now self.old.history.now self.old.nodes.now self.old.watched
+            (call_of row (run (nodes_of self.old.nodes.now) self.old.watched) self.old.bytes.now) (number_in result)
+            self.new.head.now self.new.queue.now self.new.history.now self.new.nodes.now self.new.watched }
+        ensures others { (self.new.bytes.now ≡ self.old.bytes.now) × (self.new.out.now ≡ self.old.out.now) × (self.new.made ≡ self.old.made) }
+        ensures same_references { (self.new.head.ghost_name ≡ self.old.head.ghost_name) × (self.new.nodes.ghost_name ≡ self.old.nodes.ghost_name) ×
+            (self.new.queue.ghost_name ≡ self.old.queue.ghost_name) × (self.new.history.ghost_name ≡ self.old.history.ghost_name) ×
+            (self.new.out.ghost_name ≡ self.old.out.ghost_name) }
+    {
+        match row.tag {
+            Tag::NmtEvent => nmt_event(self.head, row.a).err(),
+            Tag::DllEvent => dll_event(self.head, row.a, row.b == 1).err(),
+            Tag::Error => handle_error(self.head, row.a, byte_of(row.b), byte_of(row.c)).err(),
+            Tag::CycleComplete => {
+                on_cycle_complete(self.head);
+                None
+            }
+            Tag::Withdraw => withdraw(self.head).err(),
+            Tag::Heard => heard(self.head, self.nodes, self.watched, byte_of(row.a), row.b).err(),
+            Tag::HandOut => {
+                hand_out(self.head, self.queue);
+                None
+            }
+            Tag::Load => {
+                load(
+                    self.head,
+                    self.history,
+                    values(row),
+                    row.h == 1,
+                    part(self.bytes, row),
+                );
+                None
+            }
+            Tag::Tick => process_tick(
+                self.head,
+                self.queue,
+                self.history,
+                self.nodes,
+                self.watched,
+                row.a,
+            )
+            .err(),
+            Tag::Range => soc_range(self.head, row.a, row.b).err(),
+            Tag::Margin => soc_margin(self.head, row.a).err(),
+            Tag::Add => add(
+                self.head,
+                self.nodes,
+                &mut self.watched,
+                byte_of(row.a),
+                row.b,
+            )
+            .err(),
+            Tag::Remove => remove(self.head, self.nodes, &mut self.watched, byte_of(row.a)).err(),
+            Tag::Lend | Tag::Arm => arm(self.head, row.a).err(),
+        }
     }
-    let mut watched = count;
-    let number = call(head, nodes, &mut watched, queue, history, bytes, row);
-    put(out, made, number);
-    Counts {
-        watched,
-        made: made + 1,
+
+    // One row: a call, whose number is written, or what is lent next.
+    fn play(&mut self, row: Row)
+        requires { self.old.made < 18446744073709551615 }
+        ensures plays { Plays row self.old.bytes.now self.old.head.now self.old.queue.now self.old.history.now self.old.nodes.now self.old.watched
+            self.old.out.now self.old.made self.new.head.now self.new.queue.now self.new.history.now self.new.nodes.now self.new.watched
+            self.new.out.now self.new.made }
+        ensures bytes { self.new.bytes.now ≡ self.old.bytes.now }
+        ensures same_references { (self.new.head.ghost_name ≡ self.old.head.ghost_name) × (self.new.nodes.ghost_name ≡ self.old.nodes.ghost_name) ×
+            (self.new.queue.ghost_name ≡ self.old.queue.ghost_name) × (self.new.history.ghost_name ≡ self.old.history.ghost_name) ×
+            (self.new.out.ghost_name ≡ self.old.out.ghost_name) }
+    {
+        if let Tag::Lend = row.tag {
+            lend(self.nodes, row);
+            self.watched = row.e as usize;
+            return;
+        }
+        let declined = self.call(row);
+        put(self.out, self.made, number(declined));
+        self.made += 1;
     }
 }
 
@@ -460,16 +325,18 @@ fn play_all(
         (lent head.old nodes.old queue.old history.old out.old)
         (lent head.new nodes.new queue.new history.new out.new) }
 {
-    let n = script.len() / 11;
-    let mut watched = count;
-    let mut made = 0;
-    let mut i = 0;
-    while i < n {
-        let row = row_at(script, i);
-        let counts = play(head, nodes, watched, queue, history, bytes, row, out, made);
-        watched = counts.watched;
-        made = counts.made;
-        i += 1;
+    let mut player = Player {
+        head,
+        nodes,
+        watched: count,
+        queue,
+        history,
+        bytes,
+        out,
+        made: 0,
+    };
+    for i in 0..script.len() / 11 {
+        player.play(row_at(script, i));
     }
 }
 
@@ -495,7 +362,7 @@ pub fn drive(
         (lent head.old nodes.old queue.old history.old out.old)
         (lent head.new nodes.new queue.new history.new out.new) }
 {
-    match start(
+    start(
         head,
         nodes,
         count,
@@ -505,13 +372,7 @@ pub fn drive(
         queue_capacity,
         od,
         thresholds,
-    ) {
-        Ok(()) => {
-            play_all(head, nodes, count, queue, history, script, bytes, out);
-            return Ok(());
-        }
-        Err(refusal) => {
-            return Err(refusal);
-        }
-    }
+    )?;
+    play_all(head, nodes, count, queue, history, script, bytes, out);
+    Ok(())
 }

@@ -1,18 +1,22 @@
 -- `drive::play_all` meets its contract: the rows that were played are the first ones.
 -- Assumes nothing.
-use Prim.Native.Nat.{◌-◌, ◌/◌}
-use mathlib.Core.Path.{◌≡◌}
-use lib.ListN.{length}
+use Rattle.std.proofs.Common.{◌≡◌, ◌/◌, length}
 use Rattle.drive.specs.Script.{lent}
 use Rattle.drive.proofs.Playing.{Going}
 use Rattle.drive.proofs.play_all.Given as goal
 
 abbrev pub invariant-loop-i : goal.invariant-loop-i
 invariant-loop-i l =
-    (length l.out ≡ length l.initial.out)
-    × (l.n ≡ length l.script / 11)
-    × Going l.script l.bytes l.count (lent l.initial.head l.initial.nodes l.initial.queue l.initial.history l.initial.out) l.n l.head l.nodes l.queue l.history l.out l.watched l.made l.i
-
-abbrev pub decreases-loop-i : goal.decreases-loop-i
-decreases-loop-i l =
-    l.n - l.i
+    let p = l.player in
+    let was = l.initial.player in
+    record {
+      bytes : p.bytes.now ≡ l.bytes;
+      head : p.head.ghost_name ≡ was.head.ghost_name;
+      nodes : p.nodes.ghost_name ≡ was.nodes.ghost_name;
+      queue : p.queue.ghost_name ≡ was.queue.ghost_name;
+      history : p.history.ghost_name ≡ was.history.ghost_name;
+      out : p.out.ghost_name ≡ was.out.ghost_name;
+      going :
+          Going l.script l.bytes l.count (lent l.fn.head l.fn.nodes l.fn.queue l.fn.history l.fn.out) (length l.script / 11)
+          p.head.now p.nodes.now p.queue.now p.history.now p.out.now p.watched p.made l.i;
+    }
