@@ -6,7 +6,7 @@ use mathlib.Core.Bool.{Bool}
 use mathlib.Core.List.{List}
 use native.Mathlib.Omega.{arith}
 use native.Mathlib.Numerals.{add-one}
-use lib.ListN.{length, get_or, set, replicate, length-set}
+use lib.ListN.{length, get_or, set, replicate}
 use Rattle.types.specs.Types.{node}
 use Rattle.types.specs.States.{read_state}
 use Rattle.types.specs.declared.types.NodeId.{NodeId}
@@ -90,9 +90,6 @@ module _ (ns₀ ns : List ℕ) (i : ℕ) (inside : i < 32) (long : length ns ≡
   unheard_nodes b =
       heard_written ns long i inside 0
       ∙ each_turn (heard_now 0) (nodes_of ns₀) (nodes_of ns) i no_node (rw (places ns₀) inside) b (heard_now 0 (get_or (nodes_of ns) i no_node)) refl
-
-  pub unheard_long : length (set ns (3 * i + 2) 0) ≡ 96
-  unheard_long = length-set ns (3 * i + 2) 0 ∙ long
 
 -- the nodes in words
 module _ (ws ns : List ℕ) (k n : ℕ) (f : FeatureFlags) (t c : ℕ) (o : Dictionary) (ts : Thresholds) (formed : Bool) (e : formed ≡ well_formed (watched_of (nodes_of ns) k)) (r : Result (Unit {0}) Refusal) (ws' : List ℕ) (b : BeginsBy ws n f t c o ts formed r ws') where

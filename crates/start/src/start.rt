@@ -12,31 +12,41 @@ use nmt::cn_state_machine::CnNmtStateMachine;
 use types::nmt::flags::FeatureFlags;
 use types::refusals::Refusal;
 use types::types::NodeId;
-use watched::nodes::{NodeWords, all_places, well_formed};
+use watched::nodes::{NodeWords, well_formed};
 
-// The words of a fresh head: whatever stood there before is gone.
-fn fresh_head(
-    head: &mut Head,
+// What a fresh head is made from, tried.
+#[derive(Clone, Copy)]
+struct Setup {
     node_id: NodeId,
     feature_flags: FeatureFlags,
     basic_ethernet_timeout: u32,
     queue_capacity: u8,
     od: Dictionary,
     thresholds: Thresholds,
-)
-    ensures { (head_of head.new ≡ fresh_head node_id feature_flags basic_ethernet_timeout queue_capacity od thresholds)
-        × (head.new ≡ fresh_words node_id feature_flags basic_ethernet_timeout queue_capacity od thresholds) }
-{
-    let number = byte(node_id.0);
-    let register = byte(od.error_register);
-    let nmt = CnNmtStateMachine::new(node_id, feature_flags, basic_ethernet_timeout);
-    let errors = CnErrorCounters::new(thresholds);
-    clear(head);
-    set_nmt(head, nmt);
-    set_identity(head, nmt);
-    set_thresholds(head, errors);
-    set_od(head, od);
-    set_capacity(head, queue_capacity);
+}
+
+impl Setup {
+    // The words of a fresh head: whatever stood there before is gone.
+    fn fresh(self, head: &mut Head)
+        ensures { (head_of head.new ≡ fresh_head self.node_id self.feature_flags self.basic_ethernet_timeout self.queue_capacity self.od self.thresholds)
+            × (head.new ≡ fresh_words self.node_id self.feature_flags self.basic_ethernet_timeout self.queue_capacity self.od self.thresholds) }
+    {
+        let number = byte(self.node_id.0);
+        let register = byte(self.od.error_register);
+        let capacity = byte(self.queue_capacity);
+        let nmt = CnNmtStateMachine::new(
+            self.node_id,
+            self.feature_flags,
+            self.basic_ethernet_timeout,
+        );
+        let errors = CnErrorCounters::new(self.thresholds);
+        clear(head);
+        set_nmt(head, nmt);
+        set_identity(head, nmt);
+        set_thresholds(head, errors);
+        set_od(head, self.od);
+        set_capacity(head, self.queue_capacity);
+    }
 }
 
 // No watched node was heard yet.
@@ -44,11 +54,8 @@ fn unheard(nodes: &mut NodeWords, count: usize)
     requires { count ≤ 32 }
     ensures { (nodes.new ≡ unheard_words count nodes.old) × (nodes_of nodes.new ≡ unheard_first count (nodes_of nodes.old)) }
 {
-    all_places(nodes);
-    let mut i: usize = 0;
-    while i < count {
+    for i in 0..count {
         nodes[3 * i + 2] = 0;
-        i += 1;
     }
 }
 
@@ -65,34 +72,27 @@ pub fn begin(
 ) -> Result<(), Refusal>
     ensures { BeginsBy head.old node feature_flags basic_ethernet_timeout queue_capacity od thresholds formed result head.new }
 {
-    match NodeId::try_from(node) {
-        Ok(node_id) => {
-            if 32 < queue_capacity {
-                return Err(Refusal::QueueCapacity);
-            }
-            let limited = thresholds.is_within_limit();
-            if !formed {
-                return Err(Refusal::WatchedNodes);
-            }
-            if !limited {
-                return Err(Refusal::ThresholdLimit);
-            }
-            let capacity = queue_capacity as u8;
-            fresh_head(
-                head,
-                node_id,
-                feature_flags,
-                basic_ethernet_timeout,
-                capacity,
-                od,
-                thresholds,
-            );
-            return Ok(());
-        }
-        Err(refusal) => {
-            return Err(refusal);
-        }
+    let node_id = NodeId::try_from(node)?;
+    if 32 < queue_capacity {
+        return Err(Refusal::QueueCapacity);
     }
+    let limited = thresholds.is_within_limit();
+    if !formed {
+        return Err(Refusal::WatchedNodes);
+    }
+    if !limited {
+        return Err(Refusal::ThresholdLimit);
+    }
+    let setup = Setup {
+        node_id,
+        feature_flags,
+        basic_ethernet_timeout,
+        queue_capacity: queue_capacity as u8,
+        od,
+        thresholds,
+    };
+    setup.fresh(head);
+    Ok(())
 }
 
 // A fresh head, with an empty queue and an empty history; no watched node was heard yet.
@@ -110,7 +110,7 @@ pub fn start(
     ensures { StartedIn head.old nodes.old count node feature_flags basic_ethernet_timeout queue_capacity od thresholds result head.new nodes.new }
 {
     let formed = well_formed(nodes, count);
-    let answer = begin(
+    begin(
         head,
         node,
         feature_flags,
@@ -119,14 +119,7 @@ pub fn start(
         od,
         thresholds,
         formed,
-    );
-    match answer {
-        Ok(()) => {
-            unheard(nodes, count);
-            return Ok(());
-        }
-        Err(refusal) => {
-            return Err(refusal);
-        }
-    }
+    )?;
+    unheard(nodes, count);
+    Ok(())
 }

@@ -6,20 +6,18 @@ use mathlib.Core.Path.{◌≡◌, refl, ap, ◌∙◌}
 use Rattle.watched.specs.Watched.{unheard_first}
 use Rattle.watched.specs.Nodes.{nodes_of}
 use Rattle.start.specs.Started.{unheard_words}
-use Rattle.start.proofs.Begun.{unheard_begins, unheard_words_lem, unheard_nodes, unheard_long}
+use Rattle.start.proofs.Begun.{unheard_begins, unheard_words_lem, unheard_nodes}
 use Rattle.start.proofs.start.unheard.Goals as goal
 
 pub loop-i-init : goal.loop-i-init
 loop-i-init c =
-    (unheard_begins c.args.nodes.now, refl, omega arith, c.requires, c.all_places.ensures)
+    (unheard_begins c.args.nodes.now, refl, c.requires)
 
 pub loop-i-preserved : goal.loop-i-preserved
 loop-i-preserved c = (
-  unheard_words_lem c.args.nodes.now c.loop-i.nodes c.loop-i.i (omega arith) c.loop-i.invariant.4 c.loop-i.invariant.0,
-  unheard_nodes c.args.nodes.now c.loop-i.nodes c.loop-i.i (omega arith) c.loop-i.invariant.4 c.loop-i.invariant.1,
-  omega arith,
-  c.loop-i.invariant.3,
-  unheard_long c.args.nodes.now c.loop-i.nodes c.loop-i.i (omega arith) c.loop-i.invariant.4,
+  unheard_words_lem c.args.nodes.now c.loop-i.nodes c.loop-i.i (omega (arith, c.loop-i-test.true, c.loop-i.invariant.2)) (omega arith) c.loop-i.invariant.0,
+  unheard_nodes c.args.nodes.now c.loop-i.nodes c.loop-i.i (omega (arith, c.loop-i-test.true, c.loop-i.invariant.2)) (omega arith) c.loop-i.invariant.1,
+  c.loop-i.invariant.2,
 )
 
 pub returns : goal.returns

@@ -1,8 +1,7 @@
 -- `start::start::unheard` meets its contract. The invariant: the first i nodes are set, as words and as nodes.
 -- Assumes nothing.
-use Prim.Native.Nat.{◌-◌, ◌≤◌}
+use Prim.Native.Nat.{◌≤◌}
 use mathlib.Core.Path.{◌≡◌}
-use lib.ListN.{length}
 use Rattle.watched.specs.Watched.{unheard_first}
 use Rattle.watched.specs.Nodes.{nodes_of}
 use Rattle.start.specs.Started.{unheard_words}
@@ -12,9 +11,4 @@ abbrev pub invariant-loop-i : goal.invariant-loop-i
 invariant-loop-i l =
     (l.nodes ≡ unheard_words l.i l.initial.nodes)
     × (nodes_of l.nodes ≡ unheard_first l.i (nodes_of l.initial.nodes))
-    × (l.i ≤ l.count)
     × (l.count ≤ 32)
-    × (length l.nodes ≡ 96)
-
-abbrev pub decreases-loop-i : goal.decreases-loop-i
-decreases-loop-i l = l.count - l.i
