@@ -29,10 +29,7 @@ module _ (ns : List ℕ) (i k : ℕ) (v : WatchedNode) (goal : List WatchedNode)
   pub carried_ends : 32 ≤ i → ps ≡ goal
   carried_ends h = sym (e ∙ all_behind ps i (rw (places ns) h) (carried (k - i) v) refl)
 
-  module _ (inside : i < 32) where
-    abbrev w : WatchedNode
-    w = node_at ns i
-
+  module _ (inside : i < 32) (w : WatchedNode) (is : w ≡ node_at ns i) where
     abbrev more : List WatchedNode
     more = drop (suc i) ps
 
@@ -40,7 +37,7 @@ module _ (ns : List ℕ) (i k : ℕ) (v : WatchedNode) (goal : List WatchedNode)
     within = rw (places ns) inside
 
     turned : goal ≡ take i ps ++ carried (k - i) v (w ∷ more)
-    turned = e ∙ ap (λ (l : List WatchedNode). take i ps ++ carried (k - i) v l) (ahead ns i inside)
+    turned = e ∙ ap (λ (l : List WatchedNode). take i ps ++ carried (k - i) v l) (ahead ns i inside ∙ ap (λ (w : WatchedNode). w ∷ more) (sym is))
 
     module _ (watched : i < k) where
       by_number : goal ≡ take i ps ++ pick (ltb v.node w.node) (v ∷ carried (k - suc i) w more) (w ∷ carried (k - suc i) v more)
@@ -60,7 +57,7 @@ module _ (ns : List ℕ) (i k : ℕ) (v : WatchedNode) (goal : List WatchedNode)
       carried_stays h =
           by_number
           ∙ ap (λ (b : Bool). take i ps ++ pick b (v ∷ carried (k - suc i) w more) (w ∷ carried (k - suc i) v more)) (le-ltb v.node w.node h)
-          ∙ sym (turn_kept ps i within w (carried (k - suc i) v more) (sym (node_at_lem ns i inside)) (carried (k - suc i) v more) refl)
+          ∙ sym (turn_kept ps i within w (carried (k - suc i) v more) (is ∙ sym (node_at_lem ns i inside)) (carried (k - suc i) v more) refl)
           ∙ ap (λ (j : ℕ). take j ps ++ carried (k - j) v (drop j ps)) (sym (add-one i))
 
     pub carried_passes :

@@ -1,6 +1,6 @@
 -- The walk that removes a node: its turns, and what it leaves.
 -- Assumes nothing.
-use Prim.Native.Nat.{ℕ, zero, suc, ◌+◌, ◌*◌, ◌-◌, ◌<◌, ◌≤◌}
+use Prim.Native.Nat.{ℕ, zero, suc, ◌+◌, ◌-◌, ◌<◌, ◌≤◌}
 use mathlib.Core.Path.{◌≡◌, refl, sym, ap, ap₂, ◌∙◌}
 use mathlib.Core.Bool.{Bool, true, false}
 use mathlib.Core.List.{List, [], ◌∷◌, ◌++◌}
@@ -11,8 +11,8 @@ use lib.ListN.{length, get_or, set, take, drop, replicate}
 use borrow.Author.Tests.{lt-ltb, le-ltb}
 use Rattle.types.specs.Pick.{pick}
 use Rattle.watched.specs.declared.nodes.WatchedNode.{WatchedNode}
-use Rattle.watched.specs.Watched.{place_of, no_node, watched_node, without}
-use Rattle.watched.specs.Nodes.{nodes_of}
+use Rattle.watched.specs.Watched.{place_of, no_node, without}
+use Rattle.watched.specs.Nodes.{node_at, nodes_of}
 use Rattle.watched.proofs.Watching.{places}
 use Rattle.partners.specs.Walks.{closed}
 use Rattle.partners.proofs.Places.{rest_set, turn_set, all_behind, ahead}
@@ -41,14 +41,12 @@ module _ (ns : List ℕ) (i k : ℕ) (goal : List WatchedNode) (e : goal ≡ tak
         ∙ ap (λ (j : ℕ). take j (nodes_of ns') ++ closed (k - j) (drop j (nodes_of ns'))) (sym (add-one i))
 
     pub closed_shifts :
-        i + 1 < k → k ≤ 32 → (ns' : List ℕ) →
-        nodes_of ns' ≡ set ps i (watched_node (get_or ns (3 * i + 3) 0) (get_or ns (3 * i + 3 + 1) 0) (get_or ns (3 * i + 3 + 2) 0)) →
+        i + 1 < k → k ≤ 32 → (w : WatchedNode) → w ≡ node_at ns (i + 1) → (ns' : List ℕ) → nodes_of ns' ≡ set ps i w →
         goal ≡ take (i + 1) (nodes_of ns') ++ closed (k - (i + 1)) (drop (i + 1) (nodes_of ns'))
-    closed_shifts h few ns' s =
-        let a : 3 * suc i ≡ 3 * i + 3 = omega arith in
-        let next : get_or more 0 no_node ≡ watched_node (get_or ns (3 * i + 3) 0) (get_or ns (3 * i + 3 + 1) 0) (get_or ns (3 * i + 3 + 2) 0) =
+    closed_shifts h few w is ns' s =
+        let next : get_or more 0 no_node ≡ w =
         ap (λ (l : List WatchedNode). get_or l 0 no_node) (ahead ns (suc i) (omega arith))
-        ∙ ap (λ (j : ℕ). watched_node (get_or ns j 0) (get_or ns (j + 1) 0) (get_or ns (j + 2) 0)) a in
+        ∙ ap (node_at ns) (sym (add-one i)) ∙ sym is in
         turned _ (ap (λ (b : Bool). pick b (get_or more 0 no_node) no_node) (lt-ltb 1 (k - i) (omega arith)) ∙ next) ns' s
 
     pub closed_clears : k ≤ i + 1 → (ns' : List ℕ) → nodes_of ns' ≡ set ps i no_node → goal ≡ take (i + 1) (nodes_of ns') ++ closed (k - (i + 1)) (drop (i + 1) (nodes_of ns'))

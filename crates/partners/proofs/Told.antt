@@ -11,6 +11,7 @@ use Rattle.types.specs.Pick.{pick}
 use Rattle.types.specs.Types.{is_node, node, read_node}
 use Rattle.types.specs.declared.types.NodeId.{NodeId}
 use Rattle.std.specs.declared.result.Result.{Result}
+use Rattle.std.specs.Prelude.{is_ok}
 use Rattle.std.specs.declared.option.Option.{Option}
 use Rattle.std.specs.declared.result.Result.TheVariants.{Ok, Err}
 use Rattle.types.specs.declared.refusals.Refusal.{Refusal}
@@ -31,23 +32,14 @@ use Rattle.partners.proofs.Fixed.{words_of_lem}
 use Rattle.partners.proofs.Adding as Adding
 use Rattle.partners.proofs.Removing as Removing
 
--- the number of a node, as it was read
-module _ (n : ℕ) (a : Result NodeId Refusal) (e : a ≡ read_node n) where
-  pub is_node_lem : (x : NodeId) → a ≡ Ok x → true ≡ is_node n
-  unfolding read_node
-  is_node_lem x g = by (is_node n) (sym g ∙ e)
-    where
-      by : (b : Bool) → Ok x ≡ pick {A = Result NodeId Refusal} b (Ok (node n)) (Err NodeNumber) → true ≡ b
-      by true h = refl
-      by false h = cc
-
-  pub no_node_lem : (x : Refusal) → a ≡ Err x → false ≡ is_node n
-  unfolding read_node
-  no_node_lem x g = by (is_node n) (sym g ∙ e)
-    where
-      by : (b : Bool) → Err x ≡ pick {A = Result NodeId Refusal} b (Ok (node n)) (Err NodeNumber) → false ≡ b
-      by true h = cc
-      by false h = refl
+-- a node's number is one that is read
+pub known : (n : ℕ) → is_ok (read_node n) ≡ is_node n
+unfolding read_node
+known n = by (is_node n)
+  where
+    by : (b : Bool) → is_ok (pick {A = Result NodeId Refusal} b (Ok (node n)) (Err NodeNumber)) ≡ b
+    by true = refl
+    by false = refl
 
 module _ (ws ns : List ℕ) (k n : ℕ) where
   abbrev ps : List WatchedNode

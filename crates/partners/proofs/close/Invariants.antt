@@ -12,6 +12,3 @@ abbrev pub invariant-loop-here : goal.invariant-loop-here
 invariant-loop-here l =
     (take l.place (nodes_of l.initial.nodes) ++ closed (l.count - l.place) (drop l.place (nodes_of l.initial.nodes)) ≡ take l.here (nodes_of l.nodes) ++ closed (l.count - l.here) (drop l.here (nodes_of l.nodes)))
     × (l.count ≤ 32)
-
-abbrev pub decreases-loop-here : goal.decreases-loop-here
-decreases-loop-here l = 32 - l.here

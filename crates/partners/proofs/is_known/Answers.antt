@@ -1,12 +1,10 @@
 -- `partners::is_known` meets its contract.
 -- Assumes nothing.
-use Rattle.partners.proofs.Told.{is_node_lem, no_node_lem}
+use mathlib.Core.Path.{ap, ◌∙◌}
+use Rattle.std.specs.Prelude.{is_ok}
+use Rattle.partners.proofs.Told.{known}
 use Rattle.partners.proofs.is_known.Goals as goal
 
-pub returns-in-Ok : goal.returns-in-Ok
-returns-in-Ok c =
-    is_node_lem c.args.node c.try_from.result c.try_from.ensures _ c.in-Ok.is
-
-pub returns-in-Err : goal.returns-in-Err
-returns-in-Err c =
-    no_node_lem c.args.node c.try_from.result c.try_from.ensures _ c.in-Err.is
+pub returns : goal.returns
+returns c =
+    c.is_ok.ensures.value ∙ ap is_ok c.try_from.ensures ∙ known c.args.node

@@ -1,6 +1,7 @@
 -- `partners::remove` meets its contract: its tests, then the walk, and the earliest moment.
 -- Assumes nothing.
-use mathlib.Core.Path.{refl}
+use mathlib.Core.Path.{◌≡◌, refl}
+use Rattle.std.proofs.Common.{rules, Err}
 use native.Mathlib.Omega.{arith}
 use Rattle.watched.proofs.Watching.{found_unformed, found_formed}
 use Rattle.partners.proofs.Told.{remove_unformed, remove_inside, remove_declined, remove_taken}
@@ -10,31 +11,32 @@ pub returns-in_default : goal.returns-in_default
 returns-in_default c =
     let a = c.args in
     remove_unformed a.head.now a.nodes.now a.count.now a.node
-    (found_unformed a.nodes.now a.count.now a.node 0 c.find-found.result c.find-found.ensures c.in_default.is)
+    (found_unformed a.nodes.now a.count.now a.node 0 c.find.result c.find.ensures c.in_default.is)
     c.try_remove.result c.try_remove.ensures
 
 pub close-requires : goal.close-requires
 close-requires c =
     let a = c.args in
-    let x = found_formed a.nodes.now a.count.now a.node 0 c.find-found.result c.find-found.ensures _ _ c.in-Some.is in
-    remove_inside a.head.now a.nodes.now a.count.now a.node x.0 _ x.1 _ refl c.try_remove-answer.result c.try_remove-answer.ensures c.in-Ok.is
+    let x = found_formed a.nodes.now a.count.now a.node 0 c.find.result c.find.ensures _ _ c.in-Some.is in
+    remove_inside a.head.now a.nodes.now a.count.now a.node x.0 _ x.1 _ refl c.try_remove-2.result c.try_remove-2.ensures c.in_ok-try_remove.was
 
 pub overflow_sub-count : goal.overflow_sub-count
 overflow_sub-count c =
     let a = c.args in
-    let x = found_formed a.nodes.now a.count.now a.node 0 c.find-found.result c.find-found.ensures _ _ c.in-Some.is in
-    let r = remove_inside a.head.now a.nodes.now a.count.now a.node x.0 _ x.1 _ refl c.try_remove-answer.result c.try_remove-answer.ensures c.in-Ok.is in
+    let x = found_formed a.nodes.now a.count.now a.node 0 c.find.result c.find.ensures _ _ c.in-Some.is in
+    let r = remove_inside a.head.now a.nodes.now a.count.now a.node x.0 _ x.1 _ refl c.try_remove-2.result c.try_remove-2.ensures c.in_ok-try_remove.was in
     omega (arith, r.0)
 
-pub returns-in-Ok : goal.returns-in-Ok
-returns-in-Ok c =
+pub returns : goal.returns
+returns c =
     let a = c.args in
-    let x = found_formed a.nodes.now a.count.now a.node 0 c.find-found.result c.find-found.ensures _ _ c.in-Some.is in
-    remove_taken a.head.now a.nodes.now a.count.now a.node x.0 _ x.1 _ refl c.try_remove-answer.result c.try_remove-answer.ensures c.in-Ok.is
-    c.whole.ensures _ c.close.ensures c.all_places.ensures _ x.2 c.moment.result c.moment.ensures _ c.set_earliest.ensures
+    let x = found_formed a.nodes.now a.count.now a.node 0 c.find.result c.find.ensures _ _ c.in-Some.is in
+    remove_taken a.head.now a.nodes.now a.count.now a.node x.0 _ x.1 _ refl c.try_remove-2.result c.try_remove-2.ensures c.in_ok-try_remove.was
+    (omega arith) _ c.close.ensures (omega arith) _ x.2 c.moment.result c.moment.ensures _ c.set_earliest.ensures
 
-pub returns-in-Err : goal.returns-in-Err
-returns-in-Err c =
+pub returns-in_err-try_remove : goal.returns-in_err-try_remove
+returns-in_err-try_remove c =
     let a = c.args in
-    let x = found_formed a.nodes.now a.count.now a.node 0 c.find-found.result c.find-found.ensures _ _ c.in-Some.is in
-    remove_declined a.head.now a.nodes.now a.count.now a.node x.0 _ x.1 _ refl c.try_remove-answer.result c.try_remove-answer.ensures _ c.in-Err.is
+    let x = found_formed a.nodes.now a.count.now a.node 0 c.find.result c.find.ensures _ _ c.in-Some.is in
+    let r : c.from_residual.result ≡ Err c.in_err-try_remove.field-0.0 = search rules in
+    rw r (remove_declined a.head.now a.nodes.now a.count.now a.node x.0 _ x.1 _ refl c.try_remove-2.result c.try_remove-2.ensures _ c.in_err-try_remove.was)
