@@ -6,7 +6,9 @@ use mathlib.Core.Bool.{Bool, true, false}
 use mathlib.Core.List.{List, [], ◌∷◌, ◌++◌}
 use native.Mathlib.Numerals.{add-one}
 use native.Mathlib.Omega.{arith}
-use borrow.Author.Tests.{ltb-true, eq-eqb, ne_eqb}
+use Rattle.std.specs.List.{sum_by}
+use Rattle.std.proofs.lemmas.List.Sums.{sum_by-cons}
+use borrow.Author.Tests.{leb-true, ltb-true, eq-eqb, ne_eqb}
 use lib.Bits.{bit_or}
 use lib.Count.{ones}
 use lib.Dec.{eqb, leb, ltb}
@@ -160,6 +162,18 @@ unfolding well_formed
 counted ws h =
     rising_counted 0 ws
     (rising_all ws ∙ both_second (leb (length ws) 32) (both (ascending ws) (all_of fits ws)) h)
+
+-- the library's sum is that of the definition, and fits
+pub sum_ones : (s : List ℕ) → sum_by ones s ≡ ones_of s
+sum_ones [] = refl
+sum_ones (b ∷ s) = sum_by-cons ones b s ∙ ap (λ (n : ℕ). ones b + n) (sum_ones s)
+
+pub ones_fit : (ws : List WatchedNode) (s : List ℕ) → well_formed ws ≡ true → s ≡ bytes_of ws → sum_by ones s < 2 ^ 32
+unfolding well_formed
+ones_fit ws s h e =
+    let few = leb-true (length ws) 32 (both_first (leb (length ws) 32) (both (ascending ws) (all_of fits ws)) h) in
+    let n : sum_by ones s ≡ length ws = sum_ones s ∙ ap ones_of e ∙ counted ws h in
+    omega arith
 
 -- the call, by number 3
 module _ (ws : List WatchedNode) (s : List ℕ) where

@@ -101,10 +101,3 @@ pub ones_more :
 ones_more [] i x h e = absurd (omega arith)
 ones_more (b ∷ bs) zero x h e = omega arith
 ones_more (b ∷ bs) (suc i) x h e = let more = ones_more bs i x (omega arith) e in omega arith
-
--- a turn of the count
-pub ones_turn : (s : List ℕ) (i : ℕ) → i < length s → ones_of (drop i s) ≡ ones (get_or s i 0) + ones_of (drop (i + 1) s)
-ones_turn s i h = rw add-one (ap ones_of (drop-cons s i 0 h))
-
-pub ones_end : (s : List ℕ) (i : ℕ) → length s ≤ i → ones_of (drop i s) ≡ 0
-ones_end s i h = ap ones_of (drop_of_length-le s {i = i} h)

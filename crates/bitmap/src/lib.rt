@@ -1,15 +1,16 @@
 // The watched nodes as 32 bytes (document 02, No. 1): node n is bit n mod 8 of byte n div 8, lowest bit first.
 #![tactic(auto)]
 
-ghost use Rattle.std.specs.Prelude.{◌≡◌, true, ◌≤◌, ◌%◌, ◌^◌, length};
+ghost use Rattle.std.specs.Prelude.{◌≡◌, true, ◌%◌, ◌^◌, ◌<◌, sum_by};
 ghost use Rattle.std.specs.Int.Bits.{bit_or};
 ghost use Rattle.std.specs.Int.Count.{ones};
 ghost use Rattle.watched.specs.Watched.{well_formed, watched_of};
 ghost use Rattle.watched.specs.Nodes.{nodes_of};
-ghost use Rattle.bitmap.specs.Bitmap.{bytes_of, ones_of, bitmap_said, bitmap_reply, bytes_after};
+ghost use Rattle.bitmap.specs.Bitmap.{bytes_of, bitmap_said, bitmap_reply, bytes_after};
 
 use types::refusals::Refusal;
 use watched::nodes::{NodeWords, well_formed};
+use watched::record::NodeRecord;
 
 // A byte with the bit of a node set.
 fn with_node(byte: u8, node: u64) -> u8
@@ -24,34 +25,19 @@ fn set_bits(nodes: &NodeWords, count: usize, bytes: &mut [u8; 32])
     ensures { bytes.new ≡ bytes_of (watched_of (nodes_of nodes.now) count) }
 {
     *bytes = [0; 32];
-    let mut i: usize = 0;
-    while i < count {
-        let node = nodes[3 * i];
+    for i in 0..count {
+        let node = NodeRecord::at(nodes, i).node;
         let at = (node / 8) as usize;
         bytes[at] = with_node(bytes[at], node);
-        i += 1;
     }
-}
-
-// How many bits are set in a byte: 8 at most, so that a sum of 32 fits.
-fn ones_in(byte: u8) -> u32
-    ensures { (result ≡ ones byte) × (result ≤ 8) }
-{
-    u8::count_ones(byte)
 }
 
 // How many bits are set in 32 bytes.
 fn count_bits(bytes: &[u8; 32]) -> u32
-    requires { length bytes.now ≡ 32 }
-    ensures { result ≡ ones_of bytes.now }
+    requires { sum_by ones bytes.now < 2 ^ 32 }
+    ensures { result ≡ sum_by ones bytes.now }
 {
-    let mut sum: u32 = 0;
-    let mut i: usize = 0;
-    while i < 32 {
-        sum += ones_in(bytes[i]);
-        i += 1;
-    }
-    sum
+    bytes.iter().map(|byte| byte.count_ones()).sum()
 }
 
 // Writes the watched nodes as bits, and counts them there. Nodes that number 3 declines change no byte.

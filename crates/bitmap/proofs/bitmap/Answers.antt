@@ -1,10 +1,9 @@
 -- `bitmap::bitmap` meets its contract: number 3 first, then the bytes, then the count of their bits.
 -- Assumes nothing.
-use mathlib.Core.Path.{sym, ap, ◌∙◌}
-use lib.ListN.{length}
+use mathlib.Core.Path.{sym, ◌∙◌}
 use Rattle.watched.specs.Watched.{watched_of}
 use Rattle.watched.specs.Nodes.{nodes_of}
-use Rattle.bitmap.proofs.Bitmaps.{bytes_long, turned_away_lem, written}
+use Rattle.bitmap.proofs.Bitmaps.{ones_fit, sum_ones, turned_away_lem, written}
 use Rattle.bitmap.proofs.bitmap.Goals as goal
 
 pub well_formed-requires : goal.well_formed-requires
@@ -23,10 +22,10 @@ set_bits-requires c =
 pub count_bits-requires : goal.count_bits-requires
 count_bits-requires c =
     let a = c.args in
-    ap length c.set_bits.ensures ∙ bytes_long (watched_of (nodes_of a.nodes.now) a.count)
+    ones_fit (watched_of (nodes_of a.nodes.now) a.count) _ (sym c.well_formed-2.ensures ∙ c.if-not-well_formed.false) c.set_bits.ensures
 
 pub returns : goal.returns
 returns c =
     let a = c.args in
     written (watched_of (nodes_of a.nodes.now) a.count) a.bytes.now _ c.count_bits.result
-    (sym c.well_formed-2.ensures ∙ c.if-not-well_formed.false) c.set_bits.ensures c.count_bits.ensures
+    (sym c.well_formed-2.ensures ∙ c.if-not-well_formed.false) c.set_bits.ensures (c.count_bits.ensures ∙ sum_ones _)

@@ -1,13 +1,22 @@
 -- `bitmap::set_bits` meets its contract: after i turns the bytes are those of the first i nodes.
 -- Assumes nothing.
-use mathlib.Core.Path.{◌≡◌, refl, sym}
+use mathlib.Core.Path.{◌≡◌, refl, sym, ap}
+use Prim.Native.Nat.{ℕ, ◌*◌}
+use mathlib.Core.List.{List}
+use lib.ListN.{get_or}
 use native.Mathlib.Omega.{arith}
 use Rattle.entries.specs.Ring.{listed}
-use Rattle.watched.specs.Nodes.{nodes_of}
+use Rattle.watched.specs.declared.nodes.WatchedNode.{WatchedNode}
+use Rattle.watched.specs.declared.record.NodeRecord.{NodeRecord}
+use Rattle.watched.specs.Nodes.{nodes_of, node_of, node_at}
 use Rattle.watched.proofs.Lists.{few}
 use Rattle.bitmap.specs.Bitmap.{bytes_of}
 use Rattle.bitmap.proofs.Bitmaps.{node_below, turn}
 use Rattle.bitmap.proofs.set_bits.Goals as goal
+
+-- the node's number is the first of its three words
+node_read : {r : NodeRecord} (ns : List ℕ) (i : ℕ) → node_of r ≡ node_at ns i → r.node ≡ get_or ns (3 * i) 0
+node_read ns i e = ap (λ (w : WatchedNode). w.node) e
 
 pub loop-i-init : goal.loop-i-init
 unfolding bytes_of listed
@@ -20,7 +29,7 @@ unfolding bytes_of listed
 bounds-bytes-at c =
     let l = c.loop-i in
     let a = c.args in
-    omega (arith, node_below a.nodes.now a.count c.requires l.i c.loop-i-test.true l.invariant.2)
+    omega (arith, node_read a.nodes.now l.i c.at-node.ensures, node_below a.nodes.now a.count c.requires l.i (omega arith) l.invariant.2)
 
 pub with_node-requires : goal.with_node-requires
 unfolding bytes_of listed
@@ -32,7 +41,7 @@ unfolding bytes_of listed
 bounds-bytes-at-in-loop-i c =
     let l = c.loop-i in
     let a = c.args in
-    omega (arith, node_below a.nodes.now a.count c.requires l.i c.loop-i-test.true l.invariant.2)
+    omega (arith, node_read a.nodes.now l.i c.at-node.ensures, node_below a.nodes.now a.count c.requires l.i (omega arith) l.invariant.2)
 
 pub loop-i-smaller : goal.loop-i-smaller
 unfolding bytes_of listed
@@ -43,8 +52,9 @@ pub loop-i-preserved : goal.loop-i-preserved
 unfolding bytes_of listed
 loop-i-preserved c =
     let l = c.loop-i in
-    let a = c.args in (
-      turn a.nodes.now a.count c.requires l.i c.loop-i-test.true l.invariant.2 l.bytes l.invariant.0 c.with_node.result c.with_node.ensures,
+    let a = c.args in
+    let n : c.at-node.result.node ≡ get_or a.nodes.now (3 * l.i) 0 = node_read a.nodes.now l.i c.at-node.ensures in (
+      rw n (turn a.nodes.now a.count c.requires l.i (omega arith) l.invariant.2 l.bytes l.invariant.0 c.with_node.result (rw n at c.with_node.ensures)),
       omega arith,
       l.invariant.2,
     )

@@ -20,13 +20,6 @@ returns-then-not-small c =
     (sym c.has_room-room.ensures ∙ c.if-not-room.false)
     (lt-leb _ 4095 c.if-not-small.true)
 
-pub put_entry-requires : goal.put_entry-requires
-put_entry-requires c =
-    let a = c.args in
-    let room : a.place + 20 ≤ length a.buffer.now =
-    leb-true (a.place + 20) (length a.buffer.now) (sym c.has_room-room.ensures ∙ c.if-not-room.false) in
-    omega (arith, room)
-
 pub returns : goal.returns
 returns c =
     let a = c.args in
