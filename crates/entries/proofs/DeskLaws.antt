@@ -12,14 +12,6 @@ use Rattle.entries.specs.Ring.{written}
 use Rattle.entries.specs.Desk.{Reply, room_at, write_reply, desk_after}
 use Rattle.entries.specs.declared.status_response.ErrorEntry.{ErrorEntry}
 
--- the test by subtraction is the test by addition
-pub room_left : (n at : ℕ) → 20 ≤ n → leb at (n - 20) ≡ leb (at + 20) n
-room_left n at h = by (leb at (n - 20)) refl
-  where
-    by : (b : Bool) → leb at (n - 20) ≡ b → b ≡ leb (at + 20) n
-    by true t = sym (le-leb (at + 20) n (omega (arith, leb-true at (n - 20) t)))
-    by false t = sym (lt-leb (at + 20) n (omega (arith, leb-false at (n - 20) t)))
-
 module _ (s : List ℕ) (at : ℕ) (e : ErrorEntry) where
   pub no_room : room_at s at ≡ false → (Reply.turned_away 11 ≡ write_reply s at e) × (s ≡ desk_after s at e)
   unfolding desk_after write_reply

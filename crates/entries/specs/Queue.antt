@@ -4,10 +4,9 @@ use Rattle.std.specs.Prelude.{ℕ, ◌+◌, ◌-◌, ◌%◌, min, Bool, true, f
 use Rattle.types.specs.Pick.{pick}
 use Rattle.entries.specs.Ring.{entry_at, put_at, ring}
 use Rattle.entries.specs.declared.status_response.ErrorEntry.{ErrorEntry}
+use Rattle.std.specs.declared.option.Option.{Option}
 use Rattle.std.specs.declared.option.Option.TheVariants.{Some, None}
 use Rattle.entries.specs.declared.emergency_queue.EmergencyQueue.{EmergencyQueue}
-use Rattle.entries.specs.declared.emergency_queue.Pushed.{Pushed}
-use Rattle.entries.specs.declared.emergency_queue.HandedOut.{HandedOut}
 
 abbrev pub queue : ℕ → ℕ → ℕ → EmergencyQueue
 queue o l c = record { oldest = o; length = l; capacity = c }
@@ -26,6 +25,15 @@ waiting m q = ring 32 m q.oldest (length_of q)
 -- fewer wait than may: the queue is not full
 abbrev pub has_room : EmergencyQueue → Bool
 has_room q = ltb (length_of q) (capacity_of q)
+
+-- what a push and a hand out give: the queue after it, whether the entry was kept, and the entry that was handed out
+pub record Pushed : Type 0 where
+  pub queue : EmergencyQueue
+  pub kept : Bool
+
+pub record HandedOut : Type 0 where
+  pub queue : EmergencyQueue
+  pub entry : Option ErrorEntry
 
 -- an entry is kept, at the place behind the newest, or dropped where the queue is full
 unfoldable pub pushed : EmergencyQueue → Pushed

@@ -7,14 +7,13 @@ use crate::place;
 use crate::status_response::ErrorEntry;
 use types::refusals::Refusal;
 
-// Whether 20 bytes are there from a place on. By subtraction, since the place plus 20 may pass 2^64.
+// Whether 20 bytes are there from a place on: the place plus 20 may pass 2^64.
 fn has_room(length: usize, place: u64) -> bool
     ensures { result ≡ leb (place + 20) length }
 {
-    if length < 20 {
-        return false;
-    }
-    place <= length as u64 - 20
+    place
+        .checked_add(20)
+        .is_some_and(|end| end <= length as u64)
 }
 
 // Writes an entry at a place: the part from there on is lent on to the writer. What is refused changes no byte.

@@ -15,18 +15,6 @@ pub struct EmergencyQueue {
     pub capacity: u8,
 }
 
-#[derive(Clone, Copy)]
-pub struct Pushed {
-    pub queue: EmergencyQueue,
-    pub kept: bool,
-}
-
-#[derive(Clone, Copy)]
-pub struct HandedOut {
-    pub queue: EmergencyQueue,
-    pub entry: Option<ErrorEntry>,
-}
-
 impl EmergencyQueue {
     // An empty queue.
     pub fn new(capacity: u8) -> Self
@@ -49,52 +37,37 @@ impl EmergencyQueue {
         }
     }
 
-    // An entry joins behind the newest, or is dropped where the queue is full.
-    pub fn push_back(self, memory: &mut [u8; 640], entry: ErrorEntry) -> Pushed
-        ensures { (result ≡ pushed self) × (memory.new ≡ pushed_bytes memory.old self entry) }
+    // An entry joins behind the newest, or is dropped where the queue is full: whether it was kept.
+    pub fn push_back(&mut self, memory: &mut [u8; 640], entry: ErrorEntry) -> bool
+        ensures queue { self.new ≡ (pushed self.old).queue }
+        ensures kept { result ≡ (pushed self.old).kept }
+        ensures bytes { memory.new ≡ pushed_bytes memory.old self.old entry }
     {
         let ring = self.ring();
         let length = ring.len();
         let capacity = (self.capacity as usize).min(32);
-        if length < capacity {
-            place::put_entry(memory, 20 * ring.place(length), entry);
-            let queue = Self {
-                oldest: self.oldest,
-                length: (length + 1) as u8,
-                capacity: self.capacity,
-            };
-            Pushed { queue, kept: true }
-        } else {
-            Pushed {
-                queue: self,
-                kept: false,
-            }
+        if length >= capacity {
+            return false;
         }
+        place::put_entry(memory, 20 * ring.place(length), entry);
+        self.length = (length + 1) as u8;
+        true
     }
 
     // The oldest entry leaves the queue; of an empty one, none does.
-    pub fn hand_out(self, memory: &[u8; 640]) -> HandedOut
-        ensures { result ≡ handed_out memory.now self }
+    pub fn hand_out(&mut self, memory: &[u8; 640]) -> Option<ErrorEntry>
+        ensures queue { self.new ≡ (handed_out memory.now self.old).queue }
+        ensures entry { result ≡ (handed_out memory.now self.old).entry }
     {
         let ring = self.ring();
         let length = ring.len();
-        if 0 < length {
-            let entry = place::read_entry(memory, 20 * ring.place(0));
-            let queue = Self {
-                oldest: ring.place(1) as u8,
-                length: (length - 1) as u8,
-                capacity: self.capacity,
-            };
-            HandedOut {
-                queue,
-                entry: Some(entry),
-            }
-        } else {
-            HandedOut {
-                queue: self,
-                entry: None,
-            }
+        if length == 0 {
+            return None;
         }
+        let entry = place::read_entry(memory, 20 * ring.place(0));
+        self.oldest = ring.place(1) as u8;
+        self.length = (length - 1) as u8;
+        Some(entry)
     }
 
     // The entry that waits at an index, the oldest at 0.

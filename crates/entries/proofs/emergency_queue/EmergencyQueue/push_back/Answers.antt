@@ -8,19 +8,49 @@ use borrow.Author.Tests.{lt-ltb, le-ltb}
 use Rattle.entries.specs.Queue.{length_of, capacity_of, has_room, pushed, pushed_bytes}
 use Rattle.entries.proofs.emergency_queue.EmergencyQueue.push_back.Goals as goal
 
-pub returns-then-length-capacity : goal.returns-then-length-capacity
-unfolding pushed pushed_bytes
-returns-then-length-capacity c =
-    let q = c.args.self in
-    let room : has_room q ≡ true = lt-ltb (length_of q) (capacity_of q) (omega arith) in
-    let ring = c.ring-ring.ensures in
-    let long : c.len-length.result ≡ length_of q = rw ring.1 at c.len-length.ensures in
-    let place : c.place.result ≡ (q.oldest + length_of q) % 32 = rw (ring.0, long) at c.place.ensures in
-    (rw (room, long), rw (room, ← place) c.put_entry.ensures)
 
-pub returns-else-length-capacity : goal.returns-else-length-capacity
-unfolding pushed pushed_bytes
-returns-else-length-capacity c =
-    let q = c.args.self in
+pub returns-then-length-capacity-clause-queue : goal.returns-then-length-capacity-clause-queue
+unfolding pushed
+returns-then-length-capacity-clause-queue c =
+    let q = c.args.self.now in
     let full : has_room q ≡ false = le-ltb (length_of q) (capacity_of q) (omega arith) in
-    (rw full, rw full)
+    rw full
+
+pub returns-then-length-capacity-clause-kept : goal.returns-then-length-capacity-clause-kept
+unfolding pushed
+returns-then-length-capacity-clause-kept c =
+    let q = c.args.self.now in
+    let full : has_room q ≡ false = le-ltb (length_of q) (capacity_of q) (omega arith) in
+    rw full
+
+pub returns-then-length-capacity-clause-bytes : goal.returns-then-length-capacity-clause-bytes
+unfolding pushed_bytes
+returns-then-length-capacity-clause-bytes c =
+    let q = c.args.self.now in
+    let full : has_room q ≡ false = le-ltb (length_of q) (capacity_of q) (omega arith) in
+    rw full
+
+pub returns-clause-queue : goal.returns-clause-queue
+unfolding pushed
+returns-clause-queue c =
+    let q = c.args.self.now in
+    let long : c.len-length.result ≡ length_of q = rw c.ring-ring.ensures.1 at c.len-length.ensures in
+    let room : has_room q ≡ true = lt-ltb (length_of q) (capacity_of q) (omega arith) in
+    rw (room, long)
+
+pub returns-clause-kept : goal.returns-clause-kept
+unfolding pushed
+returns-clause-kept c =
+    let q = c.args.self.now in
+    let long : c.len-length.result ≡ length_of q = rw c.ring-ring.ensures.1 at c.len-length.ensures in
+    let room : has_room q ≡ true = lt-ltb (length_of q) (capacity_of q) (omega arith) in
+    rw room
+
+pub returns-clause-bytes : goal.returns-clause-bytes
+unfolding pushed_bytes
+returns-clause-bytes c =
+    let q = c.args.self.now in
+    let long : c.len-length.result ≡ length_of q = rw c.ring-ring.ensures.1 at c.len-length.ensures in
+    let room : has_room q ≡ true = lt-ltb (length_of q) (capacity_of q) (omega arith) in
+    let place : c.place.result ≡ (q.oldest + length_of q) % 32 = rw (c.ring-ring.ensures.0, long) at c.place.ensures in
+    rw (room, ← place) c.put_entry.ensures
