@@ -1,12 +1,10 @@
 -- The desk's buffer: what a write and a read answer and leave.
 -- Assumes nothing.
-use Prim.Native.Nat.{ℕ, ◌+◌, ◌-◌, ◌≤◌}
-use mathlib.Core.Path.{◌≡◌, refl, sym}
-use mathlib.Core.Bool.{Bool, true, false}
+use Prim.Native.Nat.{ℕ}
+use mathlib.Core.Path.{◌≡◌}
+use mathlib.Core.Bool.{true, false}
 use mathlib.Core.List.{List}
-use native.Mathlib.Omega.{arith}
 use lib.Dec.{leb}
-use borrow.Author.Tests.{le-leb, lt-leb, leb-true, leb-false}
 use Rattle.entries.specs.Entry.{entry_bytes}
 use Rattle.entries.specs.Ring.{written}
 use Rattle.entries.specs.Desk.{Reply, room_at, write_reply, desk_after}

@@ -3,7 +3,7 @@
 use Prim.Native.Nat.{ℕ, suc, ◌+◌, ◌-◌, ◌*◌, ◌/◌, ◌%◌, ◌≤◌, ◌<◌, min}
 use mathlib.Core.Path.{◌≡◌, refl, sym, ap, ◌∙◌}
 use mathlib.Core.Logic.{⊎_elim}
-use mathlib.Core.Bool.{true, false}
+use mathlib.Core.Bool.{Bool, true, false}
 use mathlib.Core.List.{List, [], ◌∷◌, ◌++◌}
 use native.Mathlib.Omega.{arith}
 use lib.Dec.{ltb}
@@ -12,6 +12,7 @@ use lib.Seq.{length-take-le, get_or-append-add, get_or-drop}
 use borrow.Author.Tests.{lt-ltb, le-ltb}
 use Rattle.types.specs.Pick.{pick}
 use Rattle.entries.specs.declared.status_response.ErrorEntry.{ErrorEntry}
+use Rattle.std.specs.declared.option.Option.{Option}
 use Rattle.std.specs.declared.option.Option.TheVariants.{Some}
 use Rattle.entries.specs.declared.emergency_queue.EmergencyQueue.{EmergencyQueue}
 use Rattle.entries.specs.declared.error_history.ErrorHistory.{ErrorHistory}
@@ -20,6 +21,19 @@ use Rattle.entries.specs.Ring.{entry_at, listed, ring, nth, rest}
 use Rattle.entries.specs.Queue.{queue, length_of, capacity_of, waiting, pushed, pushed_bytes, handed_out}
 use Rattle.entries.specs.History.{error_history, history, place_before, joined, joined_bytes, entries_in, taken_of, loaded, loaded_bytes}
 use Rattle.entries.proofs.Rings.{lt_or_ge, listed_same, listed_take, listed_long, nth_in, place_before_lem, byte_other, put_long, ring_rest, ring_behind, ring_before}
+
+-- a push and a hand out by their parts
+pub pushed_as :
+    {n p q : EmergencyQueue} {k : Bool} → n ≡ (pushed p).queue → k ≡ (pushed p).kept → p ≡ q → record { queue = n; kept = k } ≡ pushed q
+pushed_as e f o = (λ i. record { queue = e i; kept = f i }) ∙ ap pushed o
+
+pub handed_as :
+    {n p q : EmergencyQueue} {x : Option ErrorEntry} (m : List ℕ) →
+    n ≡ (handed_out m p).queue →
+    x ≡ (handed_out m p).entry →
+    p ≡ q →
+    record { queue = n; entry = x } ≡ handed_out m q
+handed_as m e f o = (λ i. record { queue = e i; entry = f i }) ∙ ap (handed_out m) o
 
 -- the two cases of a test
 decide : {G : Type 0} (i j : ℕ) → (i < j → ltb i j ≡ true → G) → (j ≤ i → ltb i j ≡ false → G) → G

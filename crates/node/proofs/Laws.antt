@@ -30,7 +30,7 @@ use Rattle.counters.specs.declared.counters.CompletedCycle.{CompletedCycle}
 use Rattle.entries.specs.Ring.{nth, rest}
 use Rattle.entries.specs.Queue as Queue
 use Rattle.entries.specs.History as History
-use Rattle.entries.specs.declared.emergency_queue.HandedOut.{HandedOut}
+use Rattle.entries.specs.Queue.{HandedOut}
 use Rattle.entries.specs.declared.error_history.ErrorHistory.{ErrorHistory}
 use Rattle.entries.proofs.Lists.{handed_first, rest_waits, handed_capacity, history_loaded}
 use Rattle.head.specs.Head.{Head, forgetting, head_with_nmt, head_with_dll, head_with_errors, head_with_soc, head_with_values, head_with_queue, soc_watch}

@@ -37,7 +37,7 @@ use Rattle.counters.specs.declared.counters.CompletedCycle.{CompletedCycle}
 use Rattle.counters.proofs.ByKind.{counter_of_lem}
 use Rattle.entries.specs.Queue.{handed_out, length_of}
 use Rattle.entries.specs.declared.emergency_queue.EmergencyQueue.{EmergencyQueue}
-use Rattle.entries.specs.declared.emergency_queue.HandedOut.{HandedOut}
+use Rattle.entries.specs.Queue.{HandedOut}
 use Rattle.entries.proofs.Lists.{handed_capacity}
 use Rattle.head.specs.Head.{Head, head_with_errors, head_with_queue}
 use Rattle.head.specs.declared.state.SocWatch.{SocWatch}

@@ -172,9 +172,8 @@ pub fn hand_out(head: &mut Head, memory: &[u8; 640]) -> Option<ErrorEntry>
     ensures { ((m : List ℕ) → Refines (head_of head.old) memory.now m Call.hand_out (left (head_of head.new) (hand_out_answer result)) memory.now m no_run)
         × (head.new ≡ hand_out_words head.old memory.now) }
 {
-    let handed = queue_of(head).hand_out(memory);
-    let queue = handed.queue;
-    let entry = handed.entry;
+    let mut queue = queue_of(head);
+    let entry = queue.hand_out(memory);
     set_queue(head, queue);
     entry
 }

@@ -18,7 +18,7 @@ use Rattle.entries.specs.Entry.{FitsBytes, crossing_entry}
 use Rattle.entries.specs.Queue.{queue, has_room, pushed, pushed_bytes}
 use Rattle.entries.specs.History.{error_history, joined, joined_bytes}
 use Rattle.entries.specs.declared.status_response.ErrorEntry.{ErrorEntry}
-use Rattle.entries.specs.declared.emergency_queue.Pushed.{Pushed}
+use Rattle.entries.specs.Queue.{Pushed}
 use Rattle.entries.specs.declared.error_history.ErrorHistory.{ErrorHistory}
 use Rattle.entries.proofs.Lists.{pushed_capacity}
 use Rattle.head.specs.Head.{Head, with_statistic, of_parts, head_with_errors, head_with_od}

@@ -23,7 +23,7 @@ use Rattle.entries.specs.Queue.{queue, length_of, capacity_of, has_room, waiting
 use Rattle.entries.specs.History.{history, joined, joined_bytes}
 use Rattle.entries.specs.declared.status_response.ErrorEntry.{ErrorEntry}
 use Rattle.entries.specs.declared.emergency_queue.EmergencyQueue.{EmergencyQueue}
-use Rattle.entries.specs.declared.emergency_queue.Pushed.{Pushed}
+use Rattle.entries.specs.Queue.{Pushed}
 use Rattle.entries.specs.declared.error_history.ErrorHistory.{ErrorHistory}
 use Rattle.entries.proofs.Lists.{kept_exactly, waiting_pushed, pushed_capacity, history_joined}
 use Rattle.head.specs.Head.{Head, of_parts}

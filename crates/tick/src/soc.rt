@@ -41,10 +41,9 @@ fn queue_entry(
     long(queue, 640);
     long(history, 5080);
     let entry = ErrorEntry::of_crossing(error, time);
-    let pushed = queue_of(head).push_back(queue, entry);
-    if pushed.kept {
+    let mut places = queue_of(head);
+    if places.push_back(queue, entry) {
         let joined = write_error_to_history(history, history_of(head), entry);
-        let places = pushed.queue;
         increment_counter(head, Statistic::Counter2);
         set_queue(head, places);
         set_history(head, joined);

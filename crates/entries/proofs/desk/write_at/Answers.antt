@@ -1,10 +1,7 @@
 -- `entries::desk::write_at` meets its contract: the tests in their order, then one write.
 -- Assumes nothing.
-use Prim.Native.Nat.{◌+◌, ◌≤◌}
 use mathlib.Core.Path.{sym, ◌∙◌}
-use native.Mathlib.Omega.{arith}
-use borrow.Author.Tests.{leb-true, le-leb, lt-leb}
-use lib.ListN.{length}
+use borrow.Author.Tests.{le-leb, lt-leb}
 use Rattle.entries.proofs.DeskLaws.{no_room, no_profile, wrote}
 use Rattle.entries.proofs.desk.write_at.Goals as goal
 

@@ -4,27 +4,28 @@ use mathlib.Core.Path.{ap, ap₂, ◌∙◌}
 use mathlib.Core.List.{List}
 use Prim.Native.Nat.{ℕ}
 use Rattle.entries.specs.Entry.{crossing_entry}
-use Rattle.entries.specs.Queue.{pushed, pushed_bytes}
+use Rattle.entries.specs.Queue.{pushed_bytes}
+use Rattle.entries.proofs.Lists.{pushed_as}
 use Rattle.entries.specs.History.{joined, joined_bytes}
 use Rattle.entries.proofs.Entries.{crossing_fits}
 use Rattle.head.specs.Written.{queue_written, history_written}
 use Rattle.tick.proofs.Dealings.{enters, drops}
 use Rattle.tick.proofs.soc.queue_entry.Goals as goal
 
-pub returns-then-pushed : goal.returns-then-pushed
-returns-then-pushed c =
-    enters c.args.head.now c.whole.ensures c.args.queue.now c.args.history.now _ (crossing_entry c.args.error c.args.time) c.push_back-pushed.result
-    (c.push_back-pushed.ensures.0 ∙ ap pushed c.queue_of.ensures)
-    (c.push_back-pushed.ensures.1 ∙ ap₂ (pushed_bytes c.args.queue.now) c.queue_of.ensures c.of_crossing-entry.ensures) c.long.ensures c.long-2.ensures (crossing_fits c.args.error c.args.time) c.if-pushed.true
+pub returns-then-push_back : goal.returns-then-push_back
+returns-then-push_back c =
+    enters c.args.head.now c.whole.ensures c.args.queue.now c.args.history.now _ (crossing_entry c.args.error c.args.time) (record { queue = c.push_back.new.self; kept = c.push_back.result })
+    (pushed_as c.push_back.ensures.queue c.push_back.ensures.kept c.queue_of-places.ensures)
+    (c.push_back.ensures.bytes ∙ ap₂ (pushed_bytes c.args.queue.now) c.queue_of-places.ensures c.of_crossing-entry.ensures) c.long.ensures c.long-2.ensures (crossing_fits c.args.error c.args.time) c.if-push_back.true
     c.write_error_to_history-joined.result _ (
       c.write_error_to_history-joined.ensures.0 ∙ ap joined c.history_of.ensures,
       c.write_error_to_history-joined.ensures.1 ∙ ap₂ (joined_bytes c.args.history.now) c.history_of.ensures c.of_crossing-entry.ensures,
     )
     _ (c.set_history.ensures ∙ ap (λ (l : List ℕ). history_written l c.write_error_to_history-joined.result)
-    (c.set_queue.ensures ∙ ap (λ (l : List ℕ). queue_written l c.push_back-pushed.result.queue) c.increment_counter.ensures))
+    (c.set_queue.ensures ∙ ap (λ (l : List ℕ). queue_written l c.push_back.new.self) c.increment_counter.ensures))
 
 pub returns : goal.returns
 returns c =
-    drops c.args.head.now c.whole.ensures c.args.queue.now c.args.history.now _ (crossing_entry c.args.error c.args.time) c.push_back-pushed.result
-    (c.push_back-pushed.ensures.0 ∙ ap pushed c.queue_of.ensures)
-    (c.push_back-pushed.ensures.1 ∙ ap₂ (pushed_bytes c.args.queue.now) c.queue_of.ensures c.of_crossing-entry.ensures) c.long.ensures c.if-pushed.false _ c.increment_counter-2.ensures
+    drops c.args.head.now c.whole.ensures c.args.queue.now c.args.history.now _ (crossing_entry c.args.error c.args.time) (record { queue = c.push_back.new.self; kept = c.push_back.result })
+    (pushed_as c.push_back.ensures.queue c.push_back.ensures.kept c.queue_of-places.ensures)
+    (c.push_back.ensures.bytes ∙ ap₂ (pushed_bytes c.args.queue.now) c.queue_of-places.ensures c.of_crossing-entry.ensures) c.long.ensures c.if-push_back.false _ c.increment_counter-2.ensures

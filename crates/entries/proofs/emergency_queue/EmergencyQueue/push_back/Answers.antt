@@ -8,7 +8,6 @@ use borrow.Author.Tests.{lt-ltb, le-ltb}
 use Rattle.entries.specs.Queue.{length_of, capacity_of, has_room, pushed, pushed_bytes}
 use Rattle.entries.proofs.emergency_queue.EmergencyQueue.push_back.Goals as goal
 
-
 pub returns-then-length-capacity-clause-queue : goal.returns-then-length-capacity-clause-queue
 unfolding pushed
 returns-then-length-capacity-clause-queue c =
