@@ -162,13 +162,16 @@ impl Thresholds {
     pub fn is_within_limit(self) -> bool
         ensures { result ≡ thresholds_fit self }
     {
-        (self.collision <= 1000000)
-            & (self.loss_of_soc <= 1000000)
-            & (self.loss_of_soa <= 1000000)
-            & (self.loss_of_preq <= 1000000)
-            & (self.soc_jitter <= 1000000)
-            & (self.crc_errors <= 1000000)
-            & (self.heartbeat_timeout <= 1000000)
+        let all = [
+            self.collision,
+            self.loss_of_soc,
+            self.loss_of_soa,
+            self.loss_of_preq,
+            self.soc_jitter,
+            self.crc_errors,
+            self.heartbeat_timeout,
+        ];
+        all.iter().all(|threshold| *threshold <= 1_000_000)
     }
 }
 
