@@ -29,6 +29,22 @@ pub same_kind_lem : (j k : CounterKind) → same_kind j k ≡ true → j ≡ k
 same_kind_lem j k h =
     sym (kind_at j) ∙ ap (λ (n : ℕ). get_or counter_kinds n Collision) (eqb-true (place j) (place k) h) ∙ kind_at k
 
+-- the counters are fixed by that of each kind, and their count of lost links
+pub from_kinds :
+    (s : CnErrorCounters) (f : CounterKind → ThresholdCounter) (n : ℕ) →
+    ((k : CounterKind) → counter k s ≡ f k) → s.loss_of_link_cumulative ≡ n → s ≡ by_kind f n
+from_kinds s f n each links =
+    λ i. record {
+      collision = each Collision i;
+      loss_of_soc = each LossOfSoc i;
+      loss_of_soa = each LossOfSoa i;
+      loss_of_preq = each LossOfPreq i;
+      soc_jitter = each SoCJitter i;
+      crc_errors = each Crc i;
+      heartbeat_timeout = each HeartbeatTimeout i;
+      loss_of_link_cumulative = links i;
+    }
+
 pub counter_of_lem : (f : CounterKind → ThresholdCounter) (n : ℕ) (k : CounterKind) → counter k (by_kind f n) ≡ f k
 counter_of_lem f n Collision = refl
 counter_of_lem f n LossOfSoc = refl

@@ -1,6 +1,6 @@
 // The threshold counters (EPSG DS 301, Section 4.7.4.1) and those of a controlled node (Section 4.7.8).
 ghost use Rattle.std.specs.Prelude.{◌≡◌};
-ghost use Rattle.counters.specs.Counters.{new_counter, incremented, decremented, after_check, after_error, active, new_counters, counter, replaced, unsignalled, signalled_answer, counted_error, effect, effect_of, handled, lowered, any_active, completed, same_for_all, thresholds_fit};
+ghost use Rattle.counters.specs.Counters.{new_counter, incremented, decremented, after_check, after_error, active, new_counters, threshold_for, counter, replaced, unsignalled, signalled_answer, counted_error, effect, effect_of, handled, lowered, any_active, completed, same_for_all, thresholds_fit};
 
 use types::frame::error::types::{DllError, DllErrors, NmtAction};
 
@@ -16,7 +16,7 @@ pub struct ThresholdCounter {
 }
 
 // A counter after its check.
-#[derive(Clone, Copy)]
+#[derive(Clone, Copy, PartialEq, Eq)]
 pub struct ThresholdCheck {
     pub counter: ThresholdCounter,
     pub reached: bool,
@@ -92,7 +92,7 @@ impl ThresholdCounter {
 }
 
 // The kinds of error that have a threshold counter, in the order of the counters.
-#[derive(Clone, Copy)]
+#[derive(Clone, Copy, PartialEq, Eq)]
 pub enum CounterKind {
     Collision,
     LossOfSoc,
@@ -104,7 +104,7 @@ pub enum CounterKind {
 }
 
 // What an error does to the counters.
-#[derive(Clone, Copy)]
+#[derive(Clone, Copy, PartialEq, Eq)]
 pub enum ErrorEffect {
     Counts(CounterKind),
     LosesLink,
@@ -131,7 +131,7 @@ pub fn effect_of(error: DllError) -> ErrorEffect
 }
 
 // The thresholds of the seven counters, in their order. One of 0 is never reached.
-#[derive(Clone, Copy)]
+#[derive(Clone, Copy, PartialEq, Eq)]
 pub struct Thresholds {
     pub collision: u32,
     pub loss_of_soc: u32,
@@ -155,6 +155,21 @@ impl Thresholds {
             soc_jitter: threshold,
             crc_errors: threshold,
             heartbeat_timeout: threshold,
+        }
+    }
+
+    // That of a kind.
+    pub fn of(self, kind: CounterKind) -> u32
+        ensures { result ≡ threshold_for kind self }
+    {
+        match kind {
+            CounterKind::Collision => self.collision,
+            CounterKind::LossOfSoc => self.loss_of_soc,
+            CounterKind::LossOfSoa => self.loss_of_soa,
+            CounterKind::LossOfPreq => self.loss_of_preq,
+            CounterKind::SoCJitter => self.soc_jitter,
+            CounterKind::Crc => self.crc_errors,
+            CounterKind::HeartbeatTimeout => self.heartbeat_timeout,
         }
     }
 
@@ -190,7 +205,7 @@ pub struct CnErrorCounters {
 }
 
 // The answer to an error: what NMT is asked for, whether the error status changed, and what goes to the handler.
-#[derive(Clone, Copy)]
+#[derive(Clone, Copy, PartialEq, Eq)]
 pub struct HandledError {
     pub counters: CnErrorCounters,
     pub action: NmtAction,
@@ -199,7 +214,7 @@ pub struct HandledError {
 }
 
 // The answer to a completed cycle: whether it cleared the last level.
-#[derive(Clone, Copy)]
+#[derive(Clone, Copy, PartialEq, Eq)]
 pub struct CompletedCycle {
     pub counters: CnErrorCounters,
     pub cleared: bool,
@@ -230,23 +245,35 @@ fn signalled(counters: CnErrorCounters, error: DllError) -> HandledError
 }
 
 impl CnErrorCounters {
-    pub fn new(thresholds: Thresholds) -> Self
-        ensures { result ≡ new_counters thresholds }
+    // The counter of each kind is what `of` gives for it.
+    pub fn by_kind<F: Fn(CounterKind) -> ThresholdCounter>(
+        of: F,
+        loss_of_link_cumulative: u32,
+    ) -> Self
+        requires { F.IsAlwaysCallable of }
+        ensures counters { (k : CounterKind) → F.post of k (counter k result) }
+        ensures links { result.loss_of_link_cumulative ≡ loss_of_link_cumulative }
     {
-        CnErrorCounters {
-            collision: ThresholdCounter::new(thresholds.collision),
-            loss_of_soc: ThresholdCounter::new(thresholds.loss_of_soc),
-            loss_of_soa: ThresholdCounter::new(thresholds.loss_of_soa),
-            loss_of_preq: ThresholdCounter::new(thresholds.loss_of_preq),
-            soc_jitter: ThresholdCounter::new(thresholds.soc_jitter),
-            crc_errors: ThresholdCounter::new(thresholds.crc_errors),
-            heartbeat_timeout: ThresholdCounter::new(thresholds.heartbeat_timeout),
-            loss_of_link_cumulative: 0,
+        Self {
+            collision: of(CounterKind::Collision),
+            loss_of_soc: of(CounterKind::LossOfSoc),
+            loss_of_soa: of(CounterKind::LossOfSoa),
+            loss_of_preq: of(CounterKind::LossOfPreq),
+            soc_jitter: of(CounterKind::SoCJitter),
+            crc_errors: of(CounterKind::Crc),
+            heartbeat_timeout: of(CounterKind::HeartbeatTimeout),
+            loss_of_link_cumulative,
         }
     }
 
+    pub fn new(thresholds: Thresholds) -> Self
+        ensures { result ≡ new_counters thresholds }
+    {
+        Self::by_kind(|kind| ThresholdCounter::new(thresholds.of(kind)), 0)
+    }
+
     // The counter of a kind.
-    fn counter(self, kind: CounterKind) -> ThresholdCounter
+    pub fn counter(self, kind: CounterKind) -> ThresholdCounter
         ensures { result ≡ counter kind self }
     {
         match kind {
@@ -313,17 +340,13 @@ impl CnErrorCounters {
 
     // Each level above 0 lowered by 1.
     #[tactic(auto, unfolding(crate::specs::Counters::lowered))]
-    fn decrement(mut self) -> Self
+    fn decrement(self) -> Self
         ensures { result ≡ lowered self }
     {
-        self.collision = self.collision.decrement();
-        self.loss_of_soc = self.loss_of_soc.decrement();
-        self.loss_of_soa = self.loss_of_soa.decrement();
-        self.loss_of_preq = self.loss_of_preq.decrement();
-        self.soc_jitter = self.soc_jitter.decrement();
-        self.crc_errors = self.crc_errors.decrement();
-        self.heartbeat_timeout = self.heartbeat_timeout.decrement();
-        self
+        Self::by_kind(
+            |kind| self.counter(kind).decrement(),
+            self.loss_of_link_cumulative,
+        )
     }
 
     #[tactic(auto, unfolding(crate::specs::Counters::any_active))]

@@ -37,7 +37,7 @@ pub struct DllCsStateMachine {
     pub state: DllCsState,
 }
 
-#[derive(Clone, Copy)]
+#[derive(Clone, Copy, PartialEq, Eq)]
 pub struct DllAnswer {
     pub machine: DllCsStateMachine,
     pub errors: DllErrors,

@@ -27,7 +27,7 @@ pub struct CnNmtStateMachine {
     pub app_ready: bool,
 }
 
-#[derive(Clone, Copy)]
+#[derive(Clone, Copy, PartialEq, Eq)]
 pub struct NmtAnswer {
     pub machine: CnNmtStateMachine,
     pub errors: DllErrors,

@@ -6,7 +6,7 @@ use types::nmt::events::NmtEvent;
 use types::nmt::states::NmtState;
 
 // What an event leaves.
-#[derive(Clone, Copy)]
+#[derive(Clone, Copy, PartialEq, Eq)]
 pub struct Entry {
     pub state: NmtState,
     pub enabled: bool,
