@@ -2,7 +2,8 @@
 -- Assumes nothing.
 use Prim.Native.Nat.{ℕ, suc}
 use mathlib.Core.Path.{◌≡◌, refl, ap, subst, ◌∙◌}
-use mathlib.Core.Bool.{Bool}
+use mathlib.Core.Bool.{Bool, true, false}
+use mir.Val.{bool_byte}
 use mathlib.Core.List.{List, [], map}
 use lib.ListN.{set}
 use lib.IntN.{ℤ, pos, negsuc}
@@ -40,17 +41,22 @@ pub errors_taken :
 unfolding numbers_of
 errors_taken es p q = q ∙ ap (λ (l : List ℕ). errors_put l es) p ∙ errors_laid nothing nothing nothing es
 
+-- a yes or no as a number, by the library and by the head
+pub one_is : (b : Bool) → bool_byte b ≡ one b
+one_is true = refl
+one_is false = refl
+
 pub error_taken_lem :
     (a : NmtAction) (signal : Bool) (es : DllErrors) {ns ms : List ℕ} {node action said : ℕ} →
     ns ≡ numbers_of taken →
     node ≡ node_asked a →
     action ≡ action_number a →
-    said ≡ one signal →
+    said ≡ bool_byte signal →
     ms ≡ errors_put (set (set (set ns 1 node) 2 action) 3 said) es →
     ms ≡ numbers_of (error_answer a signal (reported es))
 unfolding numbers_of
 error_taken_lem a signal es p n k s q =
-    q ∙ (λ i. errors_put (set (set (set (p i) 1 (n i)) 2 (k i)) 3 (s i)) es) ∙ errors_laid (node_asked a) (action_number a) (one signal) es
+    q ∙ (λ i. errors_put (set (set (set (p i) 1 (n i)) 2 (k i)) 3 ((s ∙ one_is signal) i)) es) ∙ errors_laid (node_asked a) (action_number a) (one signal) es
 
 pub reset_put_lem :
     (r : ResetSequence) (ns : List ℕ) {ms ls ss : List ℕ} →

@@ -36,10 +36,10 @@ nothing = 18446744073709551615
 
 -- what an error carries beside its kind
 abbrev pub bare : Carried
-bare = record { state = nothing; other = nothing }
+bare = record { state = None; other = None }
 
 abbrev pub of_node : NodeId → Carried
-of_node n = record { state = nothing; other = n.0 }
+of_node n = record { state = None; other = Some n.0 }
 
 abbrev pub carries : DllError → Carried
 carries LossOfLink = bare
@@ -60,14 +60,18 @@ carries MsWaitSoc = bare
 carries MultipleMn = bare
 carries AddressConflict = bare
 carries MevAsndTimeout = bare
-carries (UnexpectedEventInState s e) = record { state = s; other = e }
+carries (UnexpectedEventInState s e) = record { state = Some s; other = Some e }
 carries (PdoMapVersion n) = of_node n
 carries (PdoPayloadShort n) = of_node n
 carries (HeartbeatTimeout n) = of_node n
 
+abbrev pub said_of : Option ℕ → ℕ
+said_of (Some n) = n
+said_of None = nothing
+
 abbrev pub errors_numbers : List DllError → List ℕ
 errors_numbers [] = []
-errors_numbers (e ∷ es) = error_kind_of e ∷ (carries e).state ∷ (carries e).other ∷ errors_numbers es
+errors_numbers (e ∷ es) = error_kind_of e ∷ said_of (carries e).state ∷ said_of (carries e).other ∷ errors_numbers es
 
 abbrev pub ranges_numbers : List IndexRange → List ℕ
 ranges_numbers [] = []

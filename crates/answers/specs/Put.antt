@@ -14,10 +14,10 @@ use Rattle.nmt.specs.declared.state_machine.RestoredRanges.TheVariants as restor
 use Rattle.nmt.specs.declared.state_machine.ResetSequence.{ResetSequence}
 use Rattle.node.specs.declared.range.SocVerdict.{SocVerdict}
 use Rattle.node.specs.declared.range.SocVerdict.TheVariants as verdict
-use Rattle.answers.specs.Numbers.{carries, five}
+use Rattle.answers.specs.Numbers.{carries, said_of, five}
 
 unfoldable pub error_put : List ℕ → ℕ → DllError → List ℕ
-error_put ns at e = set (set (set ns at (error_kind_of e)) (at + 1) (carries e).state) (at + 2) (carries e).other
+error_put ns at e = set (set (set ns at (error_kind_of e)) (at + 1) (said_of (carries e).state)) (at + 2) (said_of (carries e).other)
 
 unfoldable pub errors_put : List ℕ → DllErrors → List ℕ
 errors_put ns errors.None = ns

@@ -5,22 +5,20 @@
 ghost use Rattle.std.specs.Prelude.{◌≡◌, ◌≤◌};
 ghost use Rattle.types.specs.Refusals.{refusal_number};
 ghost use Rattle.types.specs.States.{state_number};
-ghost use Rattle.types.specs.Errors.{reported};
 ghost use Rattle.head.specs.Words.{one};
-ghost use Rattle.node.specs.Plain.{taken, refused, cycle_answer, hand_out_answer, tick_answer};
-ghost use Rattle.node.specs.InPlace.{said, nmt_said, dll_said, error_said, range_said, margin_said};
-ghost use Rattle.answers.specs.Numbers.{carries, action_number, node_asked, is_found, of_node, numbers_of, bytes_of};
+ghost use Rattle.node.specs.Plain.{Answer, taken, refused, cycle_answer, hand_out_answer, range_answer, margin_answer};
+ghost use Rattle.node.specs.InPlace.{answered, nmt_says, dll_says, error_says};
+ghost use Rattle.answers.specs.Numbers.{carries, action_number, node_asked, is_found, of_node, said_of, numbers_of, bytes_of};
 ghost use Rattle.answers.specs.Put.{error_put, errors_put, states_of, states_put, range_put, ranges_put, reset_put, verdict_put, margin_put};
 
+use entries::status_response::ErrorEntry;
 use nmt::state_machine::{EnteredStates, IndexRange, ResetSequence, RestoredRanges};
+use node::calls::{ErrorTaken, NmtTaken};
 use node::range::SocVerdict;
 use types::frame::error::types::{DllError, DllErrors, NmtAction};
 use types::nmt::states::NmtState;
 use types::refusals::Refusal;
 use types::types::NodeId;
-use node::calls::NmtTaken;
-use node::calls::ErrorTaken;
-use entries::status_response::ErrorEntry;
 
 pub type Numbers = [u64; 21];
 
@@ -47,38 +45,52 @@ const SECOND_ERROR: usize = 18;
 #[derive(Clone, Copy)]
 pub struct Carried {
     // The state that an unexpected event met.
-    pub state: u64,
+    pub state: Option<u8>,
     // The node, or the event.
-    pub other: u64,
+    pub other: Option<u8>,
 }
 
-fn of_node(node: NodeId) -> Carried
-    ensures { result ≡ of_node node }
-{
-    Carried {
-        state: NOTHING,
-        other: node.0 as u64,
+impl From<NodeId> for Carried {
+    ghost from_gives = { λ n c. c ≡ of_node n };
+
+    fn from(node: NodeId) -> Self {
+        Carried {
+            state: None,
+            other: Some(node.0),
+        }
     }
 }
 
-fn carried_by(error: DllError) -> Carried
-    ensures { result ≡ carries error }
+impl From<DllError> for Carried {
+    ghost from_gives = { λ e c. c ≡ carries e };
+
+    fn from(error: DllError) -> Self {
+        match error {
+            DllError::LossOfPres { node_id }
+            | DllError::LossOfStatusRes { node_id }
+            | DllError::LatePres { node_id }
+            | DllError::PdoMapVersion { node_id }
+            | DllError::PdoPayloadShort { node_id }
+            | DllError::HeartbeatTimeout { node_id } => Carried::from(node_id),
+            DllError::UnexpectedEventInState { state, event } => Carried {
+                state: Some(state),
+                other: Some(event),
+            },
+            _ => Carried {
+                state: None,
+                other: None,
+            },
+        }
+    }
+}
+
+// A number, or nothing.
+fn said_of(number: Option<u8>) -> u64
+    ensures { result ≡ said_of number }
 {
-    match error {
-        DllError::LossOfPres { node_id } => of_node(node_id),
-        DllError::LossOfStatusRes { node_id } => of_node(node_id),
-        DllError::LatePres { node_id } => of_node(node_id),
-        DllError::UnexpectedEventInState { state, event } => Carried {
-            state: state as u64,
-            other: event as u64,
-        },
-        DllError::PdoMapVersion { node_id } => of_node(node_id),
-        DllError::PdoPayloadShort { node_id } => of_node(node_id),
-        DllError::HeartbeatTimeout { node_id } => of_node(node_id),
-        _ => Carried {
-            state: NOTHING,
-            other: NOTHING,
-        },
+    match number {
+        Some(n) => u64::from(n),
+        None => NOTHING,
     }
 }
 
@@ -91,32 +103,34 @@ fn put_taken(numbers: &mut Numbers)
 }
 
 // A declined call.
+#[tactic(auto, unfolding(crate::specs::Numbers::numbers_of))]
 pub fn declined(refusal: Refusal, numbers: &mut Numbers)
     ensures { numbers.new ≡ numbers_of (refused (refusal_number refusal)) }
 {
     *numbers = [NOTHING; 21];
-    numbers[REFUSAL] = refusal.number() as u64;
+    numbers[REFUSAL] = u64::from(refusal.number());
 }
 
+#[tactic(auto, unfolding(crate::specs::Put::error_put))]
 fn put_error(numbers: &mut Numbers, at: usize, error: DllError)
     requires { at ≤ 18 }
     ensures { numbers.new ≡ error_put numbers.old at error }
 {
-    let carried = carried_by(error);
-    numbers[at] = error.kind() as u64;
-    numbers[at + 1] = carried.state;
-    numbers[at + 2] = carried.other;
+    let carried = Carried::from(error);
+    numbers[at] = u64::from(error.kind());
+    numbers[at + 1] = said_of(carried.state);
+    numbers[at + 2] = said_of(carried.other);
 }
 
 fn put_errors(numbers: &mut Numbers, errors: DllErrors)
     ensures { numbers.new ≡ errors_put numbers.old errors }
 {
     match errors {
-        DllErrors::None => return,
-        DllErrors::One(a) => return put_error(numbers, FIRST_ERROR, a),
+        DllErrors::None => {}
+        DllErrors::One(a) => put_error(numbers, FIRST_ERROR, a),
         DllErrors::Two(a, b) => {
             put_error(numbers, FIRST_ERROR, a);
-            return put_error(numbers, SECOND_ERROR, b);
+            put_error(numbers, SECOND_ERROR, b)
         }
     }
 }
@@ -124,7 +138,7 @@ fn put_errors(numbers: &mut Numbers, errors: DllErrors)
 fn shown(state: NmtState) -> u64
     ensures { result ≡ state_number state }
 {
-    state.as_u8() as u64
+    u64::from(state.as_u8())
 }
 
 fn states(entered: EnteredStates) -> [u64; 5]
@@ -153,20 +167,20 @@ fn put_range(numbers: &mut Numbers, at: usize, range: IndexRange)
     requires { at ≤ 19 }
     ensures { numbers.new ≡ range_put numbers.old at range }
 {
-    numbers[at] = range.first as u64;
-    numbers[at + 1] = range.last as u64;
+    numbers[at] = u64::from(range.first);
+    numbers[at + 1] = u64::from(range.last);
 }
 
 fn put_ranges(numbers: &mut Numbers, ranges: RestoredRanges)
     ensures { numbers.new ≡ ranges_put numbers.old ranges }
 {
     match ranges {
-        RestoredRanges::None => return,
-        RestoredRanges::One(a) => return put_range(numbers, RANGES, a),
+        RestoredRanges::None => {}
+        RestoredRanges::One(a) => put_range(numbers, RANGES, a),
         RestoredRanges::Three(a, b, c) => {
             put_range(numbers, RANGES, a);
             put_range(numbers, RANGES + 2, b);
-            return put_range(numbers, RANGES + 4, c);
+            put_range(numbers, RANGES + 4, c)
         }
     }
 }
@@ -196,73 +210,90 @@ fn node_asked(action: NmtAction) -> u64
     match action {
         NmtAction::None => NOTHING,
         NmtAction::ResetCommunication => NOTHING,
-        NmtAction::ResetNode(node) => node.0 as u64,
+        NmtAction::ResetNode(node) => u64::from(node.0),
     }
 }
 
-fn one(x: bool) -> u64
-    ensures { result ≡ one x }
-{
-    if x { 1 } else { 0 }
+// What a call says where it is taken, as numbers.
+pub trait Told {
+    ghost says: { Self → Answer };
+
+    fn put(self, numbers: &mut Numbers)
+        ensures { numbers.new ≡ numbers_of (says self) };
 }
 
-// A call that answers nothing else.
-pub fn call(answer: Result<(), Refusal>, numbers: &mut Numbers)
-    ensures { numbers.new ≡ numbers_of (said answer) }
-{
-    match answer {
-        Ok(()) => return put_taken(numbers),
-        Err(refusal) => return declined(refusal, numbers),
+// A call that says nothing else.
+impl Told for () {
+    ghost says = { λ u. taken };
+
+    fn put(self, numbers: &mut Numbers) {
+        put_taken(numbers);
     }
 }
 
-pub fn nmt_event(answer: Result<NmtTaken, Refusal>, numbers: &mut Numbers)
-    ensures { numbers.new ≡ numbers_of (nmt_said answer) }
-{
-    match answer {
-        Ok(taken) => {
-            let errors = taken.errors;
-            let reset = taken.reset;
-            put_taken(numbers);
-            put_errors(numbers, errors);
-            return put_reset(numbers, reset);
-        }
-        Err(refusal) => return declined(refusal, numbers),
+impl Told for NmtTaken {
+    ghost says = { nmt_says };
+
+    fn put(self, numbers: &mut Numbers) {
+        let errors = self.errors;
+        let reset = self.reset;
+        put_taken(numbers);
+        put_errors(numbers, errors);
+        put_reset(numbers, reset);
     }
 }
 
-// What a tick logged.
-pub fn logged(errors: DllErrors, numbers: &mut Numbers)
-    ensures { numbers.new ≡ numbers_of (tick_answer (reported errors)) }
-{
-    put_taken(numbers);
-    put_errors(numbers, errors);
-}
+// The errors that a DLL event reports, and those that a tick logs, which stand in the same places.
+impl Told for DllErrors {
+    ghost says = { dll_says };
 
-// The errors that a DLL event reports stand where those stand that a tick logs.
-pub fn dll_event(answer: Result<DllErrors, Refusal>, numbers: &mut Numbers)
-    ensures { numbers.new ≡ numbers_of (dll_said answer) }
-{
-    match answer {
-        Ok(errors) => return logged(errors, numbers),
-        Err(refusal) => return declined(refusal, numbers),
+    fn put(self, numbers: &mut Numbers) {
+        put_taken(numbers);
+        put_errors(numbers, self);
     }
 }
 
-pub fn error(answer: Result<ErrorTaken, Refusal>, numbers: &mut Numbers)
-    ensures { numbers.new ≡ numbers_of (error_said answer) }
+impl Told for ErrorTaken {
+    ghost says = { error_says };
+
+    fn put(self, numbers: &mut Numbers) {
+        let action = self.action;
+        let logged = self.logged;
+        put_taken(numbers);
+        numbers[NODE] = node_asked(action);
+        numbers[ACTION] = action_number(action);
+        numbers[YES] = u64::from(self.signal);
+        put_errors(numbers, logged);
+    }
+}
+
+// Of a range: 1 at the place of the verdict, in the places of the states.
+impl Told for SocVerdict {
+    ghost says = { range_answer };
+
+    fn put(self, numbers: &mut Numbers) {
+        put_taken(numbers);
+        put_verdict(numbers, self);
+    }
+}
+
+// A margin: a signed number in two places, one for each sign.
+impl Told for i64 {
+    ghost says = { margin_answer };
+
+    fn put(self, numbers: &mut Numbers) {
+        put_taken(numbers);
+        put_margin(numbers, self);
+    }
+}
+
+// What a call answered.
+pub fn answer<T: Told>(answer: Result<T, Refusal>, numbers: &mut Numbers)
+    ensures { numbers.new ≡ numbers_of (answered T.says answer) }
 {
     match answer {
-        Ok(taken) => {
-            let action = taken.action;
-            let logged = taken.logged;
-            put_taken(numbers);
-            numbers[NODE] = node_asked(action);
-            numbers[ACTION] = action_number(action);
-            numbers[YES] = one(taken.signal);
-            return put_errors(numbers, logged);
-        }
-        Err(refusal) => return declined(refusal, numbers),
+        Ok(told) => told.put(numbers),
+        Err(refusal) => declined(refusal, numbers),
     }
 }
 
@@ -271,7 +302,7 @@ pub fn cycle(cleared: bool, numbers: &mut Numbers)
     ensures { numbers.new ≡ numbers_of (cycle_answer cleared) }
 {
     put_taken(numbers);
-    numbers[YES] = one(cleared);
+    numbers[YES] = u64::from(cleared);
 }
 
 // Whether there is an entry, whose bytes are written.
@@ -281,11 +312,11 @@ pub fn found(entry: Option<ErrorEntry>, bytes: &mut [u8; 20]) -> bool
     match entry {
         Some(entry) => {
             *bytes = entry.serialize();
-            return true;
+            true
         }
         None => {
             *bytes = [0; 20];
-            return false;
+            false
         }
     }
 }
@@ -295,7 +326,7 @@ pub fn handed_out(entry: Option<ErrorEntry>, numbers: &mut Numbers, bytes: &mut 
     ensures { (numbers.new ≡ numbers_of (hand_out_answer entry)) × (bytes.new ≡ bytes_of entry) }
 {
     put_taken(numbers);
-    numbers[YES] = one(found(entry, bytes));
+    numbers[YES] = u64::from(found(entry, bytes));
 }
 
 // Of a range: 1 at the place of the verdict, in the places of the states.
@@ -303,54 +334,18 @@ fn put_verdict(numbers: &mut Numbers, verdict: SocVerdict)
     ensures { numbers.new ≡ verdict_put numbers.old verdict }
 {
     match verdict {
-        SocVerdict::Lost => {
-            numbers[STATES] = 1;
-            return;
-        }
-        SocVerdict::Kept => {
-            numbers[STATES + 1] = 1;
-            return;
-        }
-        SocVerdict::Open => {
-            numbers[STATES + 2] = 1;
-            return;
-        }
+        SocVerdict::Lost => numbers[STATES] = 1,
+        SocVerdict::Kept => numbers[STATES + 1] = 1,
+        SocVerdict::Open => numbers[STATES + 2] = 1,
     }
 }
 
-// A clock that is known within a range.
-pub fn range(answer: Result<SocVerdict, Refusal>, numbers: &mut Numbers)
-    ensures { numbers.new ≡ numbers_of (range_said answer) }
-{
-    match answer {
-        Ok(verdict) => {
-            put_taken(numbers);
-            return put_verdict(numbers, verdict);
-        }
-        Err(refusal) => return declined(refusal, numbers),
-    }
-}
-
-// A signed number in two places, one for each sign. The least of its type has no opposite in it.
 fn put_margin(numbers: &mut Numbers, margin: i64)
     ensures { numbers.new ≡ margin_put numbers.old margin }
 {
     if margin < 0 {
-        numbers[STATES + 1] = (-1 - margin) as u64 + 1;
-        return;
-    }
-    numbers[STATES] = margin as u64;
-}
-
-// The margin of one reading.
-pub fn margin(answer: Result<i64, Refusal>, numbers: &mut Numbers)
-    ensures { numbers.new ≡ numbers_of (margin_said answer) }
-{
-    match answer {
-        Ok(margin) => {
-            put_taken(numbers);
-            return put_margin(numbers, margin);
-        }
-        Err(refusal) => return declined(refusal, numbers),
+        numbers[STATES + 1] = margin.unsigned_abs();
+    } else {
+        numbers[STATES] = margin as u64;
     }
 }

@@ -9,6 +9,10 @@ use lib.Dec.{eqb, ltb}
 use lib.ListN.{length, take, drop}
 use lib.Seq.{take_all}
 use borrow.Author.Tests.{ne_eqb, ltb-true, ltb-false}
+use Rattle.std.specs.Prelude.{MatchOption}
+use Rattle.std.specs.Option.{IsSomeAnd}
+use Rattle.types.specs.Pick.{pick}
+use Rattle.patterns.specs.Patterns.{kept}
 use Rattle.types.specs.States.{read_state}
 use Rattle.types.specs.Events.{read_command}
 use Rattle.types.specs.Kinds.{kind_behind}
@@ -20,8 +24,10 @@ use Rattle.entries.specs.Queue.{waiting}
 use Rattle.entries.specs.Desk.{Reply, write_reply, desk_after}
 use Rattle.entries.specs.declared.status_response.ErrorEntry.{ErrorEntry}
 use Rattle.std.specs.declared.result.Result.{Result}
+use Rattle.std.specs.declared.result.Result.TheVariants.{Ok, Err}
+use Rattle.types.specs.declared.frame.error.types.DllErrors.{DllErrors}
 use Rattle.std.specs.declared.option.Option.{Option}
-use Rattle.std.specs.declared.option.Option.TheVariants.{None}
+use Rattle.std.specs.declared.option.Option.TheVariants.{Some, None}
 use Rattle.types.specs.declared.refusals.Refusal.{Refusal}
 use Rattle.head.specs.declared.state.Dictionary.{Dictionary}
 use Rattle.head.specs.Words.{queue_of, head_of}
@@ -30,10 +36,11 @@ use Rattle.node.specs.declared.load.DictionaryUpdate.{DictionaryUpdate}
 use Rattle.node.specs.Plain.{Call, nmt_event, dll_event, error, cycle_complete, withdraw, hand_out, load, arm, range, margin, add, remove, Answer, refused, taken, nmt_answer, dll_answer, error_answer, cycle_answer, hand_out_answer, tick_answer, range_answer, margin_answer}
 use Rattle.node.specs.Run.{step}
 use Rattle.node.specs.Refines.{plain, Refines, left, history_update}
-use Rattle.node.specs.InPlace.{said}
+use Rattle.node.specs.InPlace.{said, dll_said}
+use Rattle.tick.specs.TickIn.{tick_said}
 use Rattle.start.specs.Started.{StartedIn}
 use Rattle.answers.specs.Numbers.{numbers_of}
-use Rattle.calls.specs.Values.{at, byte_of, word_of, dictionary_of, thresholds_of, updates_of}
+use Rattle.calls.specs.Values.{at, named, byte_of, word_of, dictionary_of, thresholds_of, updates_of}
 use Rattle.calls.specs.Calls.{head_call, load_call, change_call, Makes, Starts, state_numbers, command_numbers, kind_numbers, reading_numbers, write_numbers}
 
 module _ {ws q m ns ws' q' m' : List ℕ} {c : Call} {l : Run} where
@@ -43,6 +50,12 @@ module _ {ws q m ns ws' q' m' : List ℕ} {c : Call} {l : Run} where
   -- of a call that is the same one
   pub made_as : {d : Call} → c ≡ d → Makes ws q m c ns ws' q' m' l → Makes ws q m d ns ws' q' m' l
   made_as e t = subst (λ (x : Call). Makes ws q m x ns ws' q' m' l) e t
+
+-- the numbers of what a tick logs are those of what a DLL event reports
+pub ticked : (r : Result DllErrors Refusal) → numbers_of (dll_said r) ≡ numbers_of (tick_said r)
+unfolding numbers_of
+ticked (Ok es) = refl
+ticked (Err r) = refl
 
 -- the call of each key
 module _ (key : ℕ) (g : List ℕ) {n : ℕ} (first : n ≡ at g 0) where
@@ -166,3 +179,19 @@ module _ {ws vs ns ws' vs' : List ℕ} {k : ℕ} {named : Bool} {g : List ℕ} {
         started = subst (λ (X : Type 0). X) (λ i. StartedIn ws vs k (p₁ i) (p₂ i) (p₃ i) (p₄ i) (p₅ i) (p₆ i) a ws' vs') s;
         numbers = e;
       }
+
+-- a number that is named, as its value
+pub named_as :
+    {A : Type 0} (f : ℕ → A) (n : ℕ) {o : Option ℕ} {r : Option A} →
+    o ≡ named n →
+    MatchOption o (r ≡ None) (λ x. IsSomeAnd r (λ y. y ≡ f x)) →
+    r ≡ pick (eqb n kept) None (Some (f n))
+named_as {A = A} f n {o = o} {r = r} e m = by (eqb n kept) (subst (λ (o : Option ℕ). MatchOption o (r ≡ None) (λ x. IsSomeAnd r (λ y. y ≡ f x))) e m)
+  where
+    some : (r : Option A) → IsSomeAnd r (λ y. y ≡ f n) → r ≡ Some (f n)
+    some (Some y) p = ap Some p
+    some None p = absurd p
+
+    by : (b : Bool) → MatchOption (pick b None (Some n)) (r ≡ None) (λ x. IsSomeAnd r (λ y. y ≡ f x)) → r ≡ pick b None (Some (f n))
+    by true m = m
+    by false m = some r m

@@ -58,6 +58,11 @@ pub record Starts (ws vs : List ℕ) (k : ℕ) (named : Bool) (g ns ws' vs' : Li
 abbrev pub read_numbers : ℕ → List ℕ
 read_numbers n = set (numbers_of taken) 4 n
 
+-- the number of what was read
+abbrev pub result_numbers : Result ℕ Refusal → List ℕ
+result_numbers (Ok n) = read_numbers n
+result_numbers (Err r) = numbers_of (refused (refusal_number r))
+
 abbrev pub state_numbers : Result NmtState Refusal → List ℕ
 state_numbers (Ok s) = read_numbers (state_number s)
 state_numbers (Err r) = numbers_of (refused (refusal_number r))

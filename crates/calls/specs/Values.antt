@@ -61,6 +61,10 @@ named_thresholds ns =
 abbrev pub thresholds_of : Bool → List ℕ → Thresholds
 thresholds_of named ns = pick named (named_thresholds ns) (same_for_all 15)
 
+-- a number that a load names
+abbrev pub named : ℕ → Option ℕ
+named n = pick (eqb n kept) None (Some n)
+
 abbrev pub byte_update : ℕ → Option ℕ
 byte_update n = pick (eqb n kept) None (Some (byte_of n))
 

@@ -1,6 +1,6 @@
 // The numbers of a line as the values that its call takes.
 ghost use Rattle.std.specs.Prelude.{◌≡◌, ◌≤◌};
-ghost use Rattle.calls.specs.Values.{at, byte_of, half_of, word_of, object_of, dictionary_of, named_thresholds, thresholds_of, byte_update, counter_update, object_update, updates_of, entry_of};
+ghost use Rattle.calls.specs.Values.{at, byte_of, half_of, word_of, object_of, dictionary_of, named_thresholds, thresholds_of, named, updates_of, entry_of};
 ghost use Rattle.entries.specs.Entry.{mode_of};
 
 use answers::NOTHING;
@@ -10,13 +10,6 @@ use head::state::Dictionary;
 use node::load::DictionaryUpdate;
 use patterns::{Given, KEPT};
 use types::common::NetTime;
-
-pub(crate) fn number(given: Given, place: usize) -> u64
-    requires { place ≤ 17 }
-    ensures { result ≡ at given place }
-{
-    given[place]
-}
 
 // A number that was read as one of 8 bits.
 pub(crate) fn byte(n: u64) -> u8
@@ -42,26 +35,23 @@ pub(crate) fn word(n: u64) -> u32
 fn object(n: u64) -> Option<u32>
     ensures { result ≡ object_of n }
 {
-    if n == NOTHING {
-        return None;
-    }
-    Some(word(n))
+    (n != NOTHING).then_some(word(n))
 }
 
 // The dictionary values of a start.
 pub(crate) fn dictionary(given: Given) -> Dictionary
     ensures { result ≡ dictionary_of given }
 {
-    let cycle_time = object(number(given, 5));
-    let tolerance = object(number(given, 6));
+    let cycle_time = object(given[5]);
+    let tolerance = object(given[6]);
     Dictionary {
-        error_register: byte(number(given, 4)),
+        error_register: byte(given[4]),
         cycle_time,
         tolerance,
-        counter_1: word(number(given, 7)),
-        counter_2: word(number(given, 8)),
-        counter_3: word(number(given, 9)),
-        counter_5: word(number(given, 10)),
+        counter_1: word(given[7]),
+        counter_2: word(given[8]),
+        counter_3: word(given[9]),
+        counter_5: word(given[10]),
     }
 }
 
@@ -70,13 +60,13 @@ fn named_thresholds(given: Given) -> Thresholds
     ensures { result ≡ named_thresholds given }
 {
     Thresholds {
-        collision: word(number(given, 11)),
-        loss_of_soc: word(number(given, 12)),
-        loss_of_soa: word(number(given, 13)),
-        loss_of_preq: word(number(given, 14)),
-        soc_jitter: word(number(given, 15)),
-        crc_errors: word(number(given, 16)),
-        heartbeat_timeout: word(number(given, 17)),
+        collision: word(given[11]),
+        loss_of_soc: word(given[12]),
+        loss_of_soa: word(given[13]),
+        loss_of_preq: word(given[14]),
+        soc_jitter: word(given[15]),
+        crc_errors: word(given[16]),
+        heartbeat_timeout: word(given[17]),
     }
 }
 
@@ -85,49 +75,30 @@ pub(crate) fn thresholds(named: bool, given: Given) -> Thresholds
     ensures { result ≡ thresholds_of named given }
 {
     if named {
-        return named_thresholds(given);
+        named_thresholds(given)
+    } else {
+        Thresholds::same_for_all(15)
     }
-    Thresholds::same_for_all(15)
 }
 
-fn byte_update(n: u64) -> Option<u8>
-    ensures { result ≡ byte_update n }
+// A number that a load names.
+fn named(n: u64) -> Option<u64>
+    ensures { result ≡ named n }
 {
-    if n == KEPT {
-        return None;
-    }
-    Some(byte(n))
-}
-
-fn counter_update(n: u64) -> Option<u32>
-    ensures { result ≡ counter_update n }
-{
-    if n == KEPT {
-        return None;
-    }
-    Some(word(n))
-}
-
-fn object_update(n: u64) -> Option<Option<u32>>
-    ensures { result ≡ object_update n }
-{
-    if n == KEPT {
-        return None;
-    }
-    Some(object(n))
+    (n != KEPT).then_some(n)
 }
 
 // What a load names.
 pub(crate) fn updates(given: Given) -> DictionaryUpdate
     ensures { result ≡ updates_of given }
 {
-    let error_register = byte_update(number(given, 0));
-    let cycle_time = object_update(number(given, 1));
-    let tolerance = object_update(number(given, 2));
-    let counter_1 = counter_update(number(given, 3));
-    let counter_2 = counter_update(number(given, 4));
-    let counter_3 = counter_update(number(given, 5));
-    let counter_5 = counter_update(number(given, 6));
+    let error_register = named(given[0]).map(byte);
+    let cycle_time = named(given[1]).map(object);
+    let tolerance = named(given[2]).map(object);
+    let counter_1 = named(given[3]).map(word);
+    let counter_2 = named(given[4]).map(word);
+    let counter_3 = named(given[5]).map(word);
+    let counter_5 = named(given[6]).map(word);
     DictionaryUpdate {
         error_register,
         cycle_time,
@@ -151,20 +122,20 @@ fn mode_of(n: u64) -> ErrorEntryMode
 pub(crate) fn entry_of(given: Given) -> ErrorEntry
     ensures { result ≡ entry_of given }
 {
-    let mode = mode_of(number(given, 3));
+    let mode = mode_of(given[3]);
     let entry_type = EntryType {
-        is_status_entry: number(given, 1) == 1,
-        send_to_queue: number(given, 2) == 1,
+        is_status_entry: given[1] == 1,
+        send_to_queue: given[2] == 1,
         mode,
-        profile: half(number(given, 4)),
+        profile: half(given[4]),
     };
     ErrorEntry {
         entry_type,
-        error_code: half(number(given, 5)),
+        error_code: half(given[5]),
         timestamp: NetTime {
-            seconds: word(number(given, 6)),
-            nanoseconds: word(number(given, 7)),
+            seconds: word(given[6]),
+            nanoseconds: word(given[7]),
         },
-        additional_information: number(given, 8),
+        additional_information: given[8],
     }
 }

@@ -52,14 +52,23 @@ answered says (Err r) = refused (refusal_number r)
 abbrev pub said : Result (Unit {0}) Refusal → Answer
 said = answered (λ (_ : Unit {0}). taken)
 
+abbrev pub nmt_says : NmtTaken → Answer
+nmt_says t = nmt_answer (reported t.errors) (passed t.reset)
+
 abbrev pub nmt_said : Result NmtTaken Refusal → Answer
-nmt_said = answered (λ (t : NmtTaken). nmt_answer (reported t.errors) (passed t.reset))
+nmt_said = answered nmt_says
+
+abbrev pub dll_says : DllErrors → Answer
+dll_says es = dll_answer (reported es)
 
 abbrev pub dll_said : Result DllErrors Refusal → Answer
-dll_said = answered (λ (es : DllErrors). dll_answer (reported es))
+dll_said = answered dll_says
+
+abbrev pub error_says : ErrorTaken → Answer
+error_says t = error_answer t.action t.signal (reported t.logged)
 
 abbrev pub error_said : Result ErrorTaken Refusal → Answer
-error_said = answered (λ (t : ErrorTaken). error_answer t.action t.signal (reported t.logged))
+error_said = answered error_says
 
 abbrev pub range_said : Result SocVerdict Refusal → Answer
 range_said = answered range_answer

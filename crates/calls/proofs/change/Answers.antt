@@ -1,20 +1,19 @@
 -- `calls::change` meets its contract: the call, and its numbers.
 -- Assumes nothing.
-use mathlib.Core.Path.{ap, ◌∙◌}
+use mathlib.Core.Path.{refl}
 use Rattle.watched.specs.Watched.{run}
 use Rattle.watched.specs.Nodes.{nodes_of}
-use Rattle.calls.specs.Values.{byte_of}
 use Rattle.calls.proofs.Making.{made, made_as, call_add, call_remove}
 use Rattle.calls.proofs.change.Goals as goal
 
 pub returns-then-adds : goal.returns-then-adds
 returns-then-adds c q m =
     let a = c.args in
-    made_as (call_add a.given (run (nodes_of a.nodes.now) a.count.now) (c.byte-node.ensures ∙ ap byte_of c.number.ensures) c.if-adds.true c.number-then-adds.ensures)
-    (made (c.add-said.ensures.on.refines q m) c.call.ensures)
+    made_as (call_add a.given (run (nodes_of a.nodes.now) a.count.now) c.byte-node.ensures c.if-adds.true refl)
+    (made (c.add-said.ensures.on.refines q m) c.answer.ensures)
 
 pub returns : goal.returns
 returns c q m =
     let a = c.args in
-    made_as (call_remove a.given (run (nodes_of a.nodes.now) a.count.now) (c.byte-node.ensures ∙ ap byte_of c.number.ensures) c.if-adds.false)
-    (made (c.remove-said.ensures.on.refines q m) c.call-2.ensures)
+    made_as (call_remove a.given (run (nodes_of a.nodes.now) a.count.now) c.byte-node.ensures c.if-adds.false)
+    (made (c.remove-said.ensures.on.refines q m) c.answer-2.ensures)

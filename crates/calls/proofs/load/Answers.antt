@@ -1,10 +1,11 @@
 -- `calls::load` meets its contract: the call with the first bytes; it is never declined.
 -- Assumes nothing.
+use mathlib.Core.Path.{refl}
 use Rattle.calls.proofs.Making.{made, made_as, call_load}
 use Rattle.calls.proofs.load.Goals as goal
 
 pub returns : goal.returns
 returns c q =
     let a = c.args in
-    made_as (call_load a.given a.bytes.now c.updates.result c.number-size.result c.cut-to.result c.updates.ensures c.number-size.ensures c.cut-to.ensures)
-    (made (c.load.ensures.refines q) c.call.ensures)
+    made_as (call_load a.given a.bytes.now c.updates.result _ c.min-to.result c.updates.ensures refl c.min-to.ensures)
+    (made (c.load.ensures.refines q) c.answer.ensures)

@@ -1,46 +1,45 @@
--- `calls::on_head` meets its contract: each key's call.
+-- `calls::on_head` meets its contract: the call of each key, and any other.
 -- Assumes nothing.
-use mathlib.Core.Path.{ap, ◌∙◌}
-use Rattle.calls.specs.Values.{byte_of}
-use Rattle.calls.proofs.Making.{made_as, call_n, call_d, call_e, call_c, call_w, call_g, call_m, call_else}
+use mathlib.Core.Path.{refl}
+use Rattle.calls.proofs.Making.{made, made_as, call_n, call_d, call_e, call_c, call_w, call_g, call_m, call_else}
 use Rattle.calls.proofs.on_head.Goals as goal
 
-pub returns-then-key-eq110 : goal.returns-then-key-eq110
-returns-then-key-eq110 c q m =
+pub returns-in-110 : goal.returns-in-110
+returns-in-110 c q m =
     let a = c.args in
-    made_as (call_n a.key a.given c.number-n.ensures c.if-key-eq110.true) (c.nmt_event.ensures q m)
+    made_as (call_n a.key a.given refl c.in-110.is) (made (c.nmt_event.ensures.refines q m) c.answer.ensures)
 
-pub returns-then-key-eq100 : goal.returns-then-key-eq100
-returns-then-key-eq100 c q m =
+pub returns-in-100 : goal.returns-in-100
+returns-in-100 c q m =
     let a = c.args in
-    made_as (call_d a.key a.given c.number-n.ensures c.if-key-eq100.true c.number.ensures) (c.dll_event.ensures q m)
+    made_as (call_d a.key a.given refl c.in-100.is refl) (made (c.dll_event.ensures.refines q m) c.answer-in-100.ensures)
 
-pub returns-then-key-eq101 : goal.returns-then-key-eq101
-returns-then-key-eq101 c q m =
+pub returns-in-101 : goal.returns-in-101
+returns-in-101 c q m =
     let a = c.args in
-    made_as (call_e a.key a.given c.number-n.ensures c.if-key-eq101.true (c.byte-a.ensures ∙ ap byte_of c.number-then-key-eq101.ensures) (c.byte-b.ensures ∙ ap byte_of c.number-then-key-eq101-2.ensures)) (c.error.ensures q m)
+    made_as (call_e a.key a.given refl c.in-101.is c.byte.ensures c.byte-in-101.ensures) (made (c.handle_error.ensures.refines q m) c.answer-in-101.ensures)
 
-pub returns-then-key-eq99 : goal.returns-then-key-eq99
-returns-then-key-eq99 c q m =
+pub returns-in-99 : goal.returns-in-99
+returns-in-99 c q m =
     let a = c.args in
-    made_as (call_c a.key a.given c.if-key-eq99.true) (c.cycle.ensures q m)
+    made_as (call_c a.key a.given c.in-99.is) (made (c.on_cycle_complete.ensures.refines q m) c.cycle.ensures)
 
-pub returns-then-key-eq119 : goal.returns-then-key-eq119
-returns-then-key-eq119 c q m =
+pub returns-in-119 : goal.returns-in-119
+returns-in-119 c q m =
     let a = c.args in
-    made_as (call_w a.key a.given c.if-key-eq119.true) (c.withdraw.ensures q m)
+    made_as (call_w a.key a.given c.in-119.is) (made (c.withdraw.ensures.refines q m) c.answer-in-119.ensures)
 
-pub returns-then-key-eq103 : goal.returns-then-key-eq103
-returns-then-key-eq103 c q m =
+pub returns-in-103 : goal.returns-in-103
+returns-in-103 c q m =
     let a = c.args in
-    made_as (call_g a.key a.given c.number-n.ensures c.if-key-eq103.true c.number-then-key-eq103.ensures) (c.range.ensures q m)
+    made_as (call_g a.key a.given refl c.in-103.is refl) (made (c.soc_range.ensures.refines q m) c.answer-in-103.ensures)
 
-pub returns-then-key-eq109 : goal.returns-then-key-eq109
-returns-then-key-eq109 c q m =
+pub returns-in-109 : goal.returns-in-109
+returns-in-109 c q m =
     let a = c.args in
-    made_as (call_m a.key a.given c.number-n.ensures c.if-key-eq109.true) (c.margin.ensures q m)
+    made_as (call_m a.key a.given refl c.in-109.is) (made (c.soc_margin.ensures.refines q m) c.answer-in-109.ensures)
 
-pub returns : goal.returns
-returns c q m =
+pub returns-in_default : goal.returns-in_default
+returns-in_default c q m =
     let a = c.args in
-    made_as (call_else a.key a.given c.number-n.ensures c.if-key-eq110.false c.if-key-eq100.false c.if-key-eq101.false c.if-key-eq99.false c.if-key-eq119.false c.if-key-eq103.false c.if-key-eq109.false) (c.arm.ensures q m)
+    made_as (call_else a.key a.given refl c.in_default.in_default-own.rest.0.0.0.0.0.0.1 c.in_default.in_default-own.rest.0.0.0.0.0.1 c.in_default.in_default-own.rest.0.0.0.0.1 c.in_default.in_default-own.rest.0.0.0.1 c.in_default.in_default-own.rest.0.0.1 c.in_default.in_default-own.rest.0.1 c.in_default.in_default-own.rest.1) (made (c.arm.ensures.refines q m) c.answer-in_default.ensures)
