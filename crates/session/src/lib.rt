@@ -3,8 +3,8 @@
 // the node words that a call is lent.
 #![tactic(auto)]
 
-ghost use Rattle.std.specs.Prelude.{◌≡◌, ◌≤◌, ◌<◌, min};
-ghost use Rattle.session.specs.Session.{key_after, lent_number, with_run, most, record_put, record_at, behind_of, end_of, arranged, watched_by, arranged_by};
+ghost use Rattle.std.specs.Prelude.{◌≡◌, false, ◌+◌, ◌*◌, ◌≤◌, ◌<◌, max, length, replicate};
+ghost use Rattle.session.specs.Session.{key_after, lent_number, with_run, places, record_put, put_at, record_at, three, behind_of, end_of, arranged, watched_by, arranged_by};
 
 use patterns::Given;
 use watched::nodes::NodeWords;
@@ -12,8 +12,12 @@ use watched::nodes::NodeWords;
 // The key of a line that can't be read or played.
 pub const NO_LINE: u8 = b'?';
 
-// What stands behind the first 32 places.
-pub type Rest = [u64; 24];
+// The places of a run: those that a call is lent, and those behind them.
+#[derive(Drop)]
+pub struct Places {
+    pub nodes: NodeWords,
+    pub rest: [u64; 24],
+}
 
 #[derive(Clone, Copy)]
 pub struct Session {
@@ -26,134 +30,24 @@ pub struct Session {
     pub desk: usize,
 }
 
-// A line that can't be: one that needs a head before the first accepted start (these have small letters for keys), and a watch
-// where there is no more room.
-pub fn key_after(session: Session, key: u8) -> u8
-    ensures { result ≡ key_after session key }
-{
-    match key {
-        b'a'..=b'z' => {
-            if session.started {
-                return key;
-            }
-            NO_LINE
-        }
-        b'W' => {
-            if session.number < 40 {
-                return key;
-            }
-            NO_LINE
-        }
-        _ => key,
-    }
-}
-
-// The number that a call is lent. It is lent 32 places whatever the script says, so of another number of them this is one that number 3 declines too.
-pub fn lent(session: Session) -> usize
-    ensures { result ≡ lent_number session }
-{
-    if session.places == 32 {
-        return session.number;
-    }
-    33
-}
-
-// The smaller number.
-pub fn least(a: usize, b: usize) -> usize
-    ensures { result ≡ min a b }
-{
-    if a < b { a } else { b }
-}
-
-// So many nodes are watched, and at least so many places lent.
-fn with_number(session: Session, number: usize) -> Session
-    ensures { result ≡ with_run session (most session.places number) number }
-{
-    let mut next = session;
-    next.number = number;
-    if session.places < number {
-        next.places = number;
-        return next;
-    }
-    next
-}
-
 // Writes the record of a watch.
-fn put_node(nodes: &mut NodeWords, place: usize, given: Given)
-    requires { place < 32 }
-    ensures { nodes.new ≡ record_put nodes.old place given }
+fn put(words: &mut [u64], place: usize, given: Given)
+    requires { 3 * place + 2 < length words.old }
+    ensures { words.new ≡ record_put words.old place given }
 {
     let at = 3 * place;
-    nodes[at] = given[0];
-    nodes[at + 1] = given[1];
-    nodes[at + 2] = given[2];
+    words[at] = given[0];
+    words[at + 1] = given[1];
+    words[at + 2] = given[2];
 }
 
-fn put_rest(rest: &mut Rest, place: usize, given: Given)
-    requires { place < 8 }
-    ensures { rest.new ≡ record_put rest.old place given }
+// The record at a place.
+fn words_at(words: &[u64], place: usize) -> [u64; 3]
+    requires { 3 * place + 2 < length words.now }
+    ensures { result ≡ three words.now (3 * place) }
 {
     let at = 3 * place;
-    rest[at] = given[0];
-    rest[at + 1] = given[1];
-    rest[at + 2] = given[2];
-}
-
-// Puts the record of a watch behind those watched, where there is a place.
-fn watch(session: Session, given: Given, nodes: &mut NodeWords, rest: &mut Rest) -> Session
-    ensures { arranged result nodes.new rest.new ≡ watched_by session given nodes.old rest.old }
-{
-    let number = session.number;
-    if number < 32 {
-        put_node(nodes, number, given);
-        return with_number(session, number + 1);
-    }
-    if number < 40 {
-        put_rest(rest, number - 32, given);
-        return with_number(session, number + 1);
-    }
-    with_number(session, number)
-}
-
-// A line that is no call: an unwatch, a watch or a lend.
-pub fn arrange(
-    session: Session,
-    key: u8,
-    given: Given,
-    nodes: &mut NodeWords,
-    rest: &mut Rest,
-) -> Session
-    ensures { arranged result nodes.new rest.new ≡ arranged_by session key given nodes.old rest.old }
-{
-    let mut next = session;
-    if key == b'U' {
-        *nodes = [0; 96];
-        *rest = [0; 24];
-        next.places = 32;
-        next.number = 0;
-        return next;
-    }
-    if key == b'W' {
-        return watch(session, given, nodes, rest);
-    }
-    next.places = given[0] as usize;
-    next.number = given[1] as usize;
-    next
-}
-
-// The record at a place; behind the 40th they are zeros.
-pub fn record(nodes: &NodeWords, rest: &Rest, place: usize) -> [u64; 3]
-    ensures { result ≡ record_at nodes.now rest.now place }
-{
-    if place < 32 {
-        let at = 3 * place;
-        return [nodes[at], nodes[at + 1], nodes[at + 2]];
-    }
-    if place < 40 {
-        let at = 3 * (place - 32);
-        return [rest[at], rest[at + 1], rest[at + 2]];
-    }
-    [0; 3]
+    [words[at], words[at + 1], words[at + 2]]
 }
 
 // The place behind a record that is not all zeros; else the one behind those before it.
@@ -161,26 +55,133 @@ fn behind(words: [u64; 3], place: usize, end: usize) -> usize
     requires { (place < 40) × (end ≤ 40) }
     ensures { (result ≡ behind_of words place end) × (result ≤ 40) }
 {
-    if words[0] != 0 {
-        return place + 1;
+    if words[0] == 0 && words[1] == 0 && words[2] == 0 {
+        end
+    } else {
+        place + 1
     }
-    if words[1] != 0 {
-        return place + 1;
-    }
-    if words[2] != 0 {
-        return place + 1;
-    }
-    end
 }
 
-// The place behind the last record from one place to another, of 40, that is not all zeros.
-pub fn end_of(nodes: &NodeWords, rest: &Rest, from: usize, to: usize) -> usize
-    ensures { (result ≡ end_of nodes.now rest.now from to) × (result ≤ 40) }
-{
-    let last = least(to, 40);
-    let mut end = least(from, 40);
-    for place in from..last {
-        end = behind(record(nodes, rest, place), place, end);
+impl Places {
+    pub fn new() -> Places
+        ensures { result ≡ places (replicate 96 0) (replicate 24 0) }
+    {
+        Places {
+            nodes: [0; 96],
+            rest: [0; 24],
+        }
     }
-    end
+
+    // Writes the record of a watch.
+    fn put(&mut self, place: usize, given: Given)
+        requires { place < 40 }
+        ensures { self.new ≡ put_at self.old place given }
+    {
+        if place < 32 {
+            put(&mut self.nodes, place, given)
+        } else {
+            put(&mut self.rest, place - 32, given)
+        }
+    }
+
+    // The record at a place; behind the 40th they are zeros.
+    pub fn record(&self, place: usize) -> [u64; 3]
+        ensures { result ≡ record_at self.now place }
+    {
+        if place < 32 {
+            words_at(&self.nodes, place)
+        } else if place < 40 {
+            words_at(&self.rest, place - 32)
+        } else {
+            [0; 3]
+        }
+    }
+
+    // The place behind the last record from one place to another, of 40, that is not all zeros.
+    pub fn end_of(&self, from: usize, to: usize) -> usize
+        ensures { (result ≡ end_of self.now from to) × (result ≤ 40) }
+    {
+        let mut end = from.min(40);
+        for place in from..to.min(40) {
+            end = behind(self.record(place), place, end);
+        }
+        end
+    }
+}
+
+impl Session {
+    // A script begins with 32 places, of which none is watched.
+    pub fn new() -> Session
+        ensures { result ≡ record { started = false; places = 32; number = 0; desk = 0 } }
+    {
+        Session {
+            started: false,
+            places: 32,
+            number: 0,
+            desk: 0,
+        }
+    }
+
+    // A line that can't be: one that needs a head before the first accepted start (these have small letters for keys), and a watch
+    // where there is no more room.
+    pub fn key_after(self, key: u8) -> u8
+        ensures { result ≡ key_after self key }
+    {
+        match key {
+            b'a'..=b'z' => { if self.started { key } else { NO_LINE } }
+            b'W' => { if self.number < 40 { key } else { NO_LINE } }
+            _ => key,
+        }
+    }
+
+    // The number that a call is lent. It is lent 32 places whatever the script says, so of another number of them this is one that number 3 declines too.
+    pub fn lent(self) -> usize
+        ensures { result ≡ lent_number self }
+    {
+        if self.places == 32 { self.number } else { 33 }
+    }
+
+    // So many nodes are watched, and at least so many places lent.
+    fn with_number(self, number: usize) -> Session
+        ensures { result ≡ with_run self (max self.places number) number }
+    {
+        Session {
+            number,
+            places: self.places.max(number),
+            ..self
+        }
+    }
+
+    // Puts the record of a watch behind those watched, where there is a place.
+    fn watch(self, given: Given, places: &mut Places) -> Session
+        ensures { arranged result places.new ≡ watched_by self given places.old }
+    {
+        if self.number < 40 {
+            places.put(self.number, given);
+            return self.with_number(self.number + 1);
+        }
+        self.with_number(self.number)
+    }
+
+    // A line that is no call: an unwatch, a watch or a lend.
+    pub fn arrange(self, key: u8, given: Given, places: &mut Places) -> Session
+        ensures { arranged result places.new ≡ arranged_by self key given places.old }
+    {
+        match key {
+            b'U' => {
+                *places = Places::new();
+                Session {
+                    places: 32,
+                    number: 0,
+                    ..self
+                }
+            }
+            b'W' => self.watch(given, places),
+            _ => Session {
+                places: given[0] as usize,
+                number: given[1] as usize,
+                ..self
+            },
+        }
+    }
 }
