@@ -6,7 +6,7 @@ use Rattle.types.specs.States.{state_number}
 use Rattle.dll.specs.Dll.{cs_state_number}
 use Rattle.counters.specs.declared.counters.ThresholdCounter.{ThresholdCounter}
 use Rattle.counters.specs.declared.counters.CnErrorCounters.{CnErrorCounters}
-use Rattle.entries.specs.Entry.{mode_number}
+use Rattle.entries.specs.Entry.{mode_number, entry_bytes}
 use Rattle.entries.specs.Desk.{Reply}
 use Rattle.entries.specs.declared.status_response.ErrorEntry.{ErrorEntry}
 use Rattle.head.specs.Head.{Head}
@@ -15,13 +15,10 @@ use Rattle.std.specs.declared.option.Option.{Option}
 use Rattle.std.specs.declared.option.Option.TheVariants.{Some, None}
 use Rattle.answers.specs.Numbers.{nothing}
 
-abbrev pub deadline_number : Option ℕ → ℕ
-deadline_number (Some t) = t
-deadline_number None = nothing
-
-abbrev pub object_number : Option ℕ → ℕ
-object_number (Some n) = n
-object_number None = nothing
+-- a moment or a value
+abbrev pub number_of : Option ℕ → ℕ
+number_of (Some n) = n
+number_of None = nothing
 
 -- NMT: state, enabled, ready, node, flags, timeout; then the DLL state
 abbrev pub machines_shown : Head → List ℕ
@@ -48,13 +45,13 @@ counters_shown h =
 -- the last SoC, whether the check is on, the deadline, whether the error status changed
 abbrev pub soc_shown : Head → List ℕ
 soc_shown h =
-    h.soc.last_soc_reception_time_us ∷ one h.soc.soc_timeout_check_active ∷ deadline_number h.soc.next_tick_us
+    h.soc.last_soc_reception_time_us ∷ one h.soc.soc_timeout_check_active ∷ number_of h.soc.next_tick_us
     ∷ one h.soc.error_status_changed ∷ []
 
 -- the register, cycle and tolerance, the four counters; then the queue's capacity
 abbrev pub dictionary_shown : Head → List ℕ
 dictionary_shown h =
-    h.od.error_register ∷ object_number h.od.cycle_time ∷ object_number h.od.tolerance ∷ h.od.counter_1 ∷ h.od.counter_2
+    h.od.error_register ∷ number_of h.od.cycle_time ∷ number_of h.od.tolerance ∷ h.od.counter_1 ∷ h.od.counter_2
     ∷ h.od.counter_3 ∷ h.od.counter_5 ∷ h.queue.capacity ∷ []
 
 -- the lines of a head up to its queue
@@ -63,7 +60,7 @@ parts_shown h = machines_shown h ++ counters_shown h ++ soc_shown h ++ dictionar
 
 -- the earliest moment at which a watched node would be late, and the crossings
 abbrev pub crossings_shown : Head → List ℕ
-crossings_shown h = deadline_number h.earliest ∷ of_each (λ (c : ThresholdCounter). c.crossings_cnt) h.errors
+crossings_shown h = number_of h.earliest ∷ of_each (λ (c : ThresholdCounter). c.crossings_cnt) h.errors
 
 abbrev pub thresholds_shown : Head → List ℕ
 thresholds_shown h = of_each (λ (c : ThresholdCounter). c.threshold) h.errors
@@ -79,7 +76,7 @@ abbrev pub reply_shown : Reply ErrorEntry → List ℕ
 reply_shown (Reply.turned_away n) = replicate 8 0
 reply_shown (Reply.gives e) = entry_shown e
 
--- of the watched nodes as bits: the number that turned them away, or 0, and the number of nodes
-abbrev pub bits_shown : Reply ℕ → List ℕ
-bits_shown (Reply.turned_away n) = n ∷ 0 ∷ []
-bits_shown (Reply.gives n) = 0 ∷ n ∷ []
+-- the 20 bytes of an entry that is there
+abbrev pub bytes_shown : Option ErrorEntry → Option (List ℕ)
+bytes_shown (Some e) = Some (entry_bytes e)
+bytes_shown None = None

@@ -1,17 +1,13 @@
 // The numbers that a head shows, in the order of their lines, and those of an entry. specs/Shown.antt says which.
-#![tactic(auto)]
+#![tactic(auto, unfolding(head::specs::Words::head_of))]
 
 ghost use Rattle.std.specs.Prelude.{◌≡◌};
-ghost use Rattle.head.specs.Words.{one, queue_of, history_of, head_of};
+ghost use Rattle.head.specs.Words.{queue_of, history_of, head_of};
 ghost use Rattle.entries.specs.Desk.{read_reply};
 ghost use Rattle.entries.specs.Ring.{nth};
 ghost use Rattle.entries.specs.Queue.{waiting};
 ghost use Rattle.entries.specs.History.{history};
-ghost use Rattle.watched.specs.Watched.{watched_of};
-ghost use Rattle.watched.specs.Nodes.{nodes_of};
-ghost use Rattle.bitmap.specs.Bitmap.{bitmap_reply, bytes_after};
-ghost use Rattle.answers.specs.Numbers.{is_found, bytes_of};
-ghost use Rattle.shown.specs.Shown.{deadline_number, object_number, machines_shown, counters_shown, soc_shown, dictionary_shown, parts_shown, crossings_shown, thresholds_shown, entry_shown, reply_shown, bits_shown};
+ghost use Rattle.shown.specs.Shown.{machines_shown, counters_shown, soc_shown, dictionary_shown, parts_shown, crossings_shown, thresholds_shown, entry_shown, reply_shown, bytes_shown};
 
 pub mod forms;
 
@@ -20,19 +16,6 @@ use entries::desk::read_at;
 use entries::status_response::ErrorEntry;
 use head::parts::{dll_of, earliest_of, errors_of, history_of, nmt_of, od_of, queue_of, soc_of};
 use head::state::Head;
-use watched::nodes::NodeWords;
-
-fn one(x: bool) -> u64
-    ensures { result ≡ one x }
-{
-    if x { 1 } else { 0 }
-}
-
-fn wide(n: u32) -> u64
-    ensures { result ≡ n }
-{
-    n as u64
-}
 
 // The two state machines.
 fn machines(head: &Head) -> [u64; 7]
@@ -42,13 +25,13 @@ fn machines(head: &Head) -> [u64; 7]
     let state = nmt.current_state;
     let dll = dll_of(head).current_state();
     [
-        state.as_u8() as u64,
-        one(nmt.ready_to_operate_enabled),
-        one(nmt.app_ready),
-        nmt.node_id.0 as u64,
-        wide(nmt.feature_flags.0),
-        wide(nmt.basic_ethernet_timeout),
-        dll.as_u8() as u64,
+        u64::from(state.as_u8()),
+        u64::from(nmt.ready_to_operate_enabled),
+        u64::from(nmt.app_ready),
+        u64::from(nmt.node_id.0),
+        u64::from(nmt.feature_flags.0),
+        u64::from(nmt.basic_ethernet_timeout),
+        u64::from(dll.as_u8()),
     ]
 }
 
@@ -58,31 +41,22 @@ fn counters(head: &Head) -> [u64; 15]
 {
     let counters = errors_of(head);
     [
-        wide(counters.collision.threshold_cnt),
-        wide(counters.collision.cumulative_cnt),
-        wide(counters.loss_of_soc.threshold_cnt),
-        wide(counters.loss_of_soc.cumulative_cnt),
-        wide(counters.loss_of_soa.threshold_cnt),
-        wide(counters.loss_of_soa.cumulative_cnt),
-        wide(counters.loss_of_preq.threshold_cnt),
-        wide(counters.loss_of_preq.cumulative_cnt),
-        wide(counters.soc_jitter.threshold_cnt),
-        wide(counters.soc_jitter.cumulative_cnt),
-        wide(counters.crc_errors.threshold_cnt),
-        wide(counters.crc_errors.cumulative_cnt),
-        wide(counters.heartbeat_timeout.threshold_cnt),
-        wide(counters.heartbeat_timeout.cumulative_cnt),
-        wide(counters.loss_of_link_cumulative),
+        u64::from(counters.collision.threshold_cnt),
+        u64::from(counters.collision.cumulative_cnt),
+        u64::from(counters.loss_of_soc.threshold_cnt),
+        u64::from(counters.loss_of_soc.cumulative_cnt),
+        u64::from(counters.loss_of_soa.threshold_cnt),
+        u64::from(counters.loss_of_soa.cumulative_cnt),
+        u64::from(counters.loss_of_preq.threshold_cnt),
+        u64::from(counters.loss_of_preq.cumulative_cnt),
+        u64::from(counters.soc_jitter.threshold_cnt),
+        u64::from(counters.soc_jitter.cumulative_cnt),
+        u64::from(counters.crc_errors.threshold_cnt),
+        u64::from(counters.crc_errors.cumulative_cnt),
+        u64::from(counters.heartbeat_timeout.threshold_cnt),
+        u64::from(counters.heartbeat_timeout.cumulative_cnt),
+        u64::from(counters.loss_of_link_cumulative),
     ]
-}
-
-fn deadline_number(deadline: Option<u64>) -> u64
-    ensures { result ≡ deadline_number deadline }
-{
-    match deadline {
-        Some(time) => time,
-        None => NOTHING,
-    }
 }
 
 // The watch over the cycle.
@@ -90,22 +64,12 @@ fn soc(head: &Head) -> [u64; 4]
     ensures { result ≡ soc_shown (head_of head.now) }
 {
     let soc = soc_of(head);
-    let deadline = soc.next_tick_us;
     [
         soc.last_soc_reception_time_us,
-        one(soc.soc_timeout_check_active),
-        deadline_number(deadline),
-        one(soc.error_status_changed),
+        u64::from(soc.soc_timeout_check_active),
+        soc.next_tick_us.unwrap_or(NOTHING),
+        u64::from(soc.error_status_changed),
     ]
-}
-
-fn object_number(value: Option<u32>) -> u64
-    ensures { result ≡ object_number value }
-{
-    match value {
-        Some(n) => n as u64,
-        None => NOTHING,
-    }
 }
 
 // The values of the dictionary, and the capacity of the queue.
@@ -113,16 +77,14 @@ fn dictionary(head: &Head) -> [u64; 8]
     ensures { result ≡ dictionary_shown (head_of head.now) }
 {
     let od = od_of(head);
-    let cycle = od.cycle_time;
-    let tolerance = od.tolerance;
     [
-        od.error_register as u64,
-        object_number(cycle),
-        object_number(tolerance),
-        wide(od.counter_1),
-        wide(od.counter_2),
-        wide(od.counter_3),
-        wide(od.counter_5),
+        u64::from(od.error_register),
+        od.cycle_time.map_or(NOTHING, u64::from),
+        od.tolerance.map_or(NOTHING, u64::from),
+        u64::from(od.counter_1),
+        u64::from(od.counter_2),
+        u64::from(od.counter_3),
+        u64::from(od.counter_5),
         queue_of(head).capacity as u64,
     ]
 }
@@ -131,17 +93,16 @@ fn dictionary(head: &Head) -> [u64; 8]
 pub fn crossings(head: &Head) -> [u64; 8]
     ensures { result ≡ crossings_shown (head_of head.now) }
 {
-    let earliest = earliest_of(head);
     let counters = errors_of(head);
     [
-        deadline_number(earliest),
-        wide(counters.collision.crossings_cnt),
-        wide(counters.loss_of_soc.crossings_cnt),
-        wide(counters.loss_of_soa.crossings_cnt),
-        wide(counters.loss_of_preq.crossings_cnt),
-        wide(counters.soc_jitter.crossings_cnt),
-        wide(counters.crc_errors.crossings_cnt),
-        wide(counters.heartbeat_timeout.crossings_cnt),
+        earliest_of(head).unwrap_or(NOTHING),
+        u64::from(counters.collision.crossings_cnt),
+        u64::from(counters.loss_of_soc.crossings_cnt),
+        u64::from(counters.loss_of_soa.crossings_cnt),
+        u64::from(counters.loss_of_preq.crossings_cnt),
+        u64::from(counters.soc_jitter.crossings_cnt),
+        u64::from(counters.crc_errors.crossings_cnt),
+        u64::from(counters.heartbeat_timeout.crossings_cnt),
     ]
 }
 
@@ -166,13 +127,13 @@ pub fn thresholds(head: &Head) -> [u64; 7]
 {
     let counters = errors_of(head);
     [
-        wide(counters.collision.threshold),
-        wide(counters.loss_of_soc.threshold),
-        wide(counters.loss_of_soa.threshold),
-        wide(counters.loss_of_preq.threshold),
-        wide(counters.soc_jitter.threshold),
-        wide(counters.crc_errors.threshold),
-        wide(counters.heartbeat_timeout.threshold),
+        u64::from(counters.collision.threshold),
+        u64::from(counters.loss_of_soc.threshold),
+        u64::from(counters.loss_of_soa.threshold),
+        u64::from(counters.loss_of_preq.threshold),
+        u64::from(counters.soc_jitter.threshold),
+        u64::from(counters.crc_errors.threshold),
+        u64::from(counters.heartbeat_timeout.threshold),
     ]
 }
 
@@ -183,13 +144,13 @@ fn entry_numbers(entry: ErrorEntry) -> [u64; 8]
     let mode = entry_type.mode;
     let time = entry.timestamp;
     [
-        one(entry_type.is_status_entry),
-        one(entry_type.send_to_queue),
-        mode.as_u16() as u64,
-        entry_type.profile as u64,
-        entry.error_code as u64,
-        wide(time.seconds),
-        wide(time.nanoseconds),
+        u64::from(entry_type.is_status_entry),
+        u64::from(entry_type.send_to_queue),
+        u64::from(mode.as_u16()),
+        u64::from(entry_type.profile),
+        u64::from(entry.error_code),
+        u64::from(time.seconds),
+        u64::from(time.nanoseconds),
         entry.additional_information,
     ]
 }
@@ -199,33 +160,30 @@ pub fn entry(bytes: &[u8]) -> [u64; 8]
     ensures { result ≡ reply_shown (read_reply bytes.now 0) }
 {
     match read_at(bytes, 0) {
-        Ok(entry) => return entry_numbers(entry),
-        Err(_) => return [0; 8],
+        Ok(entry) => entry_numbers(entry),
+        Err(_) => [0; 8],
     }
 }
 
-// Whether an entry waits at a place, the oldest at 0; its bytes.
-pub fn waiting_at(head: &Head, queue: &[u8; 640], place: usize, bytes: &mut [u8; 20]) -> bool
-    ensures { (one result ≡ is_found (nth (waiting queue.now (queue_of head.now)) place)) × (bytes.new ≡ bytes_of (nth (waiting queue.now (queue_of head.now)) place)) }
+fn bytes_of(entry: Option<ErrorEntry>) -> Option<[u8; 20]>
+    ensures { result ≡ bytes_shown entry }
 {
-    let ring = queue_of(head);
-    answers::found(ring.get(queue, place), bytes)
-}
-
-// Whether the history has an entry at a place, the newest at 0; its bytes.
-pub fn past_at(head: &Head, past: &[u8; 5080], place: usize, bytes: &mut [u8; 20]) -> bool
-    ensures { (one result ≡ is_found (nth (history past.now (history_of head.now)) place)) × (bytes.new ≡ bytes_of (nth (history past.now (history_of head.now)) place)) }
-{
-    let ring = history_of(head);
-    answers::found(ring.get(past, place), bytes)
-}
-
-// The watched nodes as bits: the number of the refusal, or 0, and how many nodes the bits say.
-pub fn bits(nodes: &NodeWords, count: usize, bytes: &mut [u8; 32]) -> [u64; 2]
-    ensures { (result ≡ bits_shown (bitmap_reply (watched_of (nodes_of nodes.now) count))) × (bytes.new ≡ bytes_after (watched_of (nodes_of nodes.now) count) bytes.old) }
-{
-    match bitmap::bitmap(nodes, count, bytes) {
-        Ok(number) => return [0, number as u64],
-        Err(refusal) => return [refusal.number() as u64, 0],
+    match entry {
+        Some(entry) => Some(entry.serialize()),
+        None => None,
     }
+}
+
+// The bytes of the entry that waits at a place, the oldest at 0.
+pub fn waiting_at(head: &Head, queue: &[u8; 640], place: usize) -> Option<[u8; 20]>
+    ensures { result ≡ bytes_shown (nth (waiting queue.now (queue_of head.now)) place) }
+{
+    bytes_of(queue_of(head).get(queue, place))
+}
+
+// The bytes of the history's entry at a place, the newest at 0.
+pub fn past_at(head: &Head, past: &[u8; 5080], place: usize) -> Option<[u8; 20]>
+    ensures { result ≡ bytes_shown (nth (history past.now (history_of head.now)) place) }
+{
+    bytes_of(history_of(head).get(past, place))
 }
