@@ -1,7 +1,7 @@
 -- What a head shows, as numbers in the order of the lines of `show` (docs/CALLS.md), and what an entry shows. A flag is 1 or 0; where there is no
 -- moment or no value the number is `nothing`.
 -- Assumes nothing.
-use Rattle.std.specs.Prelude.{ℕ, List, [], ◌∷◌, ◌++◌, replicate}
+use Rattle.std.specs.Prelude.{ℕ, List, [], ◌∷◌, ◌++◌, replicate, map}
 use Rattle.types.specs.States.{state_number}
 use Rattle.dll.specs.Dll.{cs_state_number}
 use Rattle.counters.specs.declared.counters.ThresholdCounter.{ThresholdCounter}
@@ -26,11 +26,14 @@ machines_shown h =
     state_number h.nmt.current_state ∷ one h.nmt.ready_to_operate_enabled ∷ one h.nmt.app_ready ∷ h.nmt.node_id.0
     ∷ h.nmt.feature_flags.0 ∷ h.nmt.basic_ethernet_timeout ∷ cs_state_number h.dll.state ∷ []
 
--- one number of each of the seven kinds
+-- the seven kinds, in the order of the lines
+abbrev pub kinds_of : CnErrorCounters → List ThresholdCounter
+kinds_of e =
+    e.collision ∷ e.loss_of_soc ∷ e.loss_of_soa ∷ e.loss_of_preq ∷ e.soc_jitter ∷ e.crc_errors ∷ e.heartbeat_timeout ∷ []
+
+-- one number of each
 abbrev pub of_each : (ThresholdCounter → ℕ) → CnErrorCounters → List ℕ
-of_each f e =
-    f e.collision ∷ f e.loss_of_soc ∷ f e.loss_of_soa ∷ f e.loss_of_preq ∷ f e.soc_jitter ∷ f e.crc_errors
-    ∷ f e.heartbeat_timeout ∷ []
+of_each f e = map f (kinds_of e)
 
 -- two numbers of each kind: the level, and how many errors there were; then the lost links
 abbrev pub level_and_count : ThresholdCounter → List ℕ → List ℕ

@@ -7,11 +7,12 @@ ghost use Rattle.entries.specs.Desk.{read_reply};
 ghost use Rattle.entries.specs.Ring.{nth};
 ghost use Rattle.entries.specs.Queue.{waiting};
 ghost use Rattle.entries.specs.History.{history};
-ghost use Rattle.shown.specs.Shown.{machines_shown, counters_shown, soc_shown, dictionary_shown, parts_shown, crossings_shown, thresholds_shown, entry_shown, reply_shown, bytes_shown};
+ghost use Rattle.shown.specs.Shown.{machines_shown, counters_shown, soc_shown, dictionary_shown, parts_shown, crossings_shown, thresholds_shown, kinds_of, entry_shown, reply_shown, bytes_shown};
 
 pub mod forms;
 
 use answers::NOTHING;
+use counters::counters::ThresholdCounter;
 use entries::desk::read_at;
 use entries::status_response::ErrorEntry;
 use head::parts::{dll_of, earliest_of, errors_of, history_of, nmt_of, od_of, queue_of, soc_of};
@@ -32,6 +33,22 @@ fn machines(head: &Head) -> [u64; 7]
         u64::from(nmt.feature_flags.0),
         u64::from(nmt.basic_ethernet_timeout),
         u64::from(dll.as_u8()),
+    ]
+}
+
+// The seven kinds.
+fn kinds(head: &Head) -> [ThresholdCounter; 7]
+    ensures { result ≡ kinds_of (head_of head.now).errors }
+{
+    let counters = errors_of(head);
+    [
+        counters.collision,
+        counters.loss_of_soc,
+        counters.loss_of_soa,
+        counters.loss_of_preq,
+        counters.soc_jitter,
+        counters.crc_errors,
+        counters.heartbeat_timeout,
     ]
 }
 
@@ -93,48 +110,29 @@ fn dictionary(head: &Head) -> [u64; 8]
 pub fn crossings(head: &Head) -> [u64; 8]
     ensures { result ≡ crossings_shown (head_of head.now) }
 {
-    let counters = errors_of(head);
-    [
-        earliest_of(head).unwrap_or(NOTHING),
-        u64::from(counters.collision.crossings_cnt),
-        u64::from(counters.loss_of_soc.crossings_cnt),
-        u64::from(counters.loss_of_soa.crossings_cnt),
-        u64::from(counters.loss_of_preq.crossings_cnt),
-        u64::from(counters.soc_jitter.crossings_cnt),
-        u64::from(counters.crc_errors.crossings_cnt),
-        u64::from(counters.heartbeat_timeout.crossings_cnt),
-    ]
+    let mut crossings = [0; 8];
+    crossings[0] = earliest_of(head).unwrap_or(NOTHING);
+    crossings[1..].copy_from_slice(&kinds(head).map(|kind| u64::from(kind.crossings_cnt)));
+    crossings
 }
 
 // The two state machines, the counters, the watch over the cycle, the dictionary and the capacity of the queue.
 pub fn parts(head: &Head) -> [u64; 34]
     ensures { result ≡ parts_shown (head_of head.now) }
 {
-    let m = machines(head);
-    let c = counters(head);
-    let s = soc(head);
-    let d = dictionary(head);
-    [
-        m[0], m[1], m[2], m[3], m[4], m[5], m[6], c[0], c[1], c[2], c[3], c[4], c[5], c[6], c[7],
-        c[8], c[9], c[10], c[11], c[12], c[13], c[14], s[0], s[1], s[2], s[3], d[0], d[1], d[2],
-        d[3], d[4], d[5], d[6], d[7],
-    ]
+    let mut parts = [0; 34];
+    parts[..7].copy_from_slice(&machines(head));
+    parts[7..22].copy_from_slice(&counters(head));
+    parts[22..26].copy_from_slice(&soc(head));
+    parts[26..].copy_from_slice(&dictionary(head));
+    parts
 }
 
 // The thresholds of the seven kinds.
 pub fn thresholds(head: &Head) -> [u64; 7]
     ensures { result ≡ thresholds_shown (head_of head.now) }
 {
-    let counters = errors_of(head);
-    [
-        u64::from(counters.collision.threshold),
-        u64::from(counters.loss_of_soc.threshold),
-        u64::from(counters.loss_of_soa.threshold),
-        u64::from(counters.loss_of_preq.threshold),
-        u64::from(counters.soc_jitter.threshold),
-        u64::from(counters.crc_errors.threshold),
-        u64::from(counters.heartbeat_timeout.threshold),
-    ]
+    kinds(head).map(|kind| u64::from(kind.threshold))
 }
 
 fn entry_numbers(entry: ErrorEntry) -> [u64; 8]
