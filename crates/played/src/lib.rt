@@ -2,143 +2,192 @@
 // number; and the bytes of the desk's buffer.
 #![tactic(auto)]
 
-ghost use Rattle.std.specs.Prelude.{◌≡◌, ◌++◌, ◌≤◌, min, length, take, drop};
+ghost use Rattle.std.specs.Prelude.{◌≡◌, false, min, replicate, take};
 ghost use Rattle.calls.specs.Values.{at, entry_of};
 ghost use Rattle.calls.specs.Calls.{Starts, write_numbers};
 ghost use Rattle.entries.specs.Desk.{write_reply};
 ghost use Rattle.session.specs.Session.{lent_number};
-ghost use Rattle.played.specs.Played.{started_by, numbered_by, Changes, front_written, Plays};
+ghost use Rattle.played.specs.Played.{started_by, numbered_by, Changes, desk, desk_written, Plays};
 
 use answers::Numbers;
 use head::state::Head;
 use patterns::Given;
-use session::{Session, least, lent};
-use watched::nodes::NodeWords;
+use session::{Places, Session};
 
-// As many bytes as a desk's buffer may have.
-pub type Desk = [u8; 100];
+// As many bytes as a desk's buffer may have, and how many of them it has.
+#[derive(Drop)]
+pub struct Desk {
+    pub bytes: [u8; 100],
+    pub length: usize,
+}
 
-// The first bytes of a run become those of another.
-fn copy(run: &mut [u8], bytes: &[u8], count: usize)
-    requires { (count ≤ length run.old) × (count ≤ length bytes.now) }
-    ensures { run.new ≡ take count bytes.now ++ drop count run.old }
-{
-    for i in 0..count {
-        run[i] = bytes[i];
+// What the lines of a script are played on: what they have set up, the head with its memory, the places of the run, the desk's buffer; and the numbers
+// of the last answer.
+#[derive(Drop)]
+pub struct Station {
+    pub session: Session,
+    pub head: Head,
+    pub queue: [u8; 640],
+    pub history: [u8; 5080],
+    pub places: Places,
+    pub desk: Desk,
+    pub answer: Numbers,
+}
+
+impl Desk {
+    // The bytes that were read; how many they are is the first number of the line.
+    pub fn lay(&mut self, bytes: &[u8; 6000], given: Given)
+        ensures { self.new ≡ desk (take 100 bytes.now) (min (at given 0) 100) }
+    {
+        self.bytes.copy_from_slice(&bytes[..100]);
+        self.length = (given[0] as usize).min(100);
     }
-}
 
-// The desk's buffer has the bytes that were read; how many they are.
-pub fn lay(desk: &mut Desk, bytes: &[u8; 6000], given: Given) -> usize
-    ensures { (result ≡ min (at given 0) 100) × (desk.new ≡ take 100 bytes.now ++ drop 100 desk.old) }
-{
-    copy(desk, bytes, 100);
-    least(given[0] as usize, 100)
-}
+    // The bytes that it has.
+    pub fn front(&self) -> &[u8]
+        ensures { result.now ≡ take (min self.now.length 100) self.now.bytes }
+    {
+        &self.bytes[..self.length.min(100)]
+    }
 
-// Writes an entry into the first bytes of a run.
-fn write(run: &mut [u8], count: usize, given: Given, answer: &mut Numbers)
-    requires { count ≤ length run.old }
-    ensures { (run.new ≡ front_written run.old count given) × (answer.new ≡ write_numbers (write_reply (take count run.old) (at given 0) (entry_of given))) }
-{
-    calls::entry_write(&mut run[0..count], given, answer)
+    // Writes an entry into the bytes that it has.
+    fn write(&mut self, given: Given, answer: &mut Numbers)
+        ensures desk { self.new ≡ desk_written self.old given }
+        ensures answer { answer.new ≡ write_numbers (write_reply (take (min self.old.length 100) self.old.bytes) (at given 0) (entry_of given)) }
+    {
+        let count = self.length.min(100);
+        calls::entry_write(&mut self.bytes[..count], given, answer)
+    }
 }
 
 // A start was accepted, or declined by a number.
 fn started(session: Session, refusal: u64) -> Session
     ensures { result ≡ started_by session refusal }
 {
-    let mut next = session;
     if refusal == 0 {
-        next.started = true;
-        return next;
+        Session {
+            started: true,
+            ..session
+        }
+    } else {
+        session
     }
-    next
 }
 
 // So many nodes are watched where the call was not declined by a number.
 fn numbered(session: Session, refusal: u64, number: usize) -> Session
     ensures { result ≡ numbered_by session refusal number }
 {
-    let mut next = session;
     if refusal == 0 {
-        next.number = number;
-        return next;
+        Session { number, ..session }
+    } else {
+        session
     }
-    next
 }
 
-fn start(
-    session: Session,
-    named: bool,
-    given: Given,
-    head: &mut Head,
-    nodes: &mut NodeWords,
-    answer: &mut Numbers,
-) -> Session
-    ensures { (Starts head.old nodes.old (lent_number session) named given answer.new head.new nodes.new) × (result ≡ started_by session (at answer.new 0)) }
-{
-    calls::start(head, nodes, lent(session), named, given, answer);
-    started(session, answer[0])
-}
+impl Station {
+    // Nothing has been started, lent or laid on the desk.
+    pub fn new() -> Station
+        ensures session { result.session ≡ record { started = false; places = 32; number = 0 } }
+        ensures head { result.head ≡ replicate 60 0 }
+        ensures queue { result.queue ≡ replicate 640 0 }
+        ensures history { result.history ≡ replicate 5080 0 }
+        ensures nodes { result.places ≡ record { nodes = replicate 96 0; rest = replicate 24 0 } }
+        ensures desk { result.desk ≡ desk (replicate 100 0) 0 }
+    {
+        Station {
+            session: Session::new(),
+            head: [0; 60],
+            queue: [0; 640],
+            history: [0; 5080],
+            places: Places::new(),
+            desk: Desk {
+                bytes: [0; 100],
+                length: 0,
+            },
+            answer: [0; 21],
+        }
+    }
 
-fn change(
-    session: Session,
-    adds: bool,
-    given: Given,
-    head: &mut Head,
-    nodes: &mut NodeWords,
-    answer: &mut Numbers,
-) -> Session
-    ensures { Changes session adds given head.old nodes.old result answer.new head.new nodes.new }
-{
-    let mut count = lent(session);
-    calls::change(head, nodes, &mut count, adds, given, answer);
-    numbered(session, answer[0], count)
-}
+    fn start(&mut self, named: bool, given: Given)
+        ensures starts { Starts self.old.head self.old.places.nodes (lent_number self.old.session) named given self.new.answer self.new.head self.new.places.nodes }
+        ensures session { self.new.session ≡ started_by self.old.session (at self.new.answer 0) }
+        ensures queue { self.new.queue ≡ self.old.queue }
+        ensures history { self.new.history ≡ self.old.history }
+        ensures rest { self.new.places.rest ≡ self.old.places.rest }
+        ensures desk { self.new.desk ≡ self.old.desk }
+    {
+        let lent = self.session.lent();
+        calls::start(
+            &mut self.head,
+            &mut self.places.nodes,
+            lent,
+            named,
+            given,
+            &mut self.answer,
+        );
+        self.session = started(self.session, self.answer[0]);
+    }
 
-// Plays a line whose answer is numbers; `queue` and `history` are the head's memory.
-pub fn play(
-    session: Session,
-    key: u8,
-    given: Given,
-    bytes: &[u8],
-    head: &mut Head,
-    queue: &mut [u8; 640],
-    history: &mut [u8; 5080],
-    nodes: &mut NodeWords,
-    desk: &mut Desk,
-    answer: &mut Numbers,
-) -> Session
-    ensures { Plays session key given bytes.now head.old queue.old history.old nodes.old desk.old result answer.new head.new queue.new history.new nodes.new desk.new }
-{
-    match key {
-        b'h' => {
-            calls::heard(head, nodes, lent(session), given, answer);
-            return session;
-        }
-        b't' => {
-            calls::tick(head, queue, history, nodes, lent(session), given[0], answer);
-            return session;
-        }
-        b'l' => {
-            calls::load(head, history, given, bytes, answer);
-            return session;
-        }
-        b'i' => {
-            write(desk, least(session.desk, 100), given, answer);
-            return session;
-        }
-        b'S' => return start(session, false, given, head, nodes, answer),
-        b'T' => return start(session, true, given, head, nodes, answer),
-        b'j' | b'x' => return change(session, key == b'j', given, head, nodes, answer),
-        b's' | b'q' | b'k' => {
-            calls::reading(key, given[0], answer);
-            return session;
-        }
-        _ => {
-            calls::on_head(key, given, head, answer);
-            return session;
+    fn change(&mut self, adds: bool, given: Given)
+        ensures changes { Changes self.old.session adds given self.old.head self.old.places.nodes self.new.session self.new.answer self.new.head self.new.places.nodes }
+        ensures queue { self.new.queue ≡ self.old.queue }
+        ensures history { self.new.history ≡ self.old.history }
+        ensures rest { self.new.places.rest ≡ self.old.places.rest }
+        ensures desk { self.new.desk ≡ self.old.desk }
+    {
+        let mut count = self.session.lent();
+        calls::change(
+            &mut self.head,
+            &mut self.places.nodes,
+            &mut count,
+            adds,
+            given,
+            &mut self.answer,
+        );
+        self.session = numbered(self.session, self.answer[0], count);
+    }
+
+    // Plays a line whose answer is numbers.
+    pub fn play(&mut self, key: u8, given: Given, bytes: &[u8])
+        ensures plays { Plays self.old.session key given bytes.now self.old.head self.old.queue self.old.history self.old.places.nodes self.old.desk self.new.session self.new.answer self.new.head self.new.queue self.new.history self.new.places.nodes self.new.desk }
+        ensures rest { self.new.places.rest ≡ self.old.places.rest }
+    {
+        let lent = self.session.lent();
+        match key {
+            b'h' => {
+                calls::heard(
+                    &mut self.head,
+                    &mut self.places.nodes,
+                    lent,
+                    given,
+                    &mut self.answer,
+                );
+            }
+            b't' => {
+                calls::tick(
+                    &mut self.head,
+                    &mut self.queue,
+                    &mut self.history,
+                    &mut self.places.nodes,
+                    lent,
+                    given[0],
+                    &mut self.answer,
+                );
+            }
+            b'l' => calls::load(
+                &mut self.head,
+                &mut self.history,
+                given,
+                bytes,
+                &mut self.answer,
+            ),
+            b'i' => self.desk.write(given, &mut self.answer),
+            b'S' => self.start(false, given),
+            b'T' => self.start(true, given),
+            b'j' | b'x' => self.change(key == b'j', given),
+            b's' | b'q' | b'k' => calls::reading(key, given[0], &mut self.answer),
+            _ => calls::on_head(key, given, &mut self.head, &mut self.answer),
         }
     }
 }

@@ -1,6 +1,7 @@
 // What is printed of answers.
 use answers::Numbers;
-use head::state::Head;
+use bitmap::bitmap;
+use played::Station;
 use printed::Buffer;
 use watched::nodes::NodeWords;
 
@@ -12,13 +13,14 @@ fn say_as(out: &mut Buffer, key: u8, answer: &Numbers) {
 // The watched nodes as bits, and how many these say.
 pub(crate) fn say_bitmap(out: &mut Buffer, nodes: &NodeWords, count: usize) {
     let mut bytes = [0u8; 32];
-    let said = shown::bits(nodes, count, &mut bytes);
-    if said[0] != 0 {
-        return out.say_form(b"(refused #)\n", &said);
+    match bitmap(nodes, count, &mut bytes) {
+        Ok(number) => {
+            out.say_form(b"(taken (nodes #)", &[u64::from(number)]);
+            out.say_bytes(&bytes);
+            out.say(b")\n")
+        }
+        Err(refusal) => out.say_form(b"(refused #)\n", &[u64::from(refusal.number())]),
     }
-    out.say_form(b"(taken (nodes -#)", &said);
-    out.say_bytes(&bytes);
-    out.say(b")\n")
 }
 
 // The line at a place that can't be read or played.
@@ -35,10 +37,15 @@ pub(crate) fn say_answer(out: &mut Buffer, key: u8, answer: &Numbers) {
 }
 
 // An entry leaves the queue, and is printed.
-pub(crate) fn hand_out(out: &mut Buffer, head: &mut Head, queue: &[u8; 640], answer: &mut Numbers) {
+pub(crate) fn hand_out(out: &mut Buffer, station: &mut Station) {
     let mut bytes = [0u8; 20];
-    calls::hand_out(head, queue, answer, &mut bytes);
-    if answer[3] == 1 {
+    calls::hand_out(
+        &mut station.head,
+        &station.queue,
+        &mut station.answer,
+        &mut bytes,
+    );
+    if station.answer[3] == 1 {
         out.say(b"(taken (entry");
         out.say_bytes(&bytes);
         return out.say(b"))\n");

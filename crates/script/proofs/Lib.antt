@@ -1,3 +1,2 @@
-pub mod Gathering
 pub mod Reading
 pub mod Saying

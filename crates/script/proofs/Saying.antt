@@ -9,7 +9,7 @@ use lib.ListN.{length, get_or, set, take}
 use borrow.Author.Tests.{lt-ltb, le-ltb, le-leb, lt-leb, eq-eqb, ne_eqb}
 use Rattle.patterns.specs.Patterns.{unreadable, kept, matched, match_at}
 use Rattle.session.specs.Session.{no_line}
-use Rattle.script.specs.Script.{codes, Says, says, table_says, got, bytes_at, entries_at, values, history_says, load_says, desk_says, entry_says, line_says, text_says}
+use Rattle.script.specs.Script.{codes, Says, says, table_says, got, bytes_at, entries_at, values, history_says, load_says, desk_says, entry_says, line_says}
 
 module _ (line : List ℕ) (at : ℕ) (g bs : List ℕ) where
   pub history_past : length line < at → says no_line g bs ≡ history_says line at g bs
@@ -119,21 +119,3 @@ module _ (line g bs : List ℕ) {s : Says} (l : ℕ) (g₁ : List ℕ) (loads : 
       pub line_table : r ≡ unreadable → s ≡ table_says line g₃ bs → s ≡ line_says line g bs
       unfolding line_says
       line_table h e = rw (← loads, eq-eqb l unreadable no-load, ← desks, eq-eqb d unreadable no-desk, ← entries, eq-eqb r unreadable h) e
-
-module _ (text : List ℕ) (count : ℕ) (g bs : List ℕ) where
-  -- the part of the text from 0 on
-  pub front_line : {s : Says} → s ≡ line_says (take (count - 0) text) g bs → s ≡ line_says (take count text) g bs
-  front_line e = simp unary_clauses at e
-
-  pub text_comment : get_or text 0 0 ≡ 35 → says 32 g bs ≡ text_says text count g bs
-  unfolding text_says
-  text_comment h = rw (eq-eqb (get_or text 0 0) 35 h)
-
-  module _ (other : get_or text 0 0 ≡ 35 → ⊥) where
-    pub text_long : 16384 < count → says no_line g bs ≡ text_says text count g bs
-    unfolding text_says
-    text_long h = rw (ne_eqb (get_or text 0 0) 35 other, lt-ltb 16384 count h)
-
-    pub text_line : count ≤ 16384 → {s : Says} → s ≡ line_says (take count text) g bs → s ≡ text_says text count g bs
-    unfolding text_says
-    text_line h e = rw (ne_eqb (get_or text 0 0) 35 other, le-ltb 16384 count h) e

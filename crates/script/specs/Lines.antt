@@ -1,39 +1,33 @@
 -- The gathering of a line from a part of the script, up to its newline.
 -- Assumes nothing.
-use Rattle.std.specs.Prelude.{ℕ, zero, suc, ◌+◌, true, false, List, eqb, leb, ltb, get_or, set}
+use Rattle.std.specs.Prelude.{ℕ, ◌+◌, Bool, true, false, List, [], ◌∷◌, eqb, ltb, set}
 use Rattle.types.specs.Pick.{pick}
-use Rattle.script.specs.declared.lines.Gathered.{Gathered}
+use Rattle.script.specs.declared.lines.Line.{Line}
+
+abbrev pub line : List ℕ → ℕ → Bool → Line
+line text length whole = record { text = text; length = length; whole = whole }
+
+-- the next line
+abbrev pub begun : Line → Line
+begun l = line l.text 0 false
+
+-- a newline ended it
+abbrev pub ended : Line → Line
+ended l = line l.text l.length true
 
 -- a character more, while there is room; then the length is one above it
-abbrev pub kept_length : ℕ → ℕ
-kept_length n = pick (ltb n 16384) (n + 1) 16385
+abbrev pub kept : Line → ℕ → Line
+kept l c = pick (ltb l.length 16384) (line (set l.text l.length c) (l.length + 1) l.whole) (line l.text 16385 l.whole)
 
-abbrev pub kept_text : List ℕ → ℕ → ℕ → List ℕ
-kept_text text n c = pick (ltb n 16384) (set text n c) text
-
--- a line of so many characters, not ended yet, where the last one ended
-abbrev pub begun : Gathered → ℕ → Gathered
-begun last n = record { length = n; whole = false; at = last.at; count = last.count }
-
-abbrev pub moved : Gathered → ℕ → ℕ → Gathered
-moved line n at = record { length = n; whole = line.whole; at = at; count = line.count }
-
-abbrev pub ended : Gathered → ℕ → Gathered
-ended line at = record { length = line.length; whole = true; at = at; count = line.count }
-
--- the line, and its text
+-- the line, and how many characters of the part were taken
 pub record Gathers : Type 0 where
-  pub line : Gathered
-  pub text : List ℕ
+  pub line : Line
+  pub taken : ℕ
 
-abbrev pub gathers : Gathered → List ℕ → Gathers
-gathers line text = record { line = line; text = text }
+abbrev pub gathers : Line → ℕ → Gathers
+gathers l n = record { line = l; taken = n }
 
--- up to so many characters of the part from a place on, of its 65,536: a newline ends the line
-unfoldable pub gather_from : ℕ → List ℕ → ℕ → Gathered → List ℕ → Gathers
-gather_from zero part at line text = gathers line text
-gather_from (suc k) part at line text =
-    let c = get_or part at 0 in
-    pick (leb 65536 at) (gathers line text)
-    (pick (eqb c 10) (gathers (ended line (at + 1)) text)
-    (gather_from k part (at + 1) (moved line (kept_length line.length) (at + 1)) (kept_text text line.length c)))
+-- what follows in a part, behind so many characters: a newline ends the line
+unfoldable pub gather_from : List ℕ → Line → ℕ → Gathers
+gather_from [] l n = gathers l n
+gather_from (c ∷ cs) l n = pick (eqb c 10) (gathers (ended l) (n + 1)) (gather_from cs (kept l c) (n + 1))

@@ -126,6 +126,6 @@ line_says line g bs =
     (load_says line l.end l.given bs)
 
 -- A line of so many characters, which stand at the front of a text; of more than 16,384 only the first ones do. Behind `#` it is passed over, as the empty one.
-unfoldable pub text_says : List ℕ → ℕ → List ℕ → List ℕ → Says
+abbrev pub text_says : List ℕ → ℕ → List ℕ → List ℕ → Says
 text_says text count g bs =
     pick (eqb (get_or text 0 0) 35) (says 32 g bs) (pick (ltb 16384 count) (says no_line g bs) (line_says (take count text) g bs))

@@ -11,12 +11,10 @@ mod load;
 
 use digits::read_bytes;
 use forms::find::find;
+use lines::Line;
 use load::read_load;
 use patterns::{Given, UNREADABLE, match_at};
 use session::NO_LINE;
-
-// The longest line; the longest call, a load of everything, has 12,420 characters.
-pub type LineBuffer = [u8; 16384];
 
 // The bytes of as many entries as a load may have, 300.
 pub type EntryBuffer = [u8; 6000];
@@ -112,24 +110,16 @@ fn read_line(line: &[u8], given: &mut Given, bytes: &mut EntryBuffer) -> u8
     read_table(line, given)
 }
 
-// The line that the first characters of a text are.
-fn read_front(text: &[u8], count: usize, given: &mut Given, bytes: &mut EntryBuffer) -> u8
-    requires { count ≤ length text.now }
-    ensures { says result given.new bytes.new ≡ line_says (take count text.now) given.old bytes.old }
-{
-    read_line(&text[0..count], given, bytes)
-}
-
 // Reads a line of some length. One that is longer than the buffer may still be a comment. Of an empty line the first character is of
 // an earlier one; if that is a comment, both are passed over alike.
-pub fn read(text: &LineBuffer, count: usize, given: &mut Given, bytes: &mut EntryBuffer) -> u8
-    ensures { says result given.new bytes.new ≡ text_says text.now count given.old bytes.old }
+pub fn read(line: &Line, given: &mut Given, bytes: &mut EntryBuffer) -> u8
+    ensures { says result given.new bytes.new ≡ text_says line.now.text line.now.length given.old bytes.old }
 {
-    if text[0] == b'#' {
+    if line.text[0] == b'#' {
         return b' ';
     }
-    if 16384 < count {
+    if 16384 < line.length {
         return NO_LINE;
     }
-    read_front(text, count, given, bytes)
+    read_line(&line.text[..line.length], given, bytes)
 }

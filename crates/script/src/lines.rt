@@ -1,53 +1,64 @@
 // The lines of a script. It arrives in parts that end anywhere, so a line is gathered in a buffer.
-ghost use Rattle.std.specs.Prelude.{◌≡◌, ◌-◌};
-ghost use Rattle.script.specs.Lines.{kept_length, kept_text, begun, gathers, gather_from};
+ghost use Rattle.std.specs.Prelude.{◌≡◌, false, true, ◌≤◌, length, replicate};
+ghost use Rattle.script.specs.Lines.{line, begun, kept, gathers, gather_from};
 
-use crate::LineBuffer;
+// As many characters as the longest line has; the longest call, a load of everything, has 12,420.
+pub type LineBuffer = [u8; 16384];
 
-// What was read last.
-pub type Part = [u8; 65536];
-
-// A line that has been gathered, and where the script goes on.
-#[derive(Clone, Copy)]
-pub struct Gathered {
-    // A number above the line buffer's length says that the line has more than the buffer.
+// A line that is gathered.
+#[derive(Drop)]
+pub struct Line {
+    pub text: LineBuffer,
+    // A number above the buffer's length says that the line has more than the buffer.
     pub length: usize,
     // Whether a newline ended it.
     pub whole: bool,
-    // The place behind it in the part, and how many characters the part has.
-    pub at: usize,
-    pub count: usize,
 }
 
-// Adds a character to a line of some length; the new length.
-fn keep(text: &mut LineBuffer, length: usize, byte: u8) -> usize
-    ensures { (result ≡ kept_length length) × (text.new ≡ kept_text text.old length byte) }
-{
-    if length < 16384 {
-        text[length] = byte;
-        return length + 1;
+impl Line {
+    pub fn new() -> Line
+        ensures { result ≡ line (replicate 16384 0) 0 false }
+    {
+        Line {
+            text: [0; 16384],
+            length: 0,
+            whole: false,
+        }
     }
-    16385
-}
 
-// Adds to a line what stands in the part from the place of the last one up to the next newline.
-pub fn gather(part: &Part, last: Gathered, text: &mut LineBuffer, length: usize) -> Gathered
-    ensures { gathers result text.new ≡ gather_from (last.count - last.at) part.now last.at (begun last length) text.old }
-{
-    let mut line = last;
-    line.length = length;
-    line.whole = false;
-    for at in last.at..last.count {
-        if 65536 <= at {
-            return line;
-        }
-        let byte = part[at];
-        line.at = at + 1;
-        if byte == b'\n' {
-            line.whole = true;
-            return line;
-        }
-        line.length = keep(text, line.length, byte);
+    // The next line, of which nothing is gathered yet.
+    pub fn begin(&mut self)
+        ensures { self.new ≡ begun self.old }
+    {
+        self.length = 0;
+        self.whole = false;
     }
-    line
+
+    fn keep(&mut self, byte: u8)
+        ensures { self.new ≡ kept self.old byte }
+    {
+        if self.length < 16384 {
+            self.text[self.length] = byte;
+            self.length += 1;
+        } else {
+            self.length = 16385;
+        }
+    }
+
+    // Adds the characters of a part up to its first newline; how many of the part these are, with the newline.
+    pub fn gather(&mut self, part: &[u8]) -> usize
+        ensures gathered { gathers self.new result ≡ gather_from part.now self.old 0 }
+        ensures within { result ≤ length part.now }
+    {
+        let mut taken = 0;
+        for &byte in part {
+            taken += 1;
+            if byte == b'\n' {
+                self.whole = true;
+                return taken;
+            }
+            self.keep(byte);
+        }
+        taken
+    }
 }

@@ -23,7 +23,7 @@ lent_number s = pick (eqb s.places 32) s.number 33
 
 -- the session with so many places and so many watched
 abbrev pub with_run : Session → ℕ → ℕ → Session
-with_run s places number = record { started = s.started; places = places; number = number; desk = s.desk }
+with_run s places number = record { started = s.started; places = places; number = number }
 
 -- the first three numbers of a line, as the record at a place
 abbrev pub record_put : List ℕ → ℕ → List ℕ → List ℕ

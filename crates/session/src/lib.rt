@@ -26,8 +26,6 @@ pub struct Session {
     // How many places of the run are lent, and how many nodes are watched.
     pub places: usize,
     pub number: usize,
-    // How many bytes the desk's buffer has.
-    pub desk: usize,
 }
 
 // Writes the record of a watch.
@@ -112,13 +110,12 @@ impl Places {
 impl Session {
     // A script begins with 32 places, of which none is watched.
     pub fn new() -> Session
-        ensures { result ≡ record { started = false; places = 32; number = 0; desk = 0 } }
+        ensures { result ≡ record { started = false; places = 32; number = 0 } }
     {
         Session {
             started: false,
             places: 32,
             number: 0,
-            desk: 0,
         }
     }
 

@@ -1,0 +1,41 @@
+-- `played::Station::play` meets its contract: each key, with the number that the session lends.
+-- Assumes nothing.
+use Rattle.std.proofs.Common.{rules}
+use Rattle.played.specs.Played.{heard, tick, load, entrywrite, start, start_named, change, reading, on_head}
+use Rattle.played.proofs.Station.play.Goals as goal
+
+pub returns-in-104-clause-plays : goal.returns-in-104-clause-plays
+returns-in-104-clause-plays c =
+    heard c.in-104.is (λ q m. rw (← c.lent-lent.ensures) (c.heard.ensures q m))
+
+pub returns-in-116-clause-plays : goal.returns-in-116-clause-plays
+returns-in-116-clause-plays c =
+    tick c.in-116.is (rw (← c.lent-lent.ensures) c.tick.ensures)
+
+pub returns-in-108-clause-plays : goal.returns-in-108-clause-plays
+returns-in-108-clause-plays c =
+    load c.in-108.is c.load.ensures
+
+pub returns-in-105-clause-plays : goal.returns-in-105-clause-plays
+returns-in-105-clause-plays c =
+    entrywrite c.in-105.is c.write.ensures.desk c.write.ensures.answer
+
+pub returns-in-83-clause-plays : goal.returns-in-83-clause-plays
+returns-in-83-clause-plays c =
+    rw (c.start.ensures.queue, c.start.ensures.history, c.start.ensures.desk) (start c.in-83.is c.start.ensures.starts c.start.ensures.session)
+
+pub returns-in-84-clause-plays : goal.returns-in-84-clause-plays
+returns-in-84-clause-plays c =
+    rw (c.start-in-84.ensures.queue, c.start-in-84.ensures.history, c.start-in-84.ensures.desk) (start_named c.in-84.is c.start-in-84.ensures.starts c.start-in-84.ensures.session)
+
+pub returns-in-106-clause-plays : goal.returns-in-106-clause-plays
+returns-in-106-clause-plays c =
+    rw (c.change.ensures.queue, c.change.ensures.history, c.change.ensures.desk) (change c.in-106.is c.change.ensures.changes)
+
+pub returns-in-115-clause-plays : goal.returns-in-115-clause-plays
+returns-in-115-clause-plays c =
+    reading c.in-115.is c.reading.ensures
+
+pub returns-in_default-clause-plays : goal.returns-in_default-clause-plays
+returns-in_default-clause-plays c =
+    on_head (search rules) (search rules) (search rules) (search rules) (search rules) (search rules) (search rules) (search rules) c.on_head.ensures
