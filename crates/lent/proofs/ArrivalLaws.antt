@@ -19,6 +19,8 @@ use Rattle.watched.specs.declared.nodes.WatchedNode.{WatchedNode}
 use Rattle.watched.specs.Watched.{all_of, fits, well_formed, no_node, watched_node, is_watched, heard_at, place_of, watched_of, Run, run, watching, well_lent}
 use Rattle.watched.specs.Nodes.{rising, never, soonest}
 use Rattle.watched.proofs.Lists.{rising_all, watched_nowhere}
+use Rattle.std.specs.declared.option.Option.{Option}
+use Rattle.std.specs.declared.option.Option.TheVariants.{None}
 use Rattle.std.specs.declared.result.Result.{Result}
 use Rattle.std.specs.declared.result.Result.TheVariants.{Ok, Err}
 use Rattle.node.specs.Steps.{earliest, removed}
@@ -36,63 +38,58 @@ use Rattle.lent.specs.declared.run.Surveyed.{Surveyed}
 use Rattle.lent.specs.declared.run.Setting.{Setting}
 use Rattle.lent.specs.declared.run.Setting.TheVariants.{Heard}
 use Rattle.lent.specs.declared.arrivals.Carrying.{Carrying}
-use Rattle.lent.specs.declared.arrivals.Carried.{Carried}
 use Rattle.lent.specs.declared.arrivals.Closing.{Closing}
-use Rattle.lent.specs.declared.arrivals.Closed.{Closed}
 use Rattle.lent.specs.Runs.{passes, surveyed}
-use Rattle.lent.specs.Arrivals.{for_partner, carrying_of, carried_of, carry_next, carried_all, closing_of, moved_down, close_next, closed_all, Adds, Removes}
+use Rattle.lent.specs.Arrivals.{for_partner, carrying_of, carry_next, carried_all, closing_of, moved_down, close_next, closed_all, Adds, Removes}
 use Rattle.lent.proofs.SeenLaws.{seen_lent, seen_formed, seen_places, seen_below, seen_first, seen_watched, seen_moment, settled_heard}
 
 -- the walk that adds
-pub carry_off : (k : ℕ) (v : WatchedNode) (vs : List WatchedNode) → carried_all (carrying_of false k v) vs ≡ vs
+pub carry_off : (vs : List WatchedNode) → carried_all None vs ≡ vs
 unfolding scanned
-carry_off k v [] = refl
-carry_off k v (w ∷ ws) = ap (λ (l : List WatchedNode). w ∷ l) (carry_off k v ws)
+carry_off [] = refl
+carry_off (w ∷ ws) = ap (λ (l : List WatchedNode). w ∷ l) (carry_off ws)
 
-pub carry_on : (k : ℕ) (v : WatchedNode) (vs : List WatchedNode) → carried_all (carrying_of true k v) vs ≡ carried k v vs
+pub carry_on : (k : ℕ) (v : WatchedNode) (vs : List WatchedNode) → carried_all (carrying_of k v) vs ≡ carried k v vs
 unfolding scanned
 carry_on k v [] = refl
 carry_on zero v (w ∷ ws) = ap (λ (l : List WatchedNode). v ∷ l) (carry_on zero no_node ws)
 carry_on (suc k) v (w ∷ ws) =
-    ap (λ (b : Bool). (next b).node ∷ carried_all (next b).carrying ws) (lt-ltb 0 (suc k) (omega arith))
+    ap (λ (b : Bool). (next b).0 ∷ carried_all (next b).1 ws) (lt-ltb 0 (suc k) (omega arith))
     ∙ by (ltb v.node w.node) (suc k - 1) (omega arith) (carry_on k w ws) (carry_on k v ws)
   where
-    next : Bool → Carried
+    next : Bool → WatchedNode × Option Carrying
     next b =
-        pick b (pick (ltb v.node w.node) (carried_of v (carrying_of true (suc k - 1) w)) (carried_of w (carrying_of true (suc k - 1) v)))
-        (carried_of v (carrying_of true (suc k) no_node))
+        pick b (pick (ltb v.node w.node) (v, carrying_of (suc k - 1) w) (w, carrying_of (suc k - 1) v))
+        (v, carrying_of (suc k) no_node)
 
     by :
-        (b : Bool) (j : ℕ) → j ≡ k → carried_all (carrying_of true k w) ws ≡ carried k w ws → carried_all (carrying_of true k v) ws ≡ carried k v ws →
-        (pick b (carried_of v (carrying_of true j w)) (carried_of w (carrying_of true j v))).node
-        ∷ carried_all (pick b (carried_of v (carrying_of true j w)) (carried_of w (carrying_of true j v))).carrying ws
+        (b : Bool) (j : ℕ) → j ≡ k → carried_all (carrying_of k w) ws ≡ carried k w ws → carried_all (carrying_of k v) ws ≡ carried k v ws →
+        (pick {A = WatchedNode × Option Carrying} b (v, carrying_of j w) (w, carrying_of j v)).0
+        ∷ carried_all (pick {A = WatchedNode × Option Carrying} b (v, carrying_of j w) (w, carrying_of j v)).1 ws
         ≡ pick b (v ∷ carried k w ws) (w ∷ carried k v ws)
-    by true j e x y = ap (λ (l : List WatchedNode). v ∷ l) (ap (λ (j : ℕ). carried_all (carrying_of true j w) ws) e ∙ x)
-    by false j e x y = ap (λ (l : List WatchedNode). w ∷ l) (ap (λ (j : ℕ). carried_all (carrying_of true j v) ws) e ∙ y)
+    by true j e x y = ap (λ (l : List WatchedNode). v ∷ l) (ap (λ (j : ℕ). carried_all (carrying_of j w) ws) e ∙ x)
+    by false j e x y = ap (λ (l : List WatchedNode). w ∷ l) (ap (λ (j : ℕ). carried_all (carrying_of j v) ws) e ∙ y)
 
 -- the walk that removes
 module _ (k n : ℕ) (x : WatchedNode) where
-  pub close_off : (left : ℕ) (vs : List WatchedNode) → closed_all (closing_of false left k n x) vs ≡ vs
-  close_off left vs =
-      scanned_back_idle (λ c x. (close_next c x).node) (λ c x. (close_next c x).closing) (λ (c : Closing). c.on ≡ false)
-      (λ c w e. ap (λ (b : Bool). (pick b (closing c w) (record { node = w; closing = c })).closing.on) e ∙ e)
-      (λ c w e. ap (λ (b : Bool). (pick b (closing c w) (record { node = w; closing = c })).node) e)
-      (closing_of false left k n x) vs refl
-    where
-      closing : Closing → WatchedNode → Closed
-      closing a w = record { node = moved_down a.left a.number a.node a.next w; closing = closing_of true (a.left - 1) a.number a.node w }
+  pub close_off : (vs : List WatchedNode) → closed_all None vs ≡ vs
+  close_off vs =
+      scanned_back_idle (λ c x. (close_next c x).0) (λ c x. (close_next c x).1) (λ (c : Option Closing). c ≡ None)
+      (λ c w e. ap (λ (c : Option Closing). (close_next c w).1) e)
+      (λ c w e. ap (λ (c : Option Closing). (close_next c w).0) e)
+      None vs refl
 
   -- what is carried to a place: how many are up to it, and what stood behind it
-  behind : (L : ℕ) (ws : List WatchedNode) → carried_back (λ c x. (close_next c x).closing) (closing_of true L k n x) ws ≡ closing_of true (L - length ws) k n (get_or ws 0 x)
+  behind : (L : ℕ) (ws : List WatchedNode) → carried_back (λ c x. (close_next c x).1) (closing_of L k n x) ws ≡ closing_of (L - length ws) k n (get_or ws 0 x)
   unfolding carried_back
-  behind L [] = let e : L ≡ L - 0 = omega arith in ap (λ (l : ℕ). closing_of true l k n x) e
+  behind L [] = let e : L ≡ L - 0 = omega arith in ap (λ (l : ℕ). closing_of l k n x) e
   behind L (w ∷ ws) =
       let e : L - length ws - 1 ≡ L - suc (length ws) = omega arith in
-      ap (λ (c : Closing). (close_next c w).closing) (behind L ws) ∙ ap (λ (l : ℕ). closing_of true l k n w) e
+      ap (λ (c : Option Closing). (close_next c w).1) (behind L ws) ∙ ap (λ (l : ℕ). closing_of l k n w) e
 
-  step : (L : ℕ) (w : WatchedNode) (ws : List WatchedNode) → closed_all (closing_of true L k n x) (w ∷ ws) ≡ moved_down (L - length ws) k n (get_or ws 0 x) w ∷ closed_all (closing_of true L k n x) ws
+  step : (L : ℕ) (w : WatchedNode) (ws : List WatchedNode) → closed_all (closing_of L k n x) (w ∷ ws) ≡ moved_down (L - length ws) k n (get_or ws 0 x) w ∷ closed_all (closing_of L k n x) ws
   unfolding scanned_back
-  step L w ws = ap (λ (c : Closing). (close_next c w).node ∷ closed_all (closing_of true L k n x) ws) (behind L ws)
+  step L w ws = ap (λ (c : Option Closing). (close_next c w).0 ∷ closed_all (closing_of L k n x) ws) (behind L ws)
 
   -- at the j-th place, where m of those ahead are watched
   module _ (L j m : ℕ) (w : WatchedNode) (ws : List WatchedNode) (here : L ≡ j + suc (length ws)) (ahead : j + suc m ≡ k) where
@@ -125,7 +122,7 @@ module _ (k n : ℕ) (x : WatchedNode) where
             ∙ ap (λ (b : Bool). pick b (get_or ws 0 no_node) no_node) (sym (lt-ltb 1 (suc (suc m)) (omega arith)))
 
   -- past the number
-  cleared : (L j : ℕ) (ws : List WatchedNode) → L ≡ j + length ws → k ≤ j → closed_all (closing_of true L k n x) ws ≡ closed 0 ws
+  cleared : (L j : ℕ) (ws : List WatchedNode) → L ≡ j + length ws → k ≤ j → closed_all (closing_of L k n x) ws ≡ closed 0 ws
   unfolding scanned_back
   cleared L j [] a b = refl
   cleared L j (w ∷ ws) a b =
@@ -136,7 +133,7 @@ module _ (k n : ℕ) (x : WatchedNode) where
   -- past the node all that are watched are above it
   tail :
       (L j m l : ℕ) (ws : List WatchedNode) → L ≡ j + length ws → j + m ≡ k → m ≤ length ws → n ≤ l → rising l (take m ws) ≡ true →
-      closed_all (closing_of true L k n x) ws ≡ closed m ws
+      closed_all (closing_of L k n x) ws ≡ closed m ws
   tail L j zero l ws a b c d r = cleared L j ws a (omega (arith, b))
   tail L j (suc m) l [] a b c d r = absurd (omega (arith, c))
   tail L j (suc m) l (w ∷ ws) a b c d r =
@@ -161,7 +158,7 @@ module _ (k n : ℕ) (x : WatchedNode) where
 
   pub close_on :
       (L j m l p : ℕ) (ws : List WatchedNode) → L ≡ j + length ws → j + m ≡ k → m ≤ length ws → rising l (take m ws) ≡ true → p ≡ place_of n (take m ws) → p < m →
-      closed_all (closing_of true L k n x) ws ≡ take p ws ++ closed (m - p) (drop p ws)
+      closed_all (closing_of L k n x) ws ≡ take p ws ++ closed (m - p) (drop p ws)
   close_on L j zero l p ws a b c r e h = absurd (omega (arith, h))
   close_on L j (suc m) l p [] a b c r e h = absurd (omega (arith, c))
   close_on L j (suc m) l p (w ∷ ws) a b c r e h =
@@ -173,8 +170,8 @@ module _ (k n : ℕ) (x : WatchedNode) where
 
       by :
           (z : Bool) → eqb w.node n ≡ z → (p : ℕ) → p ≡ pick z 0 (suc (place_of n (take m ws))) → p < suc m →
-          ((q : ℕ) → q ≡ place_of n (take m ws) → q < m → closed_all (closing_of true L k n x) ws ≡ take q ws ++ closed (m - q) (drop q ws)) →
-          closed_all (closing_of true L k n x) (w ∷ ws) ≡ take p (w ∷ ws) ++ closed (suc m - p) (drop p (w ∷ ws))
+          ((q : ℕ) → q ≡ place_of n (take m ws) → q < m → closed_all (closing_of L k n x) ws ≡ take q ws ++ closed (m - q) (drop q ws)) →
+          closed_all (closing_of L k n x) (w ∷ ws) ≡ take p (w ∷ ws) ++ closed (suc m - p) (drop p (w ∷ ws))
       by true z zero e h more =
           let i : w.node ≡ n = eqb-true w.node n z in
           let y : suc m - 0 ≡ suc m = omega arith in
@@ -194,48 +191,6 @@ module _ (k n : ℕ) (x : WatchedNode) where
           step L w ws
           ∙ ap₂ (λ (v : WatchedNode) (vs : List WatchedNode). v ∷ vs) (stays L j m w ws a b (omega (arith, i)) u) (more p g i)
           ∙ ap (λ (j : ℕ). w ∷ (take p ws ++ closed j (drop p ws))) y
-
--- one place, by the tests
-module _ (a : Carrying) (w : WatchedNode) where
-  abbrev next_by : Bool → Bool → Bool → Carried
-  next_by on l b =
-      pick on
-      (pick l (pick b (carried_of a.node (carrying_of true (a.left - 1) w)) (carried_of w (carrying_of true (a.left - 1) a.node))) (carried_of a.node (carrying_of true a.left no_node)))
-      (carried_of w a)
-
-  pub carries_none : a.on ≡ false → carried_of w a ≡ carry_next a w
-  carries_none e = sym (ap (λ (on : Bool). next_by on (ltb 0 a.left) (ltb a.node.node w.node)) e)
-
-  module _ (e : a.on ≡ true) where
-    pub carries_past : a.left ≡ 0 → (u : WatchedNode) → u ≡ no_node → carried_of a.node (carrying_of true a.left u) ≡ carry_next a w
-    carries_past h u g =
-        ap (λ (u : WatchedNode). carried_of a.node (carrying_of true a.left u)) g
-        ∙ sym (ap₂ (λ (on l : Bool). next_by on l (ltb a.node.node w.node)) e (le-ltb 0 a.left (omega (arith, h))))
-
-    module _ (h : a.left ≡ 0 → ⊥) where
-      up : ltb 0 a.left ≡ true
-      up = lt-ltb 0 a.left (omega (arith, h))
-
-      pub carries_on : a.node.node < w.node → carried_of a.node (carrying_of true (a.left - 1) w) ≡ carry_next a w
-      carries_on l = sym (λ i. next_by (e i) (up i) (lt-ltb a.node.node w.node l i))
-
-      pub carries_by : w.node ≤ a.node.node → carried_of w (carrying_of true (a.left - 1) a.node) ≡ carry_next a w
-      carries_by l = sym (λ i. next_by (e i) (up i) (le-ltb a.node.node w.node l i))
-
-module _ (a : Closing) (w : WatchedNode) where
-  abbrev closes_by : Bool → Closed
-  closes_by on =
-      pick on
-      (record { node = moved_down a.left a.number a.node a.next w; closing = closing_of true (a.left - 1) a.number a.node w })
-      (record { node = w; closing = a })
-
-  pub closes_none : a.on ≡ false → ◌≡◌ {A = Closed} (record { node = w; closing = a }) (close_next a w)
-  closes_none e = sym (ap closes_by e)
-
-  pub closes_one :
-      a.on ≡ true → (v : WatchedNode) → v ≡ moved_down a.left a.number a.node a.next w → (l : ℕ) → l ≡ a.left - 1 →
-      ◌≡◌ {A = Closed} (record { node = v; closing = closing_of true l a.number a.node w }) (close_next a w)
-  closes_one e v g l h = (λ i. record { node = g i; closing = closing_of true (h i) a.number a.node w }) ∙ sym (ap closes_by e)
 
 -- the calls, by what their tests say
 module _ (ws : List ℕ) (long : length ws ≡ 60) (k n : ℕ) (s : Surveyed) (f : Bool) (p : f ≡ passes s) (c : Result (Unit {0}) Refusal) (ws' : List ℕ) (w : ws' ≡ unless_refused c ws (earliest_written ws (moment_of s.found.soonest))) where
@@ -294,9 +249,9 @@ module _ (ws : List ℕ) (long : length ws ≡ 60) (k n : ℕ) (s : Surveyed) (f
     pub add_room : c ≡ (Ok tt) → k < 32
     add_room g = ltb-true k 32 (Adding.add_passed v f o s.found.watched k (sym g ∙ e)).4
 
-    pub add_declined : (x : Refusal) → c ≡ Err x → (u : WatchedNode) → Adds ws k n o s (record { answer = Err x; carrying = carrying_of false 0 u }) ws' k
-    add_declined x g u vs z =
-        subst (λ (l : List WatchedNode). AddedOn ws (run vs k) n o (Err x) ws' (run l k)) (sym (carry_off 0 u vs))
+    pub add_declined : (x : Refusal) → c ≡ Err x → Adds ws k n o s (Err x, None) ws' k
+    add_declined x g vs z =
+        subst (λ (l : List WatchedNode). AddedOn ws (run vs k) n o (Err x) ws' (run l k)) (sym (carry_off vs))
         (subst (λ (l : List ℕ). AddedOn ws (run vs k) n o (Err x) l (run vs k)) (sym (unwritten x g)) (by f refl))
       where
         by : (b : Bool) → f ≡ b → AddedOn ws (run vs k) n o (Err x) ws (run vs k)
@@ -305,21 +260,21 @@ module _ (ws : List ℕ) (long : length ws ≡ 60) (k n : ℕ) (s : Surveyed) (f
             Adding.add_unformed ws (run vs k) n o v a (sym (lent vs z) ∙ h) s.found.watched k (Err x)
             (sym g ∙ e ∙ ap (λ (f : Bool). add_answer v f o s.found.watched k) h)
 
-    pub add_taken : c ≡ (Ok tt) → Adds ws k n o s (record { answer = (Ok tt); carrying = carrying_of true k (watched_node n o 0) }) ws' (k + 1)
+    pub add_taken : c ≡ (Ok tt) → Adds ws k n o s (Ok tt, carrying_of k (watched_node n o 0)) ws' (k + 1)
     add_taken g vs z =
         let q = Adding.add_passed v f o s.found.watched k (sym g ∙ e) in
         let h : f ≡ true = q.1 in
         let none : is_watched n (watched_of vs k) ≡ false = sym (among vs z h) ∙ q.3 in
-        let left = add_left vs k n (all vs z h) (formed vs z h) o (add_room g) (carried_all (carrying_of true k (watched_node n o 0)) vs) (carry_on k (watched_node n o 0) vs) in
+        let left = add_left vs k n (all vs z h) (formed vs z h) o (add_room g) (carried_all (carrying_of k (watched_node n o 0)) vs) (carry_on k (watched_node n o 0) vs) in
         Adding.add_taken ws (run vs k) n o v a f s.found.watched (lent vs z) (among vs z h) (sym g ∙ e) long _ left (moment_of s.found.soonest)
         (moment vs z h ∙ added_moment (run vs k) n (sym (lent vs z) ∙ h) o none ∙ ap (λ (r : Run). earliest (watching r)) (sym left)) ws' (written g)
 
   -- removal
   module _ (e : c ≡ remove_answer f s.found.watched) where
     pub remove_declined :
-        (x : Refusal) → c ≡ Err x → (u : WatchedNode) → Removes ws k n s (record { answer = Err x; closing = closing_of false 0 0 n u }) ws' k
-    remove_declined x g u vs z =
-        subst (λ (l : List WatchedNode). RemovedOn ws (run vs k) n (Err x) ws' (run l k)) (sym (close_off 0 n u 0 vs))
+        (x : Refusal) → c ≡ Err x → Removes ws k n s (Err x, None) ws' k
+    remove_declined x g vs z =
+        subst (λ (l : List WatchedNode). RemovedOn ws (run vs k) n (Err x) ws' (run l k)) (sym (close_off 0 n no_node vs))
         (subst (λ (l : List ℕ). RemovedOn ws (run vs k) n (Err x) l (run vs k)) (sym (unwritten x g)) (by f refl))
       where
         by : (b : Bool) → f ≡ b → RemovedOn ws (run vs k) n (Err x) ws (run vs k)
@@ -329,7 +284,7 @@ module _ (ws : List ℕ) (long : length ws ≡ 60) (k n : ℕ) (s : Surveyed) (f
             (sym g ∙ e ∙ ap (λ (f : Bool). remove_answer f s.found.watched) h)
 
     pub remove_taken :
-        c ≡ (Ok tt) → (u : WatchedNode) (k' : ℕ) → k' ≡ k - 1 → Removes ws k n s (record { answer = (Ok tt); closing = closing_of true 32 k n u }) ws' k'
+        c ≡ (Ok tt) → (u : WatchedNode) (k' : ℕ) → k' ≡ k - 1 → Removes ws k n s (Ok tt, closing_of 32 k n u) ws' k'
     remove_taken g u k' less vs z =
         let q = Removing.remove_passed f s.found.watched (sym g ∙ e) in
         let h : f ≡ true = q.0 in
@@ -339,8 +294,8 @@ module _ (ws : List ℕ) (long : length ws ≡ 60) (k n : ℕ) (s : Surveyed) (f
         let inside : place_of n (watched_of vs k) < k = there vs z h (sym (among vs z h) ∙ q.1) in
         let shut =
         close_on k n u 32 0 k 0 (place_of n (watched_of vs k)) vs (omega (arith, all vs z h)) (omega arith) (omega (arith, below, all vs z h)) rises (ap (place_of n) first) inside in
-        let left : run (closed_all (closing_of true 32 k n u) vs) k' ≡ removed n (run vs k) =
-        ap (run (closed_all (closing_of true 32 k n u) vs)) less
-        ∙ remove_left vs k n (all vs z h) (formed vs z h) (place_of n (watched_of vs k)) refl inside (closed_all (closing_of true 32 k n u) vs) shut in
+        let left : run (closed_all (closing_of 32 k n u) vs) k' ≡ removed n (run vs k) =
+        ap (run (closed_all (closing_of 32 k n u) vs)) less
+        ∙ remove_left vs k n (all vs z h) (formed vs z h) (place_of n (watched_of vs k)) refl inside (closed_all (closing_of 32 k n u) vs) shut in
         Removing.remove_taken ws (run vs k) n f s.found.watched (lent vs z) (among vs z h) (sym g ∙ e) long _ left (moment_of s.found.soonest)
         (moment vs z h ∙ removed_moment (run vs k) n (sym (lent vs z) ∙ h) ∙ ap (λ (r : Run). earliest (watching r)) (sym left)) ws' (written g)

@@ -42,8 +42,8 @@ use Rattle.lent.specs.declared.run.Findings.{Findings}
 use Rattle.lent.specs.declared.run.Surveyed.{Surveyed}
 use Rattle.lent.specs.declared.run.Setting.{Setting}
 use Rattle.lent.specs.declared.run.Setting.TheVariants.{Nothing, Unheard, Heard, Looked}
-use Rattle.lent.specs.declared.calls.Done.{Done}
-use Rattle.lent.specs.declared.ticks.TickDone.{TickDone}
+use Rattle.types.specs.declared.frame.error.types.DllErrors.{DllErrors}
+use Rattle.lent.specs.declared.run.Settling.{Settling}
 use Rattle.lent.specs.Runs.{for_heard, for_tick, passes, beats_at, beats_all, tick_sets, settled, settling_of, settled_all, surveyed}
 use Rattle.lent.specs.Judged.{settles_nothing, done_by, Hears, Starts, TicksBy, tick_done}
 use Rattle.lent.proofs.SeenLaws.{seen_lent, seen_formed, seen_places, seen_below, seen_first, seen_found, seen_watched, seen_after, seen_moment, set_first, set_none, settled_none, settled_heard}
@@ -98,8 +98,8 @@ module _ (ws : List ℕ) (long : length ws ≡ 60) (k n t : ℕ) (s : Surveyed) 
           heard_taken ws r n t f s.found.watched q among (sym g ∙ e) long _ (left_as _ _ left) (moment_of s.found.soonest) moment ws'
           (w ∙ ap (λ (a : Result (Unit {0}) Refusal). unless_refused a ws (earliest_written ws (moment_of s.found.soonest))) g)
 
-    abbrev Leaves : Done → Type 0
-    Leaves d = HeardOn ws r n t d.answer ws' (run (settled_all d.settling vs) k)
+    abbrev Leaves : Result (Unit {0}) Refusal × Settling → Type 0
+    Leaves d = HeardOn ws r n t d.0 ws' (run (settled_all d.1 vs) k)
 
     heard_left : Leaves (done_by a k y)
     heard_left = by f refl a refl
@@ -112,29 +112,29 @@ module _ (ws : List ℕ) (long : length ws ≡ 60) (k n t : ℕ) (s : Surveyed) 
             subst (λ (c : Result (Unit {0}) Refusal). Leaves (done_by c k y)) (sym h)
             (none WatchedNodes (g ∙ h) (run_declined ws (heard n t r) r WatchedNodes (λ p₀. rw (sym lent ∙ sym p ∙ x))))
 
-  pub heard_done : (r : Done) → r ≡ done_by a k (Heard n t) → Hears ws k n t s r ws'
+  pub heard_done : (r : Result (Unit {0}) Refusal × Settling) → r ≡ done_by a k (Heard n t) → Hears ws k n t s r ws'
   heard_done r d vs z = subst (Leaves vs z) (sym d) (heard_left vs z)
 
 -- start, by what its tests say
 module _ (ws : List ℕ) (k n : ℕ) (f : FeatureFlags) (t c : ℕ) (o : Dictionary) (ts : Thresholds) (s : Surveyed) (formed : Bool) (p : formed ≡ passes s) (a : Result (Unit {0}) Refusal) (ws' : List ℕ) (b : BeginsBy ws n f t c o ts formed a ws') where
-  unheard_by : (vs : List WatchedNode) (b : Result (Unit {0}) Refusal) → run (settled_all (done_by b k Unheard).settling vs) k ≡ start_left b (run vs k)
+  unheard_by : (vs : List WatchedNode) (b : Result (Unit {0}) Refusal) → run (settled_all (done_by b k Unheard).1 vs) k ≡ start_left b (run vs k)
   unheard_by vs (Ok _) = left_as _ _ (set_first k Unheard (settling_of k Unheard) vs refl refl)
   unheard_by vs (Err r) = left_as _ _ (set_none vs)
 
-  done_answer : (a : Result (Unit {0}) Refusal) → (done_by a k Unheard).answer ≡ a
+  done_answer : (a : Result (Unit {0}) Refusal) → (done_by a k Unheard).0 ≡ a
   done_answer (Ok _) = refl
   done_answer (Err r) = refl
 
-  pub start_done : (r : Done) → r ≡ done_by a k Unheard → Starts ws k n f t c o ts s r ws'
+  pub start_done : (r : Result (Unit {0}) Refusal × Settling) → r ≡ done_by a k Unheard → Starts ws k n f t c o ts s r ws'
   start_done r d vs z =
       rw d
-      (subst (λ (b : Result (Unit {0}) Refusal). StartedOn ws (run vs k) n f t c o ts b ws' (run (settled_all (done_by a k Unheard).settling vs) k)) (sym (done_answer a))
+      (subst (λ (b : Result (Unit {0}) Refusal). StartedOn ws (run vs k) n f t c o ts b ws' (run (settled_all (done_by a k Unheard).1 vs) k)) (sym (done_answer a))
       (b.on (run vs k) (p ∙ seen_lent k 0 0 Unheard (new_counter 0) vs s z) _ (unheard_by vs a)))
 
 -- the tick: numbers 3, 5 and 6, and what is taken
-module _ (ws q m : List ℕ) (k t : ℕ) (s : Surveyed) (r : TickDone) where
-  abbrev no_tick : Refusal → TickDone
-  no_tick x = record { answer = Err x; settling = settles_nothing }
+module _ (ws q m : List ℕ) (k t : ℕ) (s : Surveyed) (r : Result DllErrors Refusal × Settling) where
+  abbrev no_tick : Refusal → Result DllErrors Refusal × Settling
+  no_tick x = (Err x, settles_nothing)
 
   abbrev Y : Setting
   Y = tick_sets ws t
@@ -144,7 +144,7 @@ module _ (ws q m : List ℕ) (k t : ℕ) (s : Surveyed) (r : TickDone) where
 
   tick_declined :
       (x : Refusal) → r ≡ no_tick x → (vs : List WatchedNode) → TickedOn ws q m (run vs k) t (Err x) ws q m (run vs k) →
-      TickedOn ws q m (run vs k) t r.answer ws q m (run (settled_all r.settling vs) k)
+      TickedOn ws q m (run vs k) t r.0 ws q m (run (settled_all r.1 vs) k)
   tick_declined x d vs z = rw d (subst (λ (l : List WatchedNode). TickedOn ws q m (run vs k) t (Err x) ws q m (run l k)) (sym (set_none vs)) z)
 
   lent_as : (b : Bool) → passes s ≡ b → (vs : List WatchedNode) → s ≡ surveyed (for_tick ws k t) vs → well_lent (run vs k) ≡ b

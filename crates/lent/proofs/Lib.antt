@@ -1,4 +1,3 @@
-pub mod Seeing
 pub mod SeenLaws
 pub mod BeatLaws
 pub mod JudgedLaws

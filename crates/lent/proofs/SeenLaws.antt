@@ -188,7 +188,7 @@ set_idle a [] e = refl
 set_idle a (w ∷ ws) e =
     let z : a.left - 1 ≡ 0 = omega (arith, e) in
     ap₂ (λ (b : Bool) (l : List WatchedNode). pick b (settled a.setting w) w ∷ l) (le-ltb 0 a.left (omega (arith, e)))
-    (set_idle (set_next a w).settling ws z)
+    (set_idle (set_next a w).1 ws z)
 
 pub set_first : (k : ℕ) (y : Setting) (a : Settling) (ws : List WatchedNode) → a.left ≡ k → a.setting ≡ y → settled_all a ws ≡ first (map (settled y)) k ws
 unfolding scanned
@@ -196,8 +196,8 @@ set_first zero y a ws e f = set_idle a ws e
 set_first (suc k) y a [] e f = refl
 set_first (suc k) y a (w ∷ ws) e f =
     let z : a.left - 1 ≡ k = omega (arith, e) in
-    (λ i. pick (lt-ltb 0 a.left (omega (arith, e)) i) (settled (f i) w) w ∷ settled_all (set_next a w).settling ws)
-    ∙ ap (λ (l : List WatchedNode). settled y w ∷ l) (set_first k y (set_next a w).settling ws z f)
+    (λ i. pick (lt-ltb 0 a.left (omega (arith, e)) i) (settled (f i) w) w ∷ settled_all (set_next a w).1 ws)
+    ∙ ap (λ (l : List WatchedNode). settled y w ∷ l) (set_first k y (set_next a w).1 ws z f)
 
 pub set_none : (ws : List WatchedNode) → settled_all (settling_of 0 Nothing) ws ≡ ws
 set_none ws = set_idle (settling_of 0 Nothing) ws refl

@@ -18,7 +18,6 @@ use Rattle.lent.specs.declared.run.Beats.{Beats}
 use Rattle.lent.specs.declared.run.Findings.{Findings}
 use Rattle.lent.specs.declared.run.Surveyed.{Surveyed}
 use Rattle.lent.specs.declared.run.Settling.{Settling}
-use Rattle.lent.specs.declared.run.Settled.{Settled}
 use Rattle.lent.specs.declared.run.Setting.{Setting}
 use Rattle.lent.specs.declared.run.Setting.TheVariants.{Nothing, Unheard, Heard, Looked}
 
@@ -109,11 +108,11 @@ passes s = both (eqb s.places 32) (both (eqb s.left 0) s.found.tried.formed)
 abbrev pub settling_of : ℕ → Setting → Settling
 settling_of k y = record { left = k; setting = y }
 
-abbrev pub set_next : Settling → WatchedNode → Settled
-set_next a w = record { node = pick (ltb 0 a.left) (settled a.setting w) w; settling = settling_of (a.left - 1) a.setting }
+abbrev pub set_next : Settling → WatchedNode → WatchedNode × Settling
+set_next a w = (pick (ltb 0 a.left) (settled a.setting w) w, settling_of (a.left - 1) a.setting)
 
 abbrev pub settled_all : Settling → List WatchedNode → List WatchedNode
-settled_all a vs = scanned (λ c x. (set_next c x).node) (λ c x. (set_next c x).settling) a vs
+settled_all a vs = scanned (λ c x. (set_next c x).0) (λ c x. (set_next c x).1) a vs
 
 -- what the errors of the late nodes come to, on the words of a head
 abbrev pub beats_all : List ℕ → ℕ → List WatchedNode → Beats

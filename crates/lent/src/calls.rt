@@ -17,32 +17,29 @@ use types::nmt::flags::FeatureFlags;
 use types::refusals::Refusal;
 use watched::nodes::WatchedNode;
 
-// What a call answers, and what it sets.
-#[derive(Clone, Copy)]
-pub struct Done {
-    pub answer: Result<(), Refusal>,
-    pub settling: Settling,
-}
-
-// What a call sets where it is taken; one that is declined sets nothing.
-fn set_if_taken(answer: Result<(), Refusal>, number: usize, setting: Setting) -> Done
+// What a call answers, and what it sets: where it is taken the setting, nothing where it is declined.
+fn set_if_taken(
+    answer: Result<(), Refusal>,
+    number: usize,
+    setting: Setting,
+) -> (Result<(), Refusal>, Settling)
     ensures { result ≡ done_by answer number setting }
 {
     match answer {
-        Ok(()) => Done {
-            answer: Ok(()),
-            settling: Settling {
+        Ok(()) => (
+            Ok(()),
+            Settling {
                 left: number,
                 setting,
             },
-        },
-        Err(refusal) => Done {
-            answer: Err(refusal),
-            settling: Settling {
+        ),
+        Err(refusal) => (
+            Err(refusal),
+            Settling {
                 left: 0,
                 setting: Setting::Nothing,
             },
-        },
+        ),
     }
 }
 
@@ -60,7 +57,13 @@ pub fn keep_moment(head: &mut Head, answer: Result<(), Refusal>, soonest: u64)
 }
 
 // Heard, by what was found of the run.
-pub fn hear(head: &mut Head, number: usize, node: u8, time: u64, seen: Surveyed) -> Done
+pub fn hear(
+    head: &mut Head,
+    number: usize,
+    node: u8,
+    time: u64,
+    seen: Surveyed,
+) -> (Result<(), Refusal>, Settling)
     ensures { Hears head.old number node time seen result head.new }
 {
     whole(head);
@@ -80,9 +83,9 @@ pub fn heard(
     ensures { HeardOn head.old (run nodes.old number) node time result head.new (run nodes.new number) }
 {
     let seen = survey(nodes, for_heard(number, node, time));
-    let done = hear(head, number, node, time, seen);
-    settle(nodes, done.settling);
-    done.answer
+    let (answer, settling) = hear(head, number, node, time, seen);
+    settle(nodes, settling);
+    answer
 }
 
 // Start, by what was found of the run.
@@ -96,7 +99,7 @@ pub fn start_by(
     od: Dictionary,
     thresholds: Thresholds,
     seen: Surveyed,
-) -> Done
+) -> (Result<(), Refusal>, Settling)
     ensures { Starts head.old number node feature_flags basic_ethernet_timeout queue_capacity od thresholds seen result head.new }
 {
     let formed = passes(seen);
@@ -128,7 +131,7 @@ pub fn start(
     ensures { StartedOn head.old (run nodes.old number) node feature_flags basic_ethernet_timeout queue_capacity od thresholds result head.new (run nodes.new number) }
 {
     let seen = survey(nodes, for_start(number));
-    let done = start_by(
+    let (answer, settling) = start_by(
         head,
         number,
         node,
@@ -139,6 +142,6 @@ pub fn start(
         thresholds,
         seen,
     );
-    settle(nodes, done.settling);
-    done.answer
+    settle(nodes, settling);
+    answer
 }

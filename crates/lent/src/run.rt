@@ -76,13 +76,6 @@ pub struct Settling {
     pub setting: Setting,
 }
 
-// A place as it is set, and what is to be set behind it.
-#[derive(Clone, Copy)]
-pub struct Settled {
-    pub node: WatchedNode,
-    pub settling: Settling,
-}
-
 // Before the first place.
 pub fn ask(
     number: usize,
@@ -320,34 +313,21 @@ pub fn survey(nodes: &[WatchedNode], seen: Surveyed) -> Surveyed
     fold(nodes, seen, |seen, w| see_place(seen, w))
 }
 
-// One place: past the number it stays as it is.
-pub fn set_next(settling: Settling, w: WatchedNode) -> Settled
+// One place as it is set, and what is to be set behind it: past the number it stays as it is.
+pub fn set_next(settling: Settling, w: WatchedNode) -> (WatchedNode, Settling)
     ensures { result ≡ set_next settling w }
 {
-    let setting = settling.setting;
-    let left = settling.left;
+    let Settling { left, setting } = settling;
     if left == 0 {
-        return Settled {
-            node: w,
-            settling: Settling { left, setting },
-        };
+        return (w, settling);
     }
-    let node = set(setting, w);
-    Settled {
-        node,
-        settling: Settling {
-            left: left - 1,
-            setting,
-        },
-    }
+    let left = left - 1;
+    (set(setting, w), Settling { left, setting })
 }
 
 // All places.
 pub fn settle(nodes: &mut [WatchedNode], settling: Settling)
     ensures { nodes.new ≡ settled_all settling nodes.old }
 {
-    scan(nodes, settling, |settling, w| {
-        let next = set_next(settling, w);
-        (next.node, next.settling)
-    })
+    scan(nodes, settling, |settling, w| set_next(settling, w))
 }

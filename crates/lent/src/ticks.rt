@@ -28,36 +28,33 @@ use watched::nodes::WatchedNode;
 use watched::time::in_time;
 
 // What a tick answers, and what it sets.
-#[derive(Clone, Copy)]
-pub struct TickDone {
-    pub answer: Result<DllErrors, Refusal>,
-    pub settling: Settling,
-}
-
-fn not_taken(refusal: Refusal) -> TickDone
+fn not_taken(refusal: Refusal) -> (Result<DllErrors, Refusal>, Settling)
     ensures { result ≡ tick_declined refusal }
 {
-    TickDone {
-        answer: Err(refusal),
-        settling: Settling {
+    (
+        Err(refusal),
+        Settling {
             left: 0,
             setting: Setting::Nothing,
         },
-    }
+    )
 }
 
-fn taken(dealt: Dealt, number: usize, checks: bool, time: u64) -> TickDone
+fn taken(
+    dealt: Dealt,
+    number: usize,
+    checks: bool,
+    time: u64,
+) -> (Result<DllErrors, Refusal>, Settling)
     ensures { result ≡ tick_done dealt number checks time }
 {
-    let logged = dealt.logged;
-    let setting = look_if(checks, time);
-    TickDone {
-        answer: Ok(logged),
-        settling: Settling {
+    (
+        Ok(dealt.logged),
+        Settling {
             left: number,
-            setting,
+            setting: look_if(checks, time),
         },
-    }
+    )
 }
 
 // Number 6 does not stand: with heartbeats checked, the time is not before a node's last one.
@@ -124,7 +121,7 @@ pub fn tick_by(
     number: usize,
     time: u64,
     seen: Surveyed,
-) -> TickDone
+) -> (Result<DllErrors, Refusal>, Settling)
     ensures { TicksBy head.old queue.old history.old number time seen result head.new queue.new history.new }
 {
     if !passes(seen) {
@@ -156,7 +153,7 @@ pub fn process_tick(
     ensures { TickedOn head.old queue.old history.old (run nodes.old number) time result head.new queue.new history.new (run nodes.new number) }
 {
     let seen = survey(nodes, for_tick(head, number, time));
-    let done = tick_by(head, queue, history, number, time, seen);
-    settle(nodes, done.settling);
-    done.answer
+    let (answer, settling) = tick_by(head, queue, history, number, time, seen);
+    settle(nodes, settling);
+    answer
 }

@@ -13,4 +13,4 @@ pub returns-in-Err : goal.returns-in-Err
 returns-in-Err c =
     let a = c.args in
     add_declined a.head.now c.whole.ensures a.number.now a.node a.seen c.passes.result c.passes.ensures c.try_add-answer.result _ c.keep_moment.ensures
-    a.timeout c.is_known.result c.is_known.ensures c.try_add-answer.ensures _ c.in-Err.is c.no_node.result
+    a.timeout c.is_known.result c.is_known.ensures c.try_add-answer.ensures _ c.in-Err.is

@@ -7,10 +7,10 @@ pub returns-in-Ok : goal.returns-in-Ok
 returns-in-Ok c =
     let a = c.args in
     remove_taken a.head.now c.whole.ensures a.number.now a.node a.seen c.passes.result c.passes.ensures c.try_remove-answer.result _ c.keep_moment.ensures
-    c.try_remove-answer.ensures c.in-Ok.is c.no_node.result c.one_less.result c.one_less.ensures
+    c.try_remove-answer.ensures c.in-Ok.is c.no_node.result c.saturating_sub.result c.saturating_sub.ensures
 
 pub returns-in-Err : goal.returns-in-Err
 returns-in-Err c =
     let a = c.args in
     remove_declined a.head.now c.whole.ensures a.number.now a.node a.seen c.passes.result c.passes.ensures c.try_remove-answer.result _ c.keep_moment.ensures
-    c.try_remove-answer.ensures _ c.in-Err.is c.no_node-in-Err.result
+    c.try_remove-answer.ensures _ c.in-Err.is
