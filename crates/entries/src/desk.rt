@@ -33,6 +33,7 @@ pub fn write_at(buffer: &mut [u8], place: u64, entry: ErrorEntry) -> Result<(), 
 }
 
 // The entry at a place.
+#[tactic(auto, unfolding(crate::specs::Desk::read_reply))]
 pub fn read_at(buffer: &[u8], place: u64) -> Result<ErrorEntry, Refusal>
     ensures { read_said result ≡ read_reply buffer.now place }
 {

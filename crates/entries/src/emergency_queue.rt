@@ -38,6 +38,7 @@ impl EmergencyQueue {
     }
 
     // An entry joins behind the newest, or is dropped where the queue is full: whether it was kept.
+    #[tactic(auto, unfolding(crate::specs::Queue::pushed, crate::specs::Queue::pushed_bytes))]
     pub fn push_back(&mut self, memory: &mut [u8; 640], entry: ErrorEntry) -> bool
         ensures queue { self.new ≡ (pushed self.old).queue }
         ensures kept { result ≡ (pushed self.old).kept }
@@ -55,6 +56,7 @@ impl EmergencyQueue {
     }
 
     // The oldest entry leaves the queue; of an empty one, none does.
+    #[tactic(auto, unfolding(crate::specs::Queue::handed_out))]
     pub fn hand_out(&mut self, memory: &[u8; 640]) -> Option<ErrorEntry>
         ensures queue { self.new ≡ (handed_out memory.now self.old).queue }
         ensures entry { result ≡ (handed_out memory.now self.old).entry }
@@ -71,6 +73,7 @@ impl EmergencyQueue {
     }
 
     // The entry that waits at an index, the oldest at 0.
+    #[tactic(auto, unfolding(crate::specs::Queue::waiting))]
     pub fn get(self, memory: &[u8; 640], index: usize) -> Option<ErrorEntry>
         ensures { result ≡ nth (waiting memory.now self) index }
     {

@@ -26,6 +26,7 @@ impl ErrorHistory {
     }
 
     // The history from the bytes of entries, newest first: the newest 254 whole entries are taken.
+    #[tactic(auto, unfolding(crate::specs::History::loaded, crate::specs::History::loaded_bytes))]
     pub fn load(memory: &mut [u8; 5080], entries: &[u8]) -> Self
         ensures { (result ≡ loaded entries.now) × (memory.new ≡ loaded_bytes memory.old entries.now) }
     {
@@ -49,6 +50,7 @@ impl ErrorHistory {
     }
 
     // The entry at an index, the newest at 0.
+    #[tactic(auto, unfolding(crate::specs::History::history))]
     pub fn get(self, memory: &[u8; 5080], index: usize) -> Option<ErrorEntry>
         ensures { result ≡ nth (history memory.now self) index }
     {
@@ -57,6 +59,7 @@ impl ErrorHistory {
 }
 
 // An entry joins at the place before the newest, and no other moves.
+#[tactic(auto, unfolding(crate::specs::History::joined, crate::specs::History::joined_bytes))]
 pub fn write_error_to_history(
     memory: &mut [u8; 5080],
     history: ErrorHistory,

@@ -23,6 +23,7 @@ impl ErrorEntryMode {
     }
 
     // The mode of the lowest two bits: each of their values names one.
+    #[tactic(auto, unfolding(crate::specs::Entry::mode_of))]
     fn from_bits(value: u16) -> Self
         ensures { result ≡ mode_of value }
     {
@@ -100,6 +101,7 @@ pub struct ErrorEntry {
 
 impl ErrorEntry {
     // The entry of an error whose counting crossed the threshold in the SoC check, at a time in microseconds.
+    #[tactic(auto, unfolding(crate::specs::Entry::crossing_entry))]
     pub fn of_crossing(error: DllError, time: u64) -> Self
         ensures { result ≡ crossing_entry error time }
     {
