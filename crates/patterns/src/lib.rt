@@ -36,21 +36,19 @@ pub fn digit_of(c: u8) -> u8
 }
 
 // A number with a digit behind it, which ends at a place, where it fits 64 bits.
+#[tactic(auto, unfolding(crate::specs::Patterns::grown))]
 fn grown(n: u64, digit: u8, base: u8, end: usize) -> Number
     requires { digit ≤ 15 }
     ensures { result ≡ grown n digit (radix base) end }
 {
-    let d = digit as u64;
-    if base == 16 {
-        if u64::MAX / 16 < n {
-            return Number { n, end: UNREADABLE };
-        }
-        return Number { n: 16 * n + d, end };
-    }
-    if (u64::MAX - d) / 10 < n {
+    let radix = if base == 16 { 16 } else { 10 };
+    let Some(shifted) = n.checked_mul(radix) else {
         return Number { n, end: UNREADABLE };
+    };
+    match shifted.checked_add(u64::from(digit)) {
+        Some(grown) => Number { n: grown, end },
+        None => Number { n, end: UNREADABLE },
     }
-    Number { n: 10 * n + d, end }
 }
 
 // The number whose digits stand from a place on, up to another character; there has to be one.
@@ -80,14 +78,7 @@ fn is_hex(line: &[u8], at: usize) -> bool
     requires { at < length line.now }
     ensures { result ≡ is_hex line.now at }
 {
-    let next = at + 1;
-    if line.len() <= next {
-        return false;
-    }
-    if line[next] != b'x' {
-        return false;
-    }
-    line[at] == b'0'
+    at + 1 < line.len() && line[at + 1] == b'x' && line[at] == b'0'
 }
 
 // The number at a place: hexadecimal behind 0x, or decimal.
@@ -105,54 +96,26 @@ fn number_at(line: &[u8], at: usize) -> Number
 fn carries_byte(kind: u64) -> bool
     ensures { result ≡ carries_byte kind }
 {
-    if kind == 9 {
-        return true;
-    }
-    if kind == 10 {
-        return true;
-    }
-    if kind == 12 {
-        return true;
-    }
-    if kind < 18 {
-        return false;
-    }
-    kind <= 21
+    matches!(kind, 9 | 10 | 12 | 18..=21)
 }
 
 // The largest number of a width: a flag, a mode, places of a run, a byte, a half word of 16 bits, a word or an object's value of 32, a long word of
 // 64. X and Y are what an error carries: a byte where its kind does, else a number that is not looked at.
+#[tactic(auto, unfolding(crate::specs::Patterns::largest_of))]
 fn largest(width: u8, kind: u64) -> u64
     ensures { result ≡ largest_of width kind }
 {
-    if width == b'F' {
-        return 1;
+    match width {
+        b'F' => 1,
+        b'M' => 3,
+        b'P' => 40,
+        b'B' => 255,
+        b'H' => 65535,
+        b'W' | b'O' => 4294967295,
+        b'X' => byte_or_any(carries_byte(kind)),
+        b'Y' => byte_or_any(kind == 18),
+        _ => u64::MAX,
     }
-    if width == b'M' {
-        return 3;
-    }
-    if width == b'P' {
-        return 40;
-    }
-    if width == b'B' {
-        return 255;
-    }
-    if width == b'H' {
-        return 65535;
-    }
-    if width == b'W' {
-        return 4294967295;
-    }
-    if width == b'O' {
-        return 4294967295;
-    }
-    if width == b'X' {
-        return byte_or_any(carries_byte(kind));
-    }
-    if width == b'Y' {
-        return byte_or_any(kind == 18);
-    }
-    u64::MAX
 }
 
 // The largest byte, or the largest number.
@@ -167,10 +130,7 @@ fn is_missing(line: &[u8], at: usize, width: u8) -> bool
     requires { at < length line.now }
     ensures { result ≡ is_missing line.now at width }
 {
-    if width != b'O' {
-        return false;
-    }
-    line[at] == b'-'
+    width == b'O' && line[at] == b'-'
 }
 
 // Reads the number at a place, which becomes the given one at `place`; that of an object may be `-`, missing.
@@ -199,10 +159,7 @@ fn read_number(line: &[u8], at: usize, width: u8, given: &mut Given, place: usiz
 fn numbers_in(c: u8) -> usize
     ensures { (result ≡ numbers_in c) × (result ≤ 1) }
 {
-    match c {
-        b'A'..=b'Z' => 1,
-        _ => 0,
-    }
+    usize::from(c.is_ascii_uppercase())
 }
 
 // Matches one character of a pattern.
