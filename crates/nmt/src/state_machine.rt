@@ -40,14 +40,14 @@ pub struct ResetSequence {
 pub fn is_reset(event: NmtEvent) -> bool
     ensures { result ≡ is_reset event }
 {
-    match event {
+    matches!(
+        event,
         NmtEvent::Reset
-        | NmtEvent::SwReset
-        | NmtEvent::ResetNode
-        | NmtEvent::ResetCommunication
-        | NmtEvent::ResetConfiguration => true,
-        _ => false,
-    }
+            | NmtEvent::SwReset
+            | NmtEvent::ResetNode
+            | NmtEvent::ResetCommunication
+            | NmtEvent::ResetConfiguration
+    )
 }
 
 const MANUFACTURER: IndexRange = IndexRange {

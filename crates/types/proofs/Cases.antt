@@ -62,10 +62,7 @@ pub record Enum (A : Type 0) : Type 0 where
   pub items : List A
   pub back : (x : A) → get_or items (position x) first ≡ x
 
--- the keys of an arm: those of some items, and those of all but some
-abbrev pub keys_of : {A : Type 0} → Enum A → List A → List ℕ
-keys_of E xs = map E.position xs
-
+-- the keys of an arm that takes all but some items
 abbrev pub keys_but : {A : Type 0} → Enum A → List A → List ℕ
 keys_but E xs = out (among (map E.position xs)) (map E.position E.items)
 

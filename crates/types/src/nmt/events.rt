@@ -56,22 +56,6 @@ impl NmtStateCommand {
     {
         self as u8
     }
-
-    // The event that a received command is.
-    pub fn event(self) -> NmtEvent
-        ensures { result ≡ command_event self }
-    {
-        match self {
-            NmtStateCommand::StartNode => NmtEvent::StartNode,
-            NmtStateCommand::StopNode => NmtEvent::StopNode,
-            NmtStateCommand::EnterPreOperational2 => NmtEvent::EnterPreOperational2,
-            NmtStateCommand::EnableReadyToOperate => NmtEvent::EnableReadyToOperate,
-            NmtStateCommand::ResetNode => NmtEvent::ResetNode,
-            NmtStateCommand::ResetCommunication => NmtEvent::ResetCommunication,
-            NmtStateCommand::ResetConfiguration => NmtEvent::ResetConfiguration,
-            NmtStateCommand::SwReset => NmtEvent::SwReset,
-        }
-    }
 }
 
 #[tactic(auto, unfolding(crate::specs::Events::read_command))]
@@ -91,6 +75,24 @@ impl TryFrom<u64> for NmtStateCommand {
             0x2A => Ok(NmtStateCommand::ResetConfiguration),
             0x2B => Ok(NmtStateCommand::SwReset),
             _ => Err(Refusal::UnknownNumber),
+        }
+    }
+}
+
+// The event that a received command is.
+impl From<NmtStateCommand> for NmtEvent {
+    ghost from_gives = { λ c e. e ≡ command_event c };
+
+    fn from(command: NmtStateCommand) -> Self {
+        match command {
+            NmtStateCommand::StartNode => NmtEvent::StartNode,
+            NmtStateCommand::StopNode => NmtEvent::StopNode,
+            NmtStateCommand::EnterPreOperational2 => NmtEvent::EnterPreOperational2,
+            NmtStateCommand::EnableReadyToOperate => NmtEvent::EnableReadyToOperate,
+            NmtStateCommand::ResetNode => NmtEvent::ResetNode,
+            NmtStateCommand::ResetCommunication => NmtEvent::ResetCommunication,
+            NmtStateCommand::ResetConfiguration => NmtEvent::ResetConfiguration,
+            NmtStateCommand::SwReset => NmtEvent::SwReset,
         }
     }
 }
