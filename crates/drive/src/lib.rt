@@ -111,31 +111,19 @@ fn word_of(n: u64) -> u32
 fn byte_update(n: u64) -> Option<u8>
     ensures { result ≡ byte_update n }
 {
-    if n == 0 {
-        return None;
-    }
-    Some(byte_of(n - 1))
+    n.checked_sub(1).map(byte_of)
 }
 
 fn counter_update(n: u64) -> Option<u32>
     ensures { result ≡ counter_update n }
 {
-    if n == 0 {
-        return None;
-    }
-    Some(word_of(n - 1))
+    n.checked_sub(1).map(word_of)
 }
 
 fn object_update(n: u64) -> Option<Option<u32>>
     ensures { result ≡ object_update n }
 {
-    if n == 0 {
-        return None;
-    }
-    if n == 1 {
-        return Some(None);
-    }
-    Some(Some(word_of(n - 2)))
+    n.checked_sub(1).map(|n| n.checked_sub(1).map(word_of))
 }
 
 // The values that a load's row names.
