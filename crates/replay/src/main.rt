@@ -25,8 +25,7 @@ fn main(rt: HostRuntime) -> io::Result<()> {
     for place in 1..u64::MAX {
         input.next_line(&mut line, &mut out);
         let read = script::read(&line, &mut given, &mut bytes);
-        let key = station.session.key_after(read);
-        play::play(&mut station, key, place, given, &bytes, &mut out);
+        play::play(&mut station, read, place, given, &bytes, &mut out);
         if !line.whole {
             break;
         }

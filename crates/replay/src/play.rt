@@ -7,26 +7,29 @@ use played::Station;
 use printed::Buffer;
 use script::EntryBuffer;
 
-// The line at a place of the script.
+// The line at a place of the script, with the key that was read.
 pub(crate) fn play(
     station: &mut Station,
-    key: u8,
+    read: Option<u8>,
     place: u64,
     given: Given,
     bytes: &EntryBuffer,
     out: &mut Buffer,
 ) {
+    let session = station.session;
+    let Some(key) = read.and_then(|key| session.key_after(key)) else {
+        return say_unreadable(out, place);
+    };
     match key {
         b' ' => {}
-        b'?' => say_unreadable(out, place),
         b'U' | b'W' | b'L' => {
-            station.session = station.session.arrange(key, given, &mut station.places);
+            station.session = session.arrange(key, given, &mut station.places);
         }
         b'p' => show(out, station),
         b'D' => station.desk.lay(bytes, given),
         b'r' => entry_read(out, bytes),
         b'o' => hand_out(out, station),
-        b'b' => say_bitmap(out, &station.places.nodes, station.session.lent()),
+        b'b' => say_bitmap(out, &station.places.nodes, session.lent()),
         _ => {
             station.play(key, given, bytes);
             say_answer(out, key, &station.answer);

@@ -8,86 +8,86 @@ use native.Mathlib.Numerals.{unary_clauses}
 use lib.ListN.{length, get_or, set, take}
 use borrow.Author.Tests.{lt-ltb, le-ltb, le-leb, lt-leb, eq-eqb, ne_eqb}
 use Rattle.patterns.specs.Patterns.{unreadable, kept, matched, match_at}
-use Rattle.session.specs.Session.{no_line}
+use Rattle.std.specs.Prelude.{Some, None}
 use Rattle.script.specs.Script.{codes, Says, says, table_says, got, bytes_at, entries_at, values, history_says, load_says, desk_says, entry_says, line_says}
 
 module _ (line : List ℕ) (at : ℕ) (g bs : List ℕ) where
-  pub history_past : length line < at → says no_line g bs ≡ history_says line at g bs
+  pub history_past : length line < at → says None g bs ≡ history_says line at g bs
   unfolding history_says
   history_past h = rw (lt-ltb (length line) at h)
 
   module _ (inside : at ≤ length line) (n : ℕ) (counts : n ≡ (length line - at) / 41) where
-    pub history_part : (at + 41 * n ≡ length line → ⊥) → says no_line g bs ≡ history_says line at g bs
+    pub history_part : (at + 41 * n ≡ length line → ⊥) → says None g bs ≡ history_says line at g bs
     unfolding history_says
     history_part h = rw (le-ltb (length line) at inside, ← counts, ne_eqb (at + 41 * n) (length line) h)
 
     module _ (whole : at + 41 * n ≡ length line) where
-      pub history_long : 300 < n → says no_line g bs ≡ history_says line at g bs
+      pub history_long : 300 < n → says None g bs ≡ history_says line at g bs
       unfolding history_says
       history_long h = rw (le-ltb (length line) at inside, ← counts, eq-eqb (at + 41 * n) (length line) whole, lt-ltb 300 n h)
 
       module _ (few : n ≤ 300) (all : Bool) (bs' : List ℕ) (reads : got all bs' ≡ entries_at n line at bs 0) where
-        pub history_fails : all ≡ false → says no_line (set g 7 (20 * n)) bs' ≡ history_says line at g bs
+        pub history_fails : all ≡ false → says None (set g 7 (20 * n)) bs' ≡ history_says line at g bs
         unfolding history_says
         history_fails h = rw (le-ltb (length line) at inside, ← counts, eq-eqb (at + 41 * n) (length line) whole, le-ltb 300 n few, ← reads, h)
 
-        pub history_taken : all ≡ true → says 108 (set g 7 (20 * n)) bs' ≡ history_says line at g bs
+        pub history_taken : all ≡ true → says (Some 108) (set g 7 (20 * n)) bs' ≡ history_says line at g bs
         unfolding history_says
         history_taken h = rw (le-ltb (length line) at inside, ← counts, eq-eqb (at + 41 * n) (length line) whole, le-ltb 300 n few, ← reads, h)
 
-  pub desk_past : length line ≤ at → says no_line g bs ≡ desk_says line at g bs
+  pub desk_past : length line ≤ at → says None g bs ≡ desk_says line at g bs
   unfolding desk_says
   desk_past h = rw (le-leb (length line) at h)
 
   module _ (inside : at < length line) (n : ℕ) (counts : n ≡ (length line - at) / 2) where
     module _ (none : n ≡ 0) where
-      pub desk_other : (get_or line at 0 ≡ 45 → ⊥) → says no_line (set g 0 n) bs ≡ desk_says line at g bs
+      pub desk_other : (get_or line at 0 ≡ 45 → ⊥) → says None (set g 0 n) bs ≡ desk_says line at g bs
       unfolding desk_says
       desk_other h = rw (lt-leb (length line) at inside, ← counts, eq-eqb n 0 none, ne_eqb (get_or line at 0) 45 h)
 
-      pub desk_none : get_or line at 0 ≡ 45 → says 68 (set g 0 n) bs ≡ desk_says line at g bs
+      pub desk_none : get_or line at 0 ≡ 45 → says (Some 68) (set g 0 n) bs ≡ desk_says line at g bs
       unfolding desk_says
       desk_none h = rw (lt-leb (length line) at inside, ← counts, eq-eqb n 0 none, eq-eqb (get_or line at 0) 45 h)
 
     module _ (some : n ≡ 0 → ⊥) where
-      pub desk_part : (at + 2 * n ≡ length line → ⊥) → says no_line (set g 0 n) bs ≡ desk_says line at g bs
+      pub desk_part : (at + 2 * n ≡ length line → ⊥) → says None (set g 0 n) bs ≡ desk_says line at g bs
       unfolding desk_says
       desk_part h = rw (lt-leb (length line) at inside, ← counts, ne_eqb n 0 some, ne_eqb (at + 2 * n) (length line) h)
 
       module _ (whole : at + 2 * n ≡ length line) where
-        pub desk_long : 100 < n → says no_line (set g 0 n) bs ≡ desk_says line at g bs
+        pub desk_long : 100 < n → says None (set g 0 n) bs ≡ desk_says line at g bs
         unfolding desk_says
         desk_long h = rw (lt-leb (length line) at inside, ← counts, ne_eqb n 0 some, eq-eqb (at + 2 * n) (length line) whole, lt-ltb 100 n h)
 
         module _ (few : n ≤ 100) (all : Bool) (bs' : List ℕ) (reads : got all bs' ≡ bytes_at n line at bs 0) where
-          pub desk_fails : all ≡ false → says no_line (set g 0 n) bs' ≡ desk_says line at g bs
+          pub desk_fails : all ≡ false → says None (set g 0 n) bs' ≡ desk_says line at g bs
           unfolding desk_says
           desk_fails h = rw (lt-leb (length line) at inside, ← counts, ne_eqb n 0 some, eq-eqb (at + 2 * n) (length line) whole, le-ltb 100 n few, ← reads, h)
 
-          pub desk_taken : all ≡ true → says 68 (set g 0 n) bs' ≡ desk_says line at g bs
+          pub desk_taken : all ≡ true → says (Some 68) (set g 0 n) bs' ≡ desk_says line at g bs
           unfolding desk_says
           desk_taken h = rw (lt-leb (length line) at inside, ← counts, ne_eqb n 0 some, eq-eqb (at + 2 * n) (length line) whole, le-ltb 100 n few, ← reads, h)
 
-  pub entry_past : length line < at → says no_line g bs ≡ entry_says line at g bs
+  pub entry_past : length line < at → says None g bs ≡ entry_says line at g bs
   unfolding entry_says
   entry_past h = rw (lt-ltb (length line) at h)
 
   module _ (inside : at ≤ length line) where
-    pub entry_part : (length line - at ≡ 40 → ⊥) → says no_line g bs ≡ entry_says line at g bs
+    pub entry_part : (length line - at ≡ 40 → ⊥) → says None g bs ≡ entry_says line at g bs
     unfolding entry_says
     entry_part h = rw (le-ltb (length line) at inside, ne_eqb (length line - at) 40 h)
 
     module _ (whole : length line - at ≡ 40) (all : Bool) (bs' : List ℕ) (reads : got all bs' ≡ bytes_at 20 line at bs 0) where
-      pub entry_fails : all ≡ false → says no_line g bs' ≡ entry_says line at g bs
+      pub entry_fails : all ≡ false → says None g bs' ≡ entry_says line at g bs
       unfolding entry_says
       entry_fails h = rw (le-ltb (length line) at inside, eq-eqb (length line - at) 40 whole, ← reads, h)
 
-      pub entry_taken : all ≡ true → says 114 g bs' ≡ entry_says line at g bs
+      pub entry_taken : all ≡ true → says (Some 114) g bs' ≡ entry_says line at g bs
       unfolding entry_says
       entry_taken h = rw (le-ltb (length line) at inside, eq-eqb (length line - at) 40 whole, ← reads, h)
 
   module _ (end : ℕ) (g₁ : List ℕ) (named : matched end g₁ ≡ values line (matched at g)) where
-    pub load_values : end ≡ length line → says 108 (set g₁ 7 kept) bs ≡ load_says line at g bs
+    pub load_values : end ≡ length line → says (Some 108) (set g₁ 7 kept) bs ≡ load_says line at g bs
     unfolding load_says
     load_values h = rw (← named, eq-eqb end (length line) h)
 

@@ -1,35 +1,34 @@
 -- What a line of a call script says, in the words of CALLS: its key, and the numbers and bytes that it gives.
 -- Assumes nothing.
-use Rattle.std.specs.Prelude.{ℕ, zero, suc, ◌+◌, ◌-◌, ◌*◌, ◌/◌, Bool, true, false, List, [], ◌∷◌, eqb, leb, ltb, length, get_or, set, take, drop}
+use Rattle.std.specs.Prelude.{ℕ, zero, suc, ◌+◌, ◌-◌, ◌*◌, ◌/◌, Bool, true, false, Option, Some, None, List, [], ◌∷◌, eqb, leb, ltb, length, get_or, set, take, drop}
 use Prim.Native.Char.{code}
 use Prim.Native.String.{String, [] as []ˢ, ◌∷◌ as ◌∷ˢ◌}
 use Rattle.types.specs.Pick.{pick}
 use Rattle.forms.specs.Find.{index_of}
 use Rattle.patterns.specs.Patterns.{digit_of, unreadable, kept, Matched, matched, match_at}
-use Rattle.session.specs.Session.{no_line}
 
 -- the codes of a text's characters
 abbrev pub codes : String → List ℕ
 codes []ˢ = []
 codes (c ∷ˢ s) = code c ∷ codes s
 
--- a line's key, and the numbers and bytes given then; the key of one that can't be read is `no_line`
+-- a line's key, and the numbers and bytes given then; of one that can't be read there is no key
 pub record Says : Type 0 where
-  pub key : ℕ
+  pub key : Option ℕ
   pub given : List ℕ
   pub bytes : List ℕ
 
-abbrev pub says : ℕ → List ℕ → List ℕ → Says
+abbrev pub says : Option ℕ → List ℕ → List ℕ → Says
 says key g bs = record { key = key; given = g; bytes = bs }
 
 -- By a table, whose rows are a key and a pattern with `;` behind it: the first pattern that the whole line matches. Each row has a
 -- character at least, so that as many turns as there are characters pass all of them.
 unfoldable pub key_by : ℕ → List ℕ → List ℕ → List ℕ → List ℕ → Says
-key_by zero rows line g bs = says no_line g bs
-key_by (suc k) [] line g bs = says no_line g bs
+key_by zero rows line g bs = says None g bs
+key_by (suc k) [] line g bs = says None g bs
 key_by (suc k) (key ∷ cs) line g bs =
     let m = match_at (take (index_of 59 cs) cs) line 0 g 0 in
-    pick (eqb m.end (length line)) (says key m.given bs) (key_by k (drop (index_of 59 cs + 1) cs) line m.given bs)
+    pick (eqb m.end (length line)) (says (Some key) m.given bs) (key_by k (drop (index_of 59 cs + 1) cs) line m.given bs)
 
 -- the lines that are read whole by a pattern; the last one is the empty line
 abbrev pub table : List ℕ
@@ -65,7 +64,7 @@ entries_at (suc k) line at bs first =
 
 -- a line that ends with bytes: its key where all could be read
 abbrev pub ended : ℕ → List ℕ → Got → Says
-ended key g b = says (pick b.all key no_line) g b.bytes
+ended key g b = says (pick b.all (Some key) None) g b.bytes
 
 -- a value that a load may name, by its row, as the number at a place; one that isn't named is kept
 unfoldable pub value : List ℕ → List ℕ → ℕ → Matched → Matched
@@ -86,9 +85,9 @@ values line m =
 unfoldable pub history_says : List ℕ → ℕ → List ℕ → List ℕ → Says
 history_says line at g bs =
     let n = (length line - at) / 41 in
-    pick (ltb (length line) at) (says no_line g bs)
+    pick (ltb (length line) at) (says None g bs)
     (pick (eqb (at + 41 * n) (length line))
-    (pick (ltb 300 n) (says no_line g bs) (ended 108 (set g 7 (20 * n)) (entries_at n line at bs 0))) (says no_line g bs))
+    (pick (ltb 300 n) (says None g bs) (ended 108 (set g 7 (20 * n)) (entries_at n line at bs 0))) (says None g bs))
 
 -- a load (l): the values, and a history or none
 unfoldable pub load_says : List ℕ → ℕ → List ℕ → List ℕ → Says
@@ -96,23 +95,23 @@ load_says line at g bs =
     let m = values line (matched at g) in
     let g' = set m.given 7 kept in
     let h = match_at (codes " history") line m.end g' 7 in
-    pick (eqb m.end (length line)) (says 108 g' bs) (history_says line h.end h.given bs)
+    pick (eqb m.end (length line)) (says (Some 108) g' bs) (history_says line h.end h.given bs)
 
 -- a desk (D): bytes up to the line's end, at most 100, or `-` for none; how many they are is the first number
 unfoldable pub desk_says : List ℕ → ℕ → List ℕ → List ℕ → Says
 desk_says line at g bs =
     let n = (length line - at) / 2 in
     let g' = set g 0 n in
-    pick (leb (length line) at) (says no_line g bs)
-    (pick (eqb n 0) (says (pick (eqb (get_or line at 0) 45) 68 no_line) g' bs)
+    pick (leb (length line) at) (says None g bs)
+    (pick (eqb n 0) (says (pick (eqb (get_or line at 0) 45) (Some 68) None) g' bs)
     (pick (eqb (at + 2 * n) (length line))
-    (pick (ltb 100 n) (says no_line g' bs) (ended 68 g' (bytes_at n line at bs 0))) (says no_line g' bs)))
+    (pick (ltb 100 n) (says None g' bs) (ended 68 g' (bytes_at n line at bs 0))) (says None g' bs)))
 
 -- the reading of an entry (r): 20 bytes up to the line's end
 unfoldable pub entry_says : List ℕ → ℕ → List ℕ → List ℕ → Says
 entry_says line at g bs =
-    pick (ltb (length line) at) (says no_line g bs)
-    (pick (eqb (length line - at) 40) (ended 114 g (bytes_at 20 line at bs 0)) (says no_line g bs))
+    pick (ltb (length line) at) (says None g bs)
+    (pick (eqb (length line - at) 40) (ended 114 g (bytes_at 20 line at bs 0)) (says None g bs))
 
 unfoldable pub line_says : List ℕ → List ℕ → List ℕ → Says
 line_says line g bs =
@@ -128,4 +127,4 @@ line_says line g bs =
 -- A line of so many characters, which stand at the front of a text; of more than 16,384 only the first ones do. Behind `#` it is passed over, as the empty one.
 abbrev pub text_says : List ℕ → ℕ → List ℕ → List ℕ → Says
 text_says text count g bs =
-    pick (eqb (get_or text 0 0) 35) (says 32 g bs) (pick (ltb 16384 count) (says no_line g bs) (line_says (take count text) g bs))
+    pick (eqb (get_or text 0 0) 35) (says (Some 32) g bs) (pick (ltb 16384 count) (says None g bs) (line_says (take count text) g bs))

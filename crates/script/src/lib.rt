@@ -14,13 +14,12 @@ use forms::find::find;
 use lines::Line;
 use load::read_load;
 use patterns::{Given, UNREADABLE, match_at};
-use session::NO_LINE;
 
 // The bytes of as many entries as a load may have, 300.
 pub type EntryBuffer = [u8; 6000];
 
 // Reads a line by a table, whose rows are a key and a pattern.
-fn read_by(rows: &[u8], line: &[u8], given: &mut Given) -> u8
+fn read_by(rows: &[u8], line: &[u8], given: &mut Given) -> Option<u8>
     ensures { (bs : List ℕ) → says result given.new bs ≡ key_by (length rows.now) rows.now line.now given.old bs }
 {
     let mut from = 0;
@@ -29,14 +28,14 @@ fn read_by(rows: &[u8], line: &[u8], given: &mut Given) -> u8
         let pattern = from + 1;
         let end = find(rows, pattern, rows.len(), b';');
         if match_at(&rows[pattern..end], line, 0, given, 0) == line.len() {
-            return key;
+            return Some(key);
         }
         from = end + 1;
     }
-    NO_LINE
+    None
 }
 
-fn read_table(line: &[u8], given: &mut Given) -> u8
+fn read_table(line: &[u8], given: &mut Given) -> Option<u8>
     ensures { (bs : List ℕ) → says result given.new bs ≡ table_says line.now given.old bs }
 {
     read_by(
@@ -49,50 +48,50 @@ fn read_table(line: &[u8], given: &mut Given) -> u8
 
 // Reads the bytes that stand from a place to the line's end, at most 100 of them; how many they are becomes the first number. No bytes
 // are `-`.
-fn read_desk(line: &[u8], at: usize, given: &mut Given, bytes: &mut EntryBuffer) -> u8
+fn read_desk(line: &[u8], at: usize, given: &mut Given, bytes: &mut EntryBuffer) -> Option<u8>
     ensures { says result given.new bytes.new ≡ desk_says line.now at given.old bytes.old }
 {
     if line.len() <= at {
-        return NO_LINE;
+        return None;
     }
     let count = (line.len() - at) / 2;
     given[0] = count as u64;
     if count == 0 {
         if line[at] != b'-' {
-            return NO_LINE;
+            return None;
         }
-        return b'D';
+        return Some(b'D');
     }
     if at + 2 * count != line.len() {
-        return NO_LINE;
+        return None;
     }
     if 100 < count {
-        return NO_LINE;
+        return None;
     }
     if read_bytes(line, at, count, bytes, 0) {
-        return b'D';
+        return Some(b'D');
     }
-    NO_LINE
+    None
 }
 
 // Reads the 20 bytes of an entry.
-fn read_entry(line: &[u8], at: usize, bytes: &mut EntryBuffer) -> u8
+fn read_entry(line: &[u8], at: usize, bytes: &mut EntryBuffer) -> Option<u8>
     ensures { (g : List ℕ) → says result g bytes.new ≡ entry_says line.now at g bytes.old }
 {
     if line.len() < at {
-        return NO_LINE;
+        return None;
     }
     if line.len() - at != 40 {
-        return NO_LINE;
+        return None;
     }
     if read_bytes(line, at, 20, bytes, 0) {
-        return b'r';
+        return Some(b'r');
     }
-    NO_LINE
+    None
 }
 
 // Reads a line that is no comment.
-fn read_line(line: &[u8], given: &mut Given, bytes: &mut EntryBuffer) -> u8
+fn read_line(line: &[u8], given: &mut Given, bytes: &mut EntryBuffer) -> Option<u8>
     ensures { says result given.new bytes.new ≡ line_says line.now given.old bytes.old }
 {
     let load = match_at(b"load", line, 0, given, 0);
@@ -112,14 +111,14 @@ fn read_line(line: &[u8], given: &mut Given, bytes: &mut EntryBuffer) -> u8
 
 // Reads a line of some length. One that is longer than the buffer may still be a comment. Of an empty line the first character is of
 // an earlier one; if that is a comment, both are passed over alike.
-pub fn read(line: &Line, given: &mut Given, bytes: &mut EntryBuffer) -> u8
+pub fn read(line: &Line, given: &mut Given, bytes: &mut EntryBuffer) -> Option<u8>
     ensures { says result given.new bytes.new ≡ text_says line.now.text line.now.length given.old bytes.old }
 {
     if line.text[0] == b'#' {
-        return b' ';
+        return Some(b' ');
     }
     if 16384 < line.length {
-        return NO_LINE;
+        return None;
     }
     read_line(&line.text[..line.length], given, bytes)
 }

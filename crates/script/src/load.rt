@@ -6,7 +6,6 @@ ghost use Rattle.script.specs.Script.{says, value, values, history_says, load_sa
 use crate::EntryBuffer;
 use crate::digits::read_entries;
 use patterns::{Given, KEPT, UNREADABLE, match_at};
-use session::NO_LINE;
 
 // Reads a value that may be named at a place; the place behind.
 fn read_value(row: &[u8], line: &[u8], at: usize, given: &mut Given, place: usize) -> usize
@@ -35,33 +34,38 @@ fn read_values(line: &[u8], from: usize, given: &mut Given) -> usize
 }
 
 // Reads the history, which goes up to the line's end.
-fn read_history(line: &[u8], at: usize, given: &mut Given, bytes: &mut EntryBuffer) -> u8
+fn read_history(line: &[u8], at: usize, given: &mut Given, bytes: &mut EntryBuffer) -> Option<u8>
     ensures { says result given.new bytes.new ≡ history_says line.now at given.old bytes.old }
 {
     if line.len() < at {
-        return NO_LINE;
+        return None;
     }
     let count = (line.len() - at) / 41;
     if at + 41 * count != line.len() {
-        return NO_LINE;
+        return None;
     }
     if 300 < count {
-        return NO_LINE;
+        return None;
     }
     given[7] = 20 * count as u64;
     if read_entries(line, at, count, bytes) {
-        return b'l';
+        return Some(b'l');
     }
-    NO_LINE
+    None
 }
 
-pub(crate) fn read_load(line: &[u8], at: usize, given: &mut Given, bytes: &mut EntryBuffer) -> u8
+pub(crate) fn read_load(
+    line: &[u8],
+    at: usize,
+    given: &mut Given,
+    bytes: &mut EntryBuffer,
+) -> Option<u8>
     ensures { says result given.new bytes.new ≡ load_says line.now at given.old bytes.old }
 {
     let behind = read_values(line, at, given);
     given[7] = KEPT;
     if behind == line.len() {
-        return b'l';
+        return Some(b'l');
     }
     let from = match_at(b" history", line, behind, given, 7);
     read_history(line, from, given, bytes)

@@ -1,21 +1,18 @@
--- The key of a line as it is played: that of a line that can't be is `?`. And the run that a script lends: 32 places in the words of the nodes, 8 behind them.
+-- The key of a line as it is played: of a line that can't be there is none. And the run that a script lends: 32 places in the words of the nodes, 8 behind them.
 -- Assumes nothing.
-use Rattle.std.specs.Prelude.{ℕ, zero, suc, ◌+◌, ◌-◌, ◌*◌, min, max, Bool, List, [], ◌∷◌, eqb, leb, ltb, get_or, set, replicate}
+use Rattle.std.specs.Prelude.{ℕ, zero, suc, ◌+◌, ◌-◌, ◌*◌, min, max, Bool, Option, Some, None, List, [], ◌∷◌, eqb, leb, ltb, get_or, set, replicate}
 use Rattle.types.specs.Pick.{pick, both}
 use Rattle.session.specs.declared.Session.{Session}
 use Rattle.session.specs.declared.Places.{Places}
-
-abbrev pub no_line : ℕ
-no_line = 63
 
 -- a line that needs a head: its key is a small letter
 abbrev pub needs_head : ℕ → Bool
 needs_head key = both (leb 97 key) (leb key 122)
 
 -- one that needs a head needs an accepted start before it; a watch (`W`) needs a place, and there are 40
-abbrev pub key_after : Session → ℕ → ℕ
+abbrev pub key_after : Session → ℕ → Option ℕ
 key_after s key =
-    pick (needs_head key) (pick s.started key no_line) (pick (eqb key 87) (pick (ltb s.number 40) key no_line) key)
+    pick (needs_head key) (pick s.started (Some key) None) (pick (eqb key 87) (pick (ltb s.number 40) (Some key) None) (Some key))
 
 -- of another number of places, one that number 3 declines
 abbrev pub lent_number : Session → ℕ

@@ -9,9 +9,6 @@ ghost use Rattle.session.specs.Session.{key_after, lent_number, with_run, places
 use patterns::Given;
 use watched::nodes::NodeWords;
 
-// The key of a line that can't be read or played.
-pub const NO_LINE: u8 = b'?';
-
 // The places of a run: those that a call is lent, and those behind them.
 #[derive(Drop)]
 pub struct Places {
@@ -119,15 +116,15 @@ impl Session {
         }
     }
 
-    // A line that can't be: one that needs a head before the first accepted start (these have small letters for keys), and a watch
+    // The key of a line, where it can be: no line that needs a head before the first accepted start (these have small letters for keys), and a watch
     // where there is no more room.
-    pub fn key_after(self, key: u8) -> u8
+    pub fn key_after(self, key: u8) -> Option<u8>
         ensures { result ≡ key_after self key }
     {
         match key {
-            b'a'..=b'z' => { if self.started { key } else { NO_LINE } }
-            b'W' => { if self.number < 40 { key } else { NO_LINE } }
-            _ => key,
+            b'a'..=b'z' => self.started.then_some(key),
+            b'W' => (self.number < 40).then_some(key),
+            _ => Some(key),
         }
     }
 
