@@ -1,6 +1,6 @@
 // The watched nodes in lent words, three a node: its number, its timeout, when it was last heard. 32 places, of which the first so many are
 // watched.
-ghost use Rattle.std.specs.Prelude.{◌≡◌, ◌≤◌, ◌<◌, true, length, MatchOption};
+ghost use Rattle.std.specs.Prelude.{◌≡◌, ◌≤◌, true, length};
 ghost use Rattle.watched.specs.Watched.{all_of, well_formed, watched_of};
 ghost use Rattle.watched.specs.Climb.{climbed, climb_of, climbed_of, heard_climbed, nodes_from};
 ghost use Rattle.watched.specs.Nodes.{never, climbing, numbered, roused_from, nodes_tried, found_of, seen_of, nodes_of};
@@ -49,17 +49,6 @@ struct Ahead<'a> {
 }
 
 impl<'a> Ahead<'a> {
-    fn after(self, place: usize, last: u64) -> Self
-        ensures { (result.nodes.now ≡ self.entry.nodes.now) × (result.count ≡ self.entry.count) × (result.place ≡ place) × (result.last ≡ last) }
-    {
-        Ahead {
-            nodes: self.nodes,
-            count: self.count,
-            place,
-            last,
-        }
-    }
-
     // Walks the nodes as long as their numbers climb and none is the one sought. What is asked of their times is asked of all together, behind the walk: it
     // has no other test, and is as fast whatever the times are. It counts by hand, since where it ends is its answer.
     fn climb(self, sought: u64) -> Climbed
@@ -136,8 +125,13 @@ impl<'a> Ahead<'a> {
             last_heard: time,
             ..node
         };
-        self.after(self.place + 1, node.node)
-            .climb_from(heard.sooner(before))
+        let rest = Ahead {
+            nodes: self.nodes,
+            count: self.count,
+            place: self.place + 1,
+            last: node.node,
+        };
+        rest.climb_from(heard.sooner(before))
     }
 
     // From one on that does not rest: no moment is worked out, since the look will work it out.
@@ -161,28 +155,21 @@ impl<'a> Ahead<'a> {
     }
 }
 
-// All watched nodes, where they are few enough.
-fn all(nodes: &NodeWords, count: usize) -> Option<Ahead>
-    ensures { MatchOption result (32 < count) (λ a. (a.nodes.now ≡ nodes.now) × (a.count ≡ count) × (a.place ≡ 0) × (a.last ≡ 0)) }
-{
-    if 32 < count {
-        return None;
-    }
-    Some(Ahead {
-        nodes,
-        count,
-        place: 0,
-        last: 0,
-    })
-}
-
 // Whether the first nodes are few enough, ascending, and each within its limits; and their soonest moment.
 pub fn try_nodes(nodes: &NodeWords, count: usize) -> Option<u64>
     ensures { result ≡ nodes_tried (watched_of (nodes_of nodes.now) count) }
 {
-    let nodes = all(nodes, count)?;
-    let soonest = nodes.climb_from(NEVER)?;
-    if !nodes.have_numbers() {
+    if 32 < count {
+        return None;
+    }
+    let all = Ahead {
+        nodes,
+        count,
+        place: 0,
+        last: 0,
+    };
+    let soonest = all.climb_from(NEVER)?;
+    if !all.have_numbers() {
         return None;
     }
     Some(soonest)
@@ -198,14 +185,27 @@ pub fn well_formed(nodes: &NodeWords, count: usize) -> bool
 pub fn find(nodes: &NodeWords, count: usize, node: u64, time: u64) -> Option<(usize, u64)>
     ensures { result ≡ found_of node time (watched_of (nodes_of nodes.now) count) }
 {
-    let nodes = all(nodes, count)?;
-    let front = nodes.climb(node);
+    if 32 < count {
+        return None;
+    }
+    let all = Ahead {
+        nodes,
+        count,
+        place: 0,
+        last: 0,
+    };
+    let front = all.climb(node);
     if !in_time(front.times) {
         return None;
     }
-    let rest = nodes.after(front.place, front.last);
+    let rest = Ahead {
+        nodes,
+        count,
+        place: front.place,
+        last: front.last,
+    };
     let soonest = rest.hear_first(front.soonest.saturating_add(3), time)?;
-    if !nodes.have_numbers() {
+    if !all.have_numbers() {
         return None;
     }
     Some((front.place, soonest))

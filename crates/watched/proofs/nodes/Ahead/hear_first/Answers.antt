@@ -14,7 +14,6 @@ returns-then-not-climbs c =
 pub returns : goal.returns
 returns c =
     let s = c.args.self in
-    let e = c.after.ensures in
-    rw (e.0, e.1, e.2, e.3) at c.climb_from.ensures
+    c.climb_from.ensures
     ∙ first_next s.nodes.now s.count s.few s.place s.last c.args.«before» c.args.time c.if-self.false (node_of c.at-node.result) c.at-node.ensures
     c.climbs.result c.climbs.ensures c.if-not-climbs.false c.sooner.result c.sooner.ensures

@@ -23,8 +23,9 @@ loop-i-preserved c =
       climbing_next s.nodes.now s.count s.few l.i l.above _ l.invariant.0 c.loop-i-test.true (node_of c.at-node.result) c.at-node.ensures c.climbs.result c.climbs.ensures c.if-not-climbs.false,
       heard_all_next s.nodes.now s.count s.few l.i c.args.time _ l.heard l.invariant.1 c.loop-i-test.true (node_of c.at-node.result) c.at-node.ensures c.if-heard.heard
           (elim c.if-heard.branch [
-            then-heard w ↦ w.heard-is ∙ w.heard_by-heard.ensures ∙ sym (ap (λ b. both b (not_before c.args.time (node_of c.at-node.result))) w.if-heard.true)
-          | else-heard w ↦ w.heard-is ∙ w.if-heard.false ∙ sym (ap (λ b. both b (not_before c.args.time (node_of c.at-node.result))) w.if-heard.false) ]),
+            | then-heard w ↦ w.heard-is ∙ w.heard_by-heard.ensures ∙ sym (ap (λ b. both b (not_before c.args.time (node_of c.at-node.result))) w.if-heard.true)
+            | else-heard w ↦ w.heard-is ∙ w.if-heard.false ∙ sym (ap (λ b. both b (not_before c.args.time (node_of c.at-node.result))) w.if-heard.false)
+          ]),
     )
 
 pub returns-then-not-have_numbers : goal.returns-then-not-have_numbers
