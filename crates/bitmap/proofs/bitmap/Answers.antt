@@ -6,10 +6,6 @@ use Rattle.watched.specs.Nodes.{nodes_of}
 use Rattle.bitmap.proofs.Bitmaps.{ones_fit, sum_ones, turned_away_lem, written}
 use Rattle.bitmap.proofs.bitmap.Goals as goal
 
-pub well_formed-requires : goal.well_formed-requires
-well_formed-requires c =
-    tt
-
 pub returns-then-not-well_formed : goal.returns-then-not-well_formed
 returns-then-not-well_formed c =
     let a = c.args in

@@ -31,22 +31,12 @@ bounds-bytes-at c =
     let a = c.args in
     omega (arith, node_read a.nodes.now l.i c.at-node.ensures, node_below a.nodes.now a.count c.requires l.i (omega arith) l.invariant.2)
 
-pub with_node-requires : goal.with_node-requires
-unfolding bytes_of listed
-with_node-requires c =
-    tt
-
 pub bounds-bytes-at-in-loop-i : goal.bounds-bytes-at-in-loop-i
 unfolding bytes_of listed
 bounds-bytes-at-in-loop-i c =
     let l = c.loop-i in
     let a = c.args in
     omega (arith, node_read a.nodes.now l.i c.at-node.ensures, node_below a.nodes.now a.count c.requires l.i (omega arith) l.invariant.2)
-
-pub loop-i-smaller : goal.loop-i-smaller
-unfolding bytes_of listed
-loop-i-smaller c =
-    omega arith
 
 pub loop-i-preserved : goal.loop-i-preserved
 unfolding bytes_of listed

@@ -1,6 +1,6 @@
 -- `bitmap::set_bits` meets its contract: after i turns the bytes are those of the first i nodes.
 -- Assumes nothing.
-use Prim.Native.Nat.{◌-◌, ◌≤◌}
+use Prim.Native.Nat.{◌≤◌}
 use mathlib.Core.Path.{◌≡◌}
 use Rattle.watched.specs.Watched.{watched_of}
 use Rattle.watched.specs.Nodes.{nodes_of}
@@ -10,6 +10,3 @@ use Rattle.bitmap.proofs.set_bits.Given as goal
 abbrev pub invariant-loop-i : goal.invariant-loop-i
 invariant-loop-i l =
     (l.bytes ≡ bytes_of (watched_of (nodes_of l.nodes) l.i)) × (l.i ≤ l.count) × (l.count ≤ 32)
-
-abbrev pub decreases-loop-i : goal.decreases-loop-i
-decreases-loop-i l = l.count - l.i
