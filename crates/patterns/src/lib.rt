@@ -187,13 +187,12 @@ pub fn match_at(pattern: &[u8], line: &[u8], from: usize, given: &mut Given, fir
     }
     let mut at = from;
     let mut place = first;
-    for i in 0..pattern.len() {
-        let c = pattern[i];
-        at = match_one(c, line, at, given, place);
+    for c in pattern {
+        at = match_one(*c, line, at, given, place);
         if at == UNREADABLE {
             return at;
         }
-        place += numbers_in(c);
+        place += numbers_in(*c);
     }
     at
 }

@@ -11,24 +11,24 @@ pub returns-then-first-gt17 : goal.returns-then-first-gt17
 returns-then-first-gt17 c =
     rw (lt-ltb 17 _ c.if-first-gt17.true)
 
-pub loop-i-init : goal.loop-i-init
-loop-i-init c =
+pub loop-c-init : goal.loop-c-init
+loop-c-init c =
     (refl, omega arith)
 
 pub returns-then-at : goal.returns-then-at
 returns-then-at c =
-    let l = c.loop-i in
+    let l = c.loop-c in
     let a = c.args in
-    within a.pattern.now a.line.now a.from a.given.now a.first c.if-first-gt17.false (pattern_fails a.pattern.now a.line.now l.at l.given l.place l.i c.loop-i-test.true _ _ c.match_one-at.ensures c.if-at.true ∙ l.invariant.0)
+    within a.pattern.now a.line.now a.from a.given.now a.first c.if-first-gt17.false (pattern_fails a.pattern.now a.line.now l.at l.given l.place l.c-index c.loop-c-test.true _ _ c.match_one-at.ensures c.if-at.true ∙ l.invariant.0)
 
-pub loop-i-preserved : goal.loop-i-preserved
-loop-i-preserved c =
-    let l = c.loop-i in
+pub loop-c-preserved : goal.loop-c-preserved
+loop-c-preserved c =
+    let l = c.loop-c in
     let a = c.args in
-    (pattern_goes a.pattern.now a.line.now l.at l.given l.place l.i c.loop-i-test.true _ _ c.match_one-at.ensures c.if-at.false _ c.numbers_in-place.ensures.0 ∙ l.invariant.0, search rules)
+    (pattern_goes a.pattern.now a.line.now l.at l.given l.place l.c-index c.loop-c-test.true _ _ c.match_one-at.ensures c.if-at.false _ c.numbers_in-place.ensures.0 ∙ l.invariant.0, search rules)
 
 pub returns : goal.returns
 returns c =
-    let l = c.loop-i in
+    let l = c.loop-c in
     let a = c.args in
-    within a.pattern.now a.line.now a.from a.given.now a.first c.if-first-gt17.false (pattern_ends a.pattern.now a.line.now l.at l.given l.place l.i c.loop-i-test.false ∙ l.invariant.0)
+    within a.pattern.now a.line.now a.from a.given.now a.first c.if-first-gt17.false (pattern_ends a.pattern.now a.line.now l.at l.given l.place l.c-index c.loop-c-test.false ∙ l.invariant.0)

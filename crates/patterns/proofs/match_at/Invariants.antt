@@ -6,9 +6,9 @@ use lib.ListN.{drop}
 use Rattle.patterns.specs.Patterns.{match_from}
 use Rattle.patterns.proofs.match_at.Given as goal
 
-abbrev pub invariant-loop-i : goal.invariant-loop-i
-invariant-loop-i l =
-    (match_from (drop l.i l.pattern) l.line l.at l.given l.place ≡ match_from l.pattern l.line l.from l.initial.given l.first) × (l.place ≤ l.i + 17)
+abbrev pub invariant-loop-c : goal.invariant-loop-c
+invariant-loop-c l =
+    (match_from (drop l.c-index l.pattern) l.line l.at l.given l.place ≡ match_from l.pattern l.line l.from l.initial.given l.first) × (l.place ≤ l.c-index + 17)
 
-abbrev pub decreases-loop-i : goal.decreases-loop-i
-decreases-loop-i l = l.i-end - l.i
+abbrev pub decreases-loop-c : goal.decreases-loop-c
+decreases-loop-c l = l.c-index-end - l.c-index
