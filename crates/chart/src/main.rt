@@ -211,7 +211,7 @@ fn print_moves(out: &mut Output) {
     }
 }
 
-// An NMT machine in the position of a line.
+// An NMT machine in the position of a line. Written out, as in transitions and examples: each program has numbers of its own.
 fn machine_at(line: Line) -> CnNmtStateMachine
     ensures { result ≡ standing line.0 line.1 line.2 }
 {

@@ -19,11 +19,11 @@ use Rattle.examples.specs.Same.{Exactly, blank}
 use Rattle.examples.proofs.Exact.{exact_number, exact_by, exact_and, exact_is, no}
 
 -- a node by its three numbers
-exact_node : (x y : WatchedNode) → Exactly (eqb x.node y.node && eqb x.timeout y.timeout && eqb x.last_heard y.last_heard) (x ≡ y)
+pub exact_node : (x y : WatchedNode) → Exactly (eqb x.node y.node && (eqb x.timeout y.timeout && eqb x.last_heard y.last_heard)) (x ≡ y)
 exact_node x y =
-    exact_by (exact_and (exact_and (exact_number _ _) (exact_number _ _)) (exact_number _ _))
-    (λ h. λ i. watched_node (h.0.0 i) (h.0.1 i) (h.1 i))
-    (λ e. ((ap (λ (w : WatchedNode). w.node) e, ap (λ (w : WatchedNode). w.timeout) e), ap (λ (w : WatchedNode). w.last_heard) e))
+    exact_by (exact_and (exact_number _ _) (exact_and (exact_number _ _) (exact_number _ _)))
+    (λ h. λ i. watched_node (h.0 i) (h.1.0 i) (h.1.1 i))
+    (λ e. (ap (λ (w : WatchedNode). w.node) e, (ap (λ (w : WatchedNode). w.timeout) e, ap (λ (w : WatchedNode). w.last_heard) e)))
 
 first_same : {A : Type 0} {a b : A} {xs ys : List A} → a ∷ xs ≡ b ∷ ys → a ≡ b
 first_same e = cc
@@ -79,7 +79,6 @@ module _ (ns : List ℕ) where
   ends i h l = sym (l ∙ ap (all_of blank) (drop_of_length-le (nodes_of ns) {i = i} (omega (arith, places ns))))
 
   pub exact_watching :
-      (n t s : ℕ) (b : Bool) → b ≡ all_of blank (drop 1 (nodes_of ns)) →
-      Exactly (eqb (get_or ns 0 0) n && eqb (get_or ns 1 0) t && eqb (get_or ns 2 0) s && b) (run (nodes_of ns) 1 ≡ holding (watched_node n t s ∷ []))
+      (w : WatchedNode) {a b : Bool} → Exactly a (node_at ns 0 ≡ w) → b ≡ all_of blank (drop 1 (nodes_of ns)) → Exactly (a && b) (run (nodes_of ns) 1 ≡ holding (w ∷ []))
   unfolding nodes_of listed
-  exact_watching n t s b e = exact_one (nodes_of ns) (drop 1 (nodes_of ns)) (node_at ns 0) (watched_node n t s) refl refl (exact_node _ _) e
+  exact_watching w x e = exact_one (nodes_of ns) (drop 1 (nodes_of ns)) (node_at ns 0) w refl refl x e

@@ -10,7 +10,8 @@ ghost use Rattle.examples.specs.Same.{Exactly};
 ghost use Rattle.examples.specs.Said.{nmt_stated, dll_stated, error_stated, tick_stated};
 ghost use Rattle.examples.specs.Shown.{Came};
 
-use crate::answers::{Stated, dll_says, error_says, is_taken, nmt_says, tick_says};
+use crate::answers::{error_says, is_taken, nmt_says, says};
+use crate::bench::Bench;
 use crate::same::same_head;
 use counters::counters::CounterKind;
 use head::parts::counter_of;
@@ -18,6 +19,7 @@ use head::state::Head;
 use node::calls::{dll_event, handle_error, nmt_event, on_cycle_complete, withdraw};
 use node::heard::heard;
 use tick::tick::process_tick;
+use types::frame::error::types::DllErrors;
 use watched::nodes::NodeWords;
 
 pub fn withdrawn(head: &mut Head, after: &Head) -> bool
@@ -27,17 +29,17 @@ pub fn withdrawn(head: &mut Head, after: &Head) -> bool
     said & same_head(head, after)
 }
 
-pub fn nmt_comes(head: &mut Head, event: u64, stated: Stated, whole: bool, after: &Head) -> bool
+pub fn nmt_comes(head: &mut Head, event: u64, stated: DllErrors, whole: bool, after: &Head) -> bool
     ensures { (q m : List ℕ) → Came head.old q m (Call.nmt_event event) (nmt_stated stated whole) after.now head.new q m no_run result }
 {
     let said = nmt_says(nmt_event(head, event), stated, whole);
     said & same_head(head, after)
 }
 
-pub fn dll_comes(head: &mut Head, event: u64, preq: bool, stated: Stated, after: &Head) -> bool
+pub fn dll_comes(head: &mut Head, event: u64, preq: bool, stated: DllErrors, after: &Head) -> bool
     ensures { (q m : List ℕ) → Came head.old q m (Call.dll_event event preq) (dll_stated stated) after.now head.new q m no_run result }
 {
-    let said = dll_says(dll_event(head, event, preq), stated);
+    let said = says(dll_event(head, event, preq), stated);
     said & same_head(head, after)
 }
 
@@ -78,20 +80,22 @@ pub fn heard_comes(
 }
 
 pub fn tick_comes(
-    head: &mut Head,
-    queue: &mut [u8; 640],
-    history: &mut [u8; 5080],
-    nodes: &mut NodeWords,
+    bench: &mut Bench,
     count: usize,
     time: u64,
-    stated: Stated,
+    stated: DllErrors,
     after: &Head,
 ) -> bool
-    ensures { Came head.old queue.old history.old (Call.tick time (run (nodes_of nodes.old) count)) (tick_stated stated) after.now head.new queue.new history.new (run (nodes_of nodes.new) count) result }
+    ensures { Came bench.old.head bench.old.queue bench.old.history (Call.tick time (run (nodes_of bench.old.nodes) count)) (tick_stated stated) after.now bench.new.head bench.new.queue bench.new.history (run (nodes_of bench.new.nodes) count) result }
 {
-    let said = tick_says(
-        process_tick(head, queue, history, nodes, count, time),
-        stated,
+    let answer = process_tick(
+        &mut bench.head,
+        &mut bench.queue,
+        &mut bench.history,
+        &mut bench.nodes,
+        count,
+        time,
     );
-    said & same_head(head, after)
+    let said = says(answer, stated);
+    said & same_head(&bench.head, after)
 }

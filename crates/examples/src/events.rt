@@ -4,12 +4,13 @@ ghost use Rattle.node.specs.Steps.{no_run};
 ghost use Rattle.node.specs.Examples as table;
 ghost use Rattle.examples.specs.Shown.{Shown};
 
-use crate::answers::{Stated, is_taken};
+use crate::answers::is_taken;
 use crate::comes::{cycle_comes, dll_comes, error_comes, nmt_comes, raises_to, withdrawn};
 use crate::heads::{counting, resting, values};
 use counters::counters::Thresholds;
 use head::state::Head;
 use start::start::start;
+use types::frame::error::types::{DllError, DllErrors};
 use types::nmt::flags::FeatureFlags;
 use types::nmt::states::NmtState;
 use watched::nodes::NodeWords;
@@ -23,7 +24,7 @@ pub fn sw_reset(head: &mut Head, after: &mut Head, nodes: &mut NodeWords) -> boo
     let thresholds = Thresholds::same_for_all(15);
     let answer = start(head, nodes, 0, 1, FeatureFlags(0), 5, 1, od, thresholds);
     let started = is_taken(answer);
-    started & nmt_comes(head, 5, Stated::Nothing, true, after)
+    started & nmt_comes(head, 5, DllErrors::None, true, after)
 }
 
 // NotActive, Timeout: 0x1E.
@@ -32,7 +33,7 @@ pub fn timeout(head: &mut Head, after: &mut Head) -> bool
 {
     resting(head, NmtState::NmtNotActive, false, true);
     resting(after, NmtState::NmtBasicEthernet, false, true);
-    nmt_comes(head, 10, Stated::Nothing, false, after)
+    nmt_comes(head, 10, DllErrors::None, false, after)
 }
 
 // PreOperational2, withdrawn, EnableReadyToOperate: stays, enabled; ready word: 0x6D.
@@ -43,9 +44,9 @@ pub fn enable(head: &mut Head, after: &mut Head) -> bool
     resting(after, NmtState::NmtPreOperational2, false, false);
     let withdrawn = withdrawn(head, after);
     resting(after, NmtState::NmtPreOperational2, true, false);
-    let enabled = nmt_comes(head, 3, Stated::Nothing, false, after);
+    let enabled = nmt_comes(head, 3, DllErrors::None, false, after);
     resting(after, NmtState::NmtReadyToOperate, true, true);
-    withdrawn & enabled & nmt_comes(head, 15, Stated::Nothing, false, after)
+    withdrawn & enabled & nmt_comes(head, 15, DllErrors::None, false, after)
 }
 
 // ReadyToOperate, EnterPreOperational2: stays, error (0x6D, 2).
@@ -54,7 +55,16 @@ pub fn no_row(head: &mut Head, after: &mut Head) -> bool
 {
     resting(head, NmtState::NmtReadyToOperate, true, true);
     resting(after, NmtState::NmtReadyToOperate, true, true);
-    nmt_comes(head, 2, Stated::Unexpected(0x6D, 2), false, after)
+    nmt_comes(
+        head,
+        2,
+        DllErrors::One(DllError::UnexpectedEventInState {
+            state: 0x6D,
+            event: 2,
+        }),
+        false,
+        after,
+    )
 }
 
 // Operational, NonCyclic, SocTimeout: error (0, 5).
@@ -63,7 +73,13 @@ pub fn no_cycle(head: &mut Head, after: &mut Head) -> bool
 {
     resting(head, NmtState::NmtOperational, false, true);
     resting(after, NmtState::NmtOperational, false, true);
-    dll_comes(head, 5, false, Stated::Unexpected(0, 5), after)
+    dll_comes(
+        head,
+        5,
+        false,
+        DllErrors::One(DllError::UnexpectedEventInState { state: 0, event: 5 }),
+        after,
+    )
 }
 
 // Two SoC losses, one cycle between: 15, crossing.

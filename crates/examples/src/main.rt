@@ -3,6 +3,7 @@
 #![tactic(auto)]
 
 mod answers;
+mod bench;
 mod comes;
 mod events;
 mod heads;
@@ -11,59 +12,42 @@ mod runs;
 mod same;
 mod ticks;
 
+use crate::bench::Bench;
 use forms::output::Output;
-use head::state::Head;
 use std::io;
-use watched::nodes::NodeWords;
 
-fn say(out: &mut Output, number: u64, same: bool) {
-    out.write_number(number);
-    if same {
-        out.write(b" same\n");
-    } else {
-        out.write(b" differs\n");
-    }
+fn say(out: &mut Output, number: u8, same: bool) {
+    let outcome = if same { "same" } else { "differs" };
+    writeln!(out, "{number} {outcome}");
 }
 
 fn main(rt: HostRuntime) -> io::Result<()> {
     let mut output = Output::new(rt.stdout());
     let out = &mut output;
-    let mut head: Head = [0; 60];
-    let mut after: Head = [0; 60];
-    let mut nodes: NodeWords = [0; 96];
-    let mut queue = [0u8; 640];
-    let mut history = [0u8; 5080];
-    say(out, 1, events::sw_reset(&mut head, &mut after, &mut nodes));
-    say(out, 2, events::timeout(&mut head, &mut after));
-    say(out, 3, events::enable(&mut head, &mut after));
-    say(out, 4, events::no_row(&mut head, &mut after));
-    say(out, 5, events::no_cycle(&mut head, &mut after));
-    say(out, 6, events::one_between(&mut head, &mut after));
-    say(out, 7, events::two_between(&mut head, &mut after));
+    let mut bench = Bench {
+        head: [0; 60],
+        queue: [0; 640],
+        history: [0; 5080],
+        nodes: [0; 96],
+    };
+    let bench = &mut bench;
+    let mut after = [0; 60];
+    let after = &mut after;
     say(
         out,
-        8,
-        ticks::early(&mut head, &mut after, &mut queue, &mut history, &mut nodes),
+        1,
+        events::sw_reset(&mut bench.head, after, &mut bench.nodes),
     );
-    say(
-        out,
-        9,
-        ticks::at_limit(&mut head, &mut after, &mut queue, &mut history, &mut nodes),
-    );
-    say(
-        out,
-        10,
-        ticks::above_limit(&mut head, &mut after, &mut queue, &mut history, &mut nodes),
-    );
-    say(
-        out,
-        11,
-        ticks::then_crossing(&mut head, &mut after, &mut queue, &mut history, &mut nodes),
-    );
-    say(
-        out,
-        12,
-        ticks::late(&mut head, &mut after, &mut queue, &mut history, &mut nodes),
-    );
+    say(out, 2, events::timeout(&mut bench.head, after));
+    say(out, 3, events::enable(&mut bench.head, after));
+    say(out, 4, events::no_row(&mut bench.head, after));
+    say(out, 5, events::no_cycle(&mut bench.head, after));
+    say(out, 6, events::one_between(&mut bench.head, after));
+    say(out, 7, events::two_between(&mut bench.head, after));
+    say(out, 8, ticks::early(bench, after));
+    say(out, 9, ticks::at_limit(bench, after));
+    say(out, 10, ticks::above_limit(bench, after));
+    say(out, 11, ticks::then_crossing(bench, after));
+    say(out, 12, ticks::late(bench, after));
     output.end()
 }

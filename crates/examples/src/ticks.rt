@@ -1,148 +1,110 @@
 // The examples of ticks: each with the document's words, as the table states it.
+ghost use Rattle.std.specs.Prelude.{◌≡◌};
 ghost use Rattle.node.specs.Examples as table;
 ghost use Rattle.watched.specs.Nodes.{nodes_of};
 ghost use Rattle.watched.specs.Watched.{run};
 ghost use Rattle.examples.specs.Shown.{Shown};
 
-use crate::answers::Stated;
+use crate::bench::Bench;
 use crate::comes::{heard_comes, tick_comes};
 use crate::heads::{awaiting, counting, crossed, cycling, watch_none, watching};
 use crate::memory::{is_recorded, waits};
 use crate::runs::is_watching;
+use entries::status_response::{EntryType, ErrorEntry, ErrorEntryMode};
 use head::state::Head;
-use watched::nodes::NodeWords;
+use types::common::NetTime;
+use types::frame::error::types::{DllError, DllErrors};
+use watched::record::NodeRecord;
 
 // .. deadline 10,500, tick 10,500: deadline 11,100.
-pub fn early(
-    head: &mut Head,
-    after: &mut Head,
-    queue: &mut [u8; 640],
-    history: &mut [u8; 5080],
-    nodes: &mut NodeWords,
-) -> bool
-    ensures { Shown table.early head.new queue.new history.new (run (nodes_of nodes.new) 0) result }
+pub fn early(bench: &mut Bench, after: &mut Head) -> bool
+    ensures { Shown table.early bench.new.head bench.new.queue bench.new.history (run (nodes_of bench.new.nodes) 0) result }
 {
-    watch_none(nodes);
-    cycling(head, 10500, 0, 0);
+    watch_none(&mut bench.nodes);
+    cycling(&mut bench.head, 10500, 0, 0);
     cycling(after, 11100, 0, 0);
-    tick_comes(
-        head,
-        queue,
-        history,
-        nodes,
-        0,
-        10500,
-        Stated::Nothing,
-        after,
-    )
+    tick_comes(bench, 0, 10500, DllErrors::None, after)
 }
 
 // Tick 11,100, deadline 11,100: no loss, deadline 12,100.
-pub fn at_limit(
-    head: &mut Head,
-    after: &mut Head,
-    queue: &mut [u8; 640],
-    history: &mut [u8; 5080],
-    nodes: &mut NodeWords,
-) -> bool
-    ensures { Shown table.at_limit head.new queue.new history.new (run (nodes_of nodes.new) 0) result }
+pub fn at_limit(bench: &mut Bench, after: &mut Head) -> bool
+    ensures { Shown table.at_limit bench.new.head bench.new.queue bench.new.history (run (nodes_of bench.new.nodes) 0) result }
 {
-    watch_none(nodes);
-    cycling(head, 11100, 0, 0);
+    watch_none(&mut bench.nodes);
+    cycling(&mut bench.head, 11100, 0, 0);
     cycling(after, 12100, 0, 0);
-    tick_comes(
-        head,
-        queue,
-        history,
-        nodes,
-        0,
-        11100,
-        Stated::Nothing,
-        after,
-    )
+    tick_comes(bench, 0, 11100, DllErrors::None, after)
 }
 
 // 11,101 instead: loss, level 8, deadline 12,100.
-pub fn above_limit(
-    head: &mut Head,
-    after: &mut Head,
-    queue: &mut [u8; 640],
-    history: &mut [u8; 5080],
-    nodes: &mut NodeWords,
-) -> bool
-    ensures { Shown table.above_limit head.new queue.new history.new (run (nodes_of nodes.new) 0) result }
+pub fn above_limit(bench: &mut Bench, after: &mut Head) -> bool
+    ensures { Shown table.above_limit bench.new.head bench.new.queue bench.new.history (run (nodes_of bench.new.nodes) 0) result }
 {
-    watch_none(nodes);
-    cycling(head, 11100, 0, 0);
+    watch_none(&mut bench.nodes);
+    cycling(&mut bench.head, 11100, 0, 0);
     cycling(after, 12100, 8, 1);
-    tick_comes(
-        head,
-        queue,
-        history,
-        nodes,
-        0,
-        11101,
-        Stated::Nothing,
-        after,
-    )
+    tick_comes(bench, 0, 11101, DllErrors::None, after)
+}
+
+// The entry of the crossing.
+fn crossing_entry() -> ErrorEntry
+    ensures { result ≡ table.entry }
+{
+    ErrorEntry {
+        entry_type: EntryType {
+            is_status_entry: false,
+            send_to_queue: true,
+            mode: ErrorEntryMode::EventOccurred,
+            profile: 2,
+        },
+        error_code: 0x8245,
+        timestamp: NetTime {
+            seconds: 0,
+            nanoseconds: 12100000,
+        },
+        additional_information: 0,
+    }
 }
 
 // Then 12,100: crossing; entry 0x8245, 0 s 12,100,000 ns; PreOperational1, check off, no deadline.
-pub fn then_crossing(
-    head: &mut Head,
-    after: &mut Head,
-    queue: &mut [u8; 640],
-    history: &mut [u8; 5080],
-    nodes: &mut NodeWords,
-) -> bool
-    ensures { Shown table.then_crossing head.new queue.new history.new (run (nodes_of nodes.new) 0) result }
+pub fn then_crossing(bench: &mut Bench, after: &mut Head) -> bool
+    ensures { Shown table.then_crossing bench.new.head bench.new.queue bench.new.history (run (nodes_of bench.new.nodes) 0) result }
 {
-    watch_none(nodes);
-    cycling(head, 11100, 0, 0);
+    watch_none(&mut bench.nodes);
+    cycling(&mut bench.head, 11100, 0, 0);
     cycling(after, 12100, 8, 1);
-    let lost = tick_comes(
-        head,
-        queue,
-        history,
-        nodes,
-        0,
-        11101,
-        Stated::Nothing,
-        after,
-    );
+    let lost = tick_comes(bench, 0, 11101, DllErrors::None, after);
     crossed(after);
-    let crossed = tick_comes(
-        head,
-        queue,
-        history,
-        nodes,
-        0,
-        12100,
-        Stated::LossOfSoc,
-        after,
-    );
+    let crossed = tick_comes(bench, 0, 12100, DllErrors::One(DllError::LossOfSoc), after);
+    let entry = crossing_entry();
     lost & crossed
-        & waits(head, queue, 0x8245, 0, 12100000)
-        & is_recorded(head, history, 0x8245, 0, 12100000)
+        & waits(&bench.head, &bench.queue, entry)
+        & is_recorded(&bench.head, &bench.history, entry)
+}
+
+// Node 5 with timeout 50.
+fn node_five(last_heard: u64) -> NodeRecord
+    ensures { result ≡ record { node = 5; timeout = 50; last_heard = last_heard } }
+{
+    NodeRecord {
+        node: 5,
+        timeout: 50,
+        last_heard,
+    }
 }
 
 // Timeout 50, heard 100: 150 in time, 151 late. The earliest moment (document 02, No. 1) is then 151, and behind the last tick 202.
-pub fn late(
-    head: &mut Head,
-    after: &mut Head,
-    queue: &mut [u8; 640],
-    history: &mut [u8; 5080],
-    nodes: &mut NodeWords,
-) -> bool
-    ensures { Shown table.late head.new queue.new history.new (run (nodes_of nodes.new) 1) result }
+pub fn late(bench: &mut Bench, after: &mut Head) -> bool
+    ensures { Shown table.late bench.new.head bench.new.queue bench.new.history (run (nodes_of bench.new.nodes) 1) result }
 {
-    counting(head, 0, 0, 0, 0, 0);
+    counting(&mut bench.head, 0, 0, 0, 0, 0);
     awaiting(after, 151, 0, 0);
-    watching(nodes, 0);
-    let heard = heard_comes(head, nodes, 1, 5, 100, after) & is_watching(nodes, 5, 50, 100);
-    let in_time = tick_comes(head, queue, history, nodes, 1, 150, Stated::Nothing, after);
-    let kept = is_watching(nodes, 5, 50, 100);
+    watching(&mut bench.nodes, 0);
+    let heard = heard_comes(&mut bench.head, &mut bench.nodes, 1, 5, 100, after)
+        & is_watching(&bench.nodes, node_five(100));
+    let in_time = tick_comes(bench, 1, 150, DllErrors::None, after);
+    let kept = is_watching(&bench.nodes, node_five(100));
     awaiting(after, 202, 1, 8);
-    let late = tick_comes(head, queue, history, nodes, 1, 151, Stated::Nothing, after);
-    heard & in_time & kept & late & is_watching(nodes, 5, 50, 151)
+    let late = tick_comes(bench, 1, 151, DllErrors::None, after);
+    heard & in_time & kept & late & is_watching(&bench.nodes, node_five(151))
 }

@@ -1,6 +1,6 @@
 -- Lines that pass four computed tests name every position that a head can reach, with its least number of steps.
 -- Assumes nothing.
-use Prim.Native.Nat.{ℕ, zero, suc, ◌≤◌}
+use Prim.Native.Nat.{ℕ, zero, suc, ◌-◌, ◌≤◌}
 use native.Mathlib.Omega.{arith}
 use mathlib.Core.Path.{◌≡◌, refl, sym, ap, subst, ◌∙◌}
 use mathlib.Core.Bool.{Bool, true, false, not, true≢false}
@@ -25,7 +25,7 @@ use Rattle.nmt.specs.Nmt.{Outcome, processed}
 use Rattle.nmt.specs.Table.{ruled}
 use Rattle.nmt.specs.declared.cn_state_machine.CnNmtStateMachine.{CnNmtStateMachine}
 use Rattle.nmt.specs.declared.table.Entry.{Entry}
-use Rattle.nmt.proofs.Chosen.{ruled_read, event_small}
+use Rattle.nmt.proofs.Chosen.{ruled_read}
 use Rattle.head.specs.Words.{one, yes}
 use Rattle.head.proofs.Laws.{yes_one, state_is}
 use Rattle.node.specs.Plain.{Plain, Step, nmt_event, withdraw, Start, taken}
@@ -33,6 +33,9 @@ use Rattle.node.specs.Steps.{fresh, no_run, answers, declines, with_nmt, forgets
 use Rattle.node.specs.Run.{step}
 use Rattle.reach.specs.declared.Line.{Line}
 use Rattle.reach.specs.Positions.{Position, position_at, position, Steps, none, event, withdrawal, Reached, named, steps_to, Among, same_flag, same_position, each_once, in_order, EveryPosition}
+
+event_small : (e : NmtEvent) → event_number e - 18 ≡ 0
+event_small = everywhere NmtEvents (λ e. event_number e - 18) (λ e. 0) refl refl
 
 -- a test at every one of a list, and at one of them
 abbrev all : {A : Type 0} → (A → Bool) → List A → Bool

@@ -37,13 +37,14 @@ pub fn lines() -> [Line; 14]
     LINES
 }
 
+// No plainer as a sum: the proof has an arm for each anyway.
 fn flag(on: bool) -> u8
     ensures { result ≡ glyph (one on) }
 {
     if on { b'1' } else { b'0' }
 }
 
-// The line as it is printed.
+// The line as it is printed. Its bytes stand in the contract, so they are set at their places and not by `write!`.
 pub fn form(line: Line) -> [u8; 42]
     ensures { result ≡ line_form line }
 {

@@ -57,6 +57,7 @@ fn print_readings<F: Fn(u8) -> Option<u8>>(out: &mut Output, name: &str, reading
     }
 }
 
+// By number: that is what is read and printed.
 fn print_codes(out: &mut Output) {
     for kind in 0..22u64 {
         if let Ok(error) = DllError::try_from(kind, 17, 2) {

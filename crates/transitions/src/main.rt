@@ -84,6 +84,7 @@ fn print_nmt_event(out: &mut Output, machine: CnNmtStateMachine, event: NmtEvent
     writeln!(out, ")");
 }
 
+// Written out, as in chart and examples: each program has numbers of its own.
 fn machine_at(state: NmtState, enabled: bool, ready: bool) -> CnNmtStateMachine
     ensures { result ≡ machine_of state enabled ready }
 {

@@ -11,7 +11,7 @@ loop-i-init c =
 pub loop-i-preserved : goal.loop-i-preserved
 loop-i-preserved c =
     let l = c.loop-i in
-    step _ _ _ _ l.i _ _ c.loop-i-test.true c.below.ensures-next c.below.ensures-number l.invariant
+    step _ _ _ _ l.i _ _ c.loop-i-test.true c.below.ensures.next c.below.ensures.number l.invariant
 
 pub returns : goal.returns
 returns c =

@@ -1,4 +1,4 @@
--- `examples::answers::entered_are` meets its contract: each case.
+-- `examples::answers::entered_are` meets its contract: of five states each is the one stated.
 -- Assumes nothing.
 use Rattle.examples.proofs.Answering.{none_entered, two_entered, three_entered, four_entered, five_entered}
 use Rattle.examples.proofs.answers.entered_are.Goals as goal
@@ -21,4 +21,4 @@ returns-in-Four c =
 
 pub returns-in-Five : goal.returns-in-Five
 returns-in-Five c =
-    rw (c.in-Five.is, c.as_u8-in-Five-4.ensures, c.as_u8-in-Five-3.ensures, c.as_u8-in-Five-2.ensures, c.as_u8-in-Five.ensures, c.as_u8.ensures) (five_entered _ _ _ _ _ c.args.whole)
+    rw (c.in-Five.is, c.eq-in-Five-4.ensures, c.eq-in-Five-3.ensures, c.eq-in-Five-2.ensures, c.eq-in-Five.ensures, c.eq.ensures) (five_entered _ _ _ _ _ c.args.whole)

@@ -5,4 +5,4 @@ use Rattle.examples.proofs.comes.dll_comes.Goals as goal
 
 pub returns : goal.returns
 returns c =
-    came _ _ _ _ _ c.dll_says-said.ensures c.same_head.ensures _ _ c.dll_event.ensures (dll_uncrossed c.args.event c.args.preq)
+    came _ _ _ _ _ c.says-said.ensures.dll c.same_head.ensures _ _ c.dll_event.ensures (dll_uncrossed c.args.event c.args.preq)

@@ -6,4 +6,4 @@ use Rattle.examples.proofs.comes.tick_comes.Goals as goal
 
 pub returns : goal.returns
 returns c =
-    came_tick _ _ _ _ _ c.tick_says-said.ensures c.same_head.ensures _ _ _ _ _ _ _ _ _ refl c.process_tick.ensures
+    came_tick _ _ _ _ _ c.says-said.ensures.tick c.same_head.ensures _ _ _ _ _ _ _ _ _ refl c.process_tick-answer.ensures

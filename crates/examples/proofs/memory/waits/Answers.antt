@@ -1,8 +1,9 @@
--- `examples::memory::waits` meets its contract: the first entry and the second.
+-- `examples::memory::waits` meets its contract: by the first two that are held.
 -- Assumes nothing.
-use Rattle.examples.proofs.Holding.{exact_only}
+use Rattle.examples.proofs.Holding.{exact_only, none_exactly}
 use Rattle.examples.proofs.memory.waits.Goals as goal
 
 pub returns : goal.returns
 returns c =
-    exact_only _ _ (rw (c.get.ensures, c.queue_of-places.ensures) at c.is_found-first.ensures) (rw (c.get-2.ensures, c.queue_of-places.ensures) at c.is_none.ensures)
+    let none = none_exactly _ _ c.is_none.ensures in
+    exact_only _ _ (rw (c.get.ensures, c.queue_of-places.ensures) at c.is_found.ensures) (rw (c.get-2.ensures, c.queue_of-places.ensures) at none)

@@ -10,4 +10,4 @@ pub returns : goal.returns
 returns c =
     let n = next (begin then_crossing _ c.cycling.ensures (holds 10) _ _) (at_call (ap (Call.tick 11101) c.watch_none.ensures) c.tick_comes-lost.ensures) refl refl c.cycling-2.ensures in
     let x = crosses n.1 (at_call (ap (Call.tick 12100) n.0.lent) c.tick_comes-crossed.ensures) refl _ refl c.crossed.ensures in
-    record { head = x.whole; lent = x.lent; same = also (also (also n.0.same x.same) (c.waits.ensures.holds (queue_is _ _ _ _ x.whole))) (c.is_recorded.ensures.holds (history_is _ _ _ _ x.whole)) }
+    record { head = x.whole; lent = x.lent; same = also (also (also n.0.same x.same) ((rw c.crossing_entry-entry.ensures at c.waits.ensures).holds (queue_is _ _ _ _ x.whole))) ((rw c.crossing_entry-entry.ensures at c.is_recorded.ensures).holds (history_is _ _ _ _ x.whole)) }

@@ -1,0 +1,11 @@
+// What an example of ticks runs on: a head, and what is lent to its calls.
+use head::state::Head;
+use watched::nodes::NodeWords;
+
+#[derive(Drop)]
+pub struct Bench {
+    pub head: Head,
+    pub queue: [u8; 640],
+    pub history: [u8; 5080],
+    pub nodes: NodeWords,
+}
