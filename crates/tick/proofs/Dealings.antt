@@ -1,13 +1,12 @@
 -- The errors of the SoC check in words: an entry that joins, one error, and the walk. What they make of the head is by the laws on a head by its
 -- parts; the words are beside it.
 -- Assumes nothing.
-use Prim.Native.Nat.{ℕ, zero, suc, ◌+◌, ◌%◌, ◌<◌}
+use Prim.Native.Nat.{ℕ, ◌%◌, ◌<◌}
 use mathlib.Core.Path.{◌≡◌, refl, sym, ap, ap₂, subst, ◌∙◌}
 use mathlib.Core.Bool.{Bool, true, false}
-use mathlib.Core.List.{List, [], ◌∷◌, ◌++◌}
+use mathlib.Core.List.{List, [], ◌∷◌}
 use native.Mathlib.Omega.{arith}
-use native.Mathlib.Numerals.{add-one}
-use lib.ListN.{length, set, drop}
+use lib.ListN.{length, set}
 use Rattle.types.specs.Pick.{pick}
 use Rattle.types.specs.declared.frame.error.types.DllError.{DllError}
 use Rattle.types.specs.declared.frame.error.types.DllErrors.{DllErrors}
@@ -22,18 +21,14 @@ use Rattle.entries.specs.Queue.{Pushed}
 use Rattle.entries.specs.declared.error_history.ErrorHistory.{ErrorHistory}
 use Rattle.entries.proofs.Lists.{pushed_capacity}
 use Rattle.head.specs.Head.{Head, with_statistic, of_parts, head_with_errors, head_with_od}
-use Rattle.watched.specs.Watched.{all_of}
 use Rattle.node.specs.Steps.{with_errors}
 use Rattle.node.specs.Tick.{acts, one_more, statistics, counter1, signalled, queued, deal, deal_all}
 use Rattle.node.specs.Refines.{plain, Becomes, rings, joins}
 use Rattle.head.specs.declared.state.Statistic.TheVariants.{Counter3}
 use Rattle.head.proofs.Laws.{statistic_written}
-use Rattle.std.specs.declared.option.Option.{Option}
-use Rattle.std.specs.declared.option.Option.TheVariants.{Some, None}
 use Rattle.heartbeats.specs.Parts.{Finishes, is_quiet}
-use Rattle.tick.specs.Ticks.{error_at}
 use Rattle.tick.proofs.TickLaws as tick
-use Rattle.tick.proofs.TickLaws.{entry_kept, entry_dropped, deal_signalled, deal_unsignalled, Walking}
+use Rattle.tick.proofs.TickLaws.{entry_kept, entry_dropped, deal_signalled, deal_unsignalled}
 use Rattle.head.specs.Places as at
 use Rattle.head.specs.Words.{word, errors_of, od_of, queue_of, history_of, head_of}
 use Rattle.head.specs.Written.{queue_written, history_written}
@@ -187,60 +182,44 @@ module _ (ws : List ℕ) (long : length ws ≡ 60) (q m : List ℕ) (e : DllErro
             (v.2 ∙ ap entry_words (u.words ∙ ap signal_words counted) ∙ sym (ap ahead (signals true s)));
       }
 
--- the errors from an index on
-abbrev list_of : Option DllError → List DllError
-list_of (Some e) = e ∷ []
-list_of None = []
+-- the walk, with the words
+pub walk_none : (t : ℕ) (ws q m : List ℕ) → TicksIn ws q m (deal_all t (plain (head_of ws) q m) []) (record { logged = errors.None; ended = false }) ws q m (deal_all_words ws [])
+unfolding deal_all_words
+walk_none t ws q m = record { ticks = tick.walk_none t (head_of ws) q m; words = refl }
 
-from_index : (es : List DllError) (i : ℕ) → drop i es ≡ list_of (error_at es i) ++ drop (suc i) es
-unfolding error_at
-from_index [] zero = refl
-from_index [] (suc i) = refl
-from_index (x ∷ es) zero = refl
-from_index (x ∷ es) (suc i) = from_index es i
+module _ (t : ℕ) (ws q m : List ℕ) (e : DllError) (r : Dealt) (ws' q' m' : List ℕ) (k : TicksIn ws q m (deal t (plain (head_of ws) q m) e) r ws' q' m' (deal_words ws e)) where
+  ends : r.ended ≡ ends_by ws e
+  unfolding head_of deal
+  ends = k.ticks.ended
 
--- the walk: what it keeps, with the words
-pub record WalkingIn (t : ℕ) (es : List DllError) (ws₀ q₀ m₀ ws q m : List ℕ) (d : Dealt) (i : ℕ) : Type 0 where
-  pub walking : Walking t es (head_of ws₀) q₀ m₀ q m (dealt_of ws d) i
-  pub words : deal_all_words ws₀ es ≡ deal_all_words ws (drop i es)
+  abbrev further : List DllError → Bool → List ℕ
+  further es c = pick c (deal_words ws e) (deal_all_words (deal_words ws e) es)
 
-pub walk_begins : (t : ℕ) (es : List DllError) (ws q m : List ℕ) → WalkingIn t es ws q m ws q m (record { logged = errors.None; ended = false }) 0
-walk_begins t es ws q m = record { walking = tick.walk_begins t es (head_of ws) q m _ refl; words = refl }
-
-module _ (t : ℕ) (es : List DllError) (ws₀ q₀ m₀ ws q m : List ℕ) (d : Dealt) (i : ℕ) (w : WalkingIn t es ws₀ q₀ m₀ ws q m d i) where
-  pub walk_over : drop i es ≡ [] → TicksIn ws₀ q₀ m₀ (deal_all t (plain (head_of ws₀) q₀ m₀) es) d ws q m (deal_all_words ws₀ es)
+  goes : (es : List DllError) (c : Bool) → r.ended ≡ c → deal_all_words ws (e ∷ es) ≡ further es c
   unfolding deal_all_words
-  walk_over z =
+  goes es c y = ap (further es) (sym ends ∙ y)
+
+  pub walk_stops : (es : List DllError) → r.ended ≡ true → TicksIn ws q m (deal_all t (plain (head_of ws) q m) (e ∷ es)) r ws' q' m' (deal_all_words ws (e ∷ es))
+  walk_stops es y =
+      record { ticks = tick.walk_stops t (head_of ws) q m e (dealt_of ws' r) q' m' k.ticks es y; words = k.words ∙ sym (goes es true y) }
+
+  pub walk_goes_on :
+      is_quiet e ≡ true →
+      r.ended ≡ false →
+      (es : List DllError) (r' : Dealt) (ws'' q'' m'' : List ℕ) →
+      TicksIn ws' q' m' (deal_all t (plain (head_of ws') q' m') es) r' ws'' q'' m'' (deal_all_words ws' es) →
+      TicksIn ws q m (deal_all t (plain (head_of ws) q m) (e ∷ es)) r' ws'' q'' m'' (deal_all_words ws (e ∷ es))
+  walk_goes_on c y es r' ws'' q'' m'' w =
       record {
-        ticks = tick.walk_over t es (head_of ws₀) q₀ m₀ q m (dealt_of ws d) i w.walking z;
-        words = sym (w.words ∙ ap (deal_all_words ws) z);
+        ticks = tick.walk_goes_on t (head_of ws) q m e (dealt_of ws' r) q' m' k.ticks c y es (dealt_of ws'' r') q'' m'' w.ticks;
+        words = w.words ∙ ap (λ (l : List ℕ). deal_all_words l es) k.words ∙ sym (goes es false y);
       }
 
-  module _ (e : DllError) (here : error_at es i ≡ Some e) (r : Dealt) (ws' q' m' : List ℕ) (k : TicksIn ws q m (deal t (plain (head_of ws) q m) e) r ws' q' m' (deal_words ws e)) where
-    front : drop i es ≡ e ∷ drop (i + 1) es
-    front = rw add-one (from_index es i ∙ ap (λ (n : Option DllError). list_of n ++ drop (suc i) es) here)
-
-    ends : r.ended ≡ ends_by ws e
-    unfolding head_of deal
-    ends = k.ticks.ended
-
-    abbrev further : Bool → List ℕ
-    further c = pick c (deal_words ws e) (deal_all_words (deal_words ws e) (drop (i + 1) es))
-
-    goes : (c : Bool) → r.ended ≡ c → deal_all_words ws₀ es ≡ further c
-    unfolding deal_all_words
-    goes c y = w.words ∙ ap (deal_all_words ws) front ∙ ap further (sym ends ∙ y)
-
-    pub walk_stops : r.ended ≡ true → TicksIn ws₀ q₀ m₀ (deal_all t (plain (head_of ws₀) q₀ m₀) es) r ws' q' m' (deal_all_words ws₀ es)
-    walk_stops y =
-        record {
-          ticks = tick.walk_stops t es (head_of ws₀) q₀ m₀ q m (dealt_of ws d) i w.walking e here (dealt_of ws' r) q' m' k.ticks y;
-          words = k.words ∙ sym (goes true y);
-        }
-
-    pub walk_goes_on : all_of is_quiet es ≡ true → r.ended ≡ false → WalkingIn t es ws₀ q₀ m₀ ws' q' m' r (i + 1)
-    walk_goes_on quiet y =
-        record {
-          walking = tick.walk_goes_on t es (head_of ws₀) q₀ m₀ q m (dealt_of ws d) i w.walking e here (dealt_of ws' r) q' m' k.ticks quiet y;
-          words = goes false y ∙ ap (λ (l : List ℕ). deal_all_words l (drop (i + 1) es)) (sym k.words);
-        }
+  pub walk_last : TicksIn ws q m (deal_all t (plain (head_of ws) q m) (e ∷ [])) r ws' q' m' (deal_all_words ws (e ∷ []))
+  unfolding deal_all_words
+  walk_last =
+      record { ticks = tick.walk_last t (head_of ws) q m e (dealt_of ws' r) q' m' k.ticks; words = k.words ∙ sym (by r.ended refl) }
+    where
+      by : (b : Bool) → r.ended ≡ b → deal_all_words ws (e ∷ []) ≡ deal_words ws e
+      by true y = goes [] true y
+      by false y = goes [] false y

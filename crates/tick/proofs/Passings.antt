@@ -72,13 +72,14 @@ module _ (ws q m : List ℕ) (t : ℕ) (es : DllErrors) (ws₁ : List ℕ) (l : 
 
   pub lost_goes_on :
       d.ended ≡ false → (ws₃ : List ℕ) → Turns ws₂ (λ p. rescheduled p t) ws₃ (rescheduled_words ws₂ t) →
-      TicksIn ws q m (lost (plain (head_of ws) q m) t) (record { logged = d.logged; ended = false }) ws₃ q' m' (lost_words ws q m t)
+      TicksIn ws q m (lost (plain (head_of ws) q m) t) d ws₃ q' m' (lost_words ws q m t)
   unfolding lost_words
   lost_goes_on e ws₃ k =
-      record {
+      subst (λ (ended : Bool). TicksIn ws q m (lost (plain (head_of ws) q m) t) (record { logged = d.logged; ended = ended }) ws₃ q' m' (lost_words ws q m t)) (sym e)
+      (record {
         ticks = lose_goes_on (head_of ws) q m t (head_of ws₁) es l.loses (dealt_of ws₂ d) q' m' w.ticks e (head_of ws₃) k.becomes;
         words = k.words ∙ ap (λ (l : List ℕ). rescheduled_words l t) dealt ∙ sym (ap after (ended false e));
-      }
+      })
 
 -- the SoC check
 module _ (ws q m : List ℕ) (t : ℕ) (r : Dealt) where

@@ -1,22 +1,20 @@
 -- The errors of the SoC check, over plain variables: what an entry, an error and the walk make of a head is what their rule makes of the plain head.
 -- Assumes nothing.
-use Prim.Native.Nat.{ℕ, zero, suc, ◌+◌, ◌%◌, ◌≤◌, min}
+use Prim.Native.Nat.{ℕ, ◌+◌, ◌%◌, min}
 use mathlib.Core.Path.{◌≡◌, refl, sym, ap, ap₂, ◌∙◌}
-use mathlib.Core.Bool.{Bool, true, false, true≢false, false≢true}
+use mathlib.Core.Bool.{Bool, true, false, true≢false}
 use mathlib.Core.List.{List, [], ◌∷◌, ◌++◌}
 use lib.Dec.{ltb}
-use native.Mathlib.Omega.{arith}
-use native.Mathlib.Numerals.{add-one}
-use Rattle.types.specs.Pick.{pick, both}
+use Rattle.std.proofs.Common.{append-nil}
+use Rattle.types.specs.Pick.{pick}
 use Rattle.types.specs.Errors.{reported}
 use Rattle.types.specs.declared.nmt.events.NmtEvent.TheVariants.{Error}
 use Rattle.types.specs.declared.frame.error.types.DllError.{DllError}
-use Rattle.types.specs.declared.frame.error.types.DllErrors.{DllErrors}
 use Rattle.types.specs.declared.frame.error.types.DllErrors.TheVariants as errors
 use Rattle.counters.specs.Counters.{handled}
 use Rattle.counters.specs.Marks.{Mark, crosses, error_marks}
 use Rattle.counters.specs.declared.counters.HandledError.{HandledError}
-use lib.ListN.{length, take, drop, drop_of_length-le}
+use lib.ListN.{length, take}
 use Rattle.entries.specs.Entry.{FitsBytes, crossing_entry}
 use Rattle.entries.specs.Ring.{put_at}
 use Rattle.entries.specs.Queue.{queue, length_of, capacity_of, has_room, waiting, pushed, pushed_bytes}
@@ -33,10 +31,6 @@ use Rattle.node.specs.Tick.{Ticked, acts, dealt, deal_by, deal, deal_all, goes_o
 use Rattle.node.specs.Refines.{plain, Becomes, Rings, rings, joins, joins_all}
 use Rattle.heartbeats.specs.Parts.{PartLeft, Finishes, Ticks, is_quiet}
 use Rattle.heartbeats.proofs.PartLaws.{Quiet, handled_quiet, quiet_crosses, Alike}
-use Rattle.tick.specs.Ticks.{error_at}
-use Rattle.std.specs.declared.option.Option.{Option}
-use Rattle.std.specs.declared.option.Option.TheVariants.{Some, None}
-use Rattle.watched.specs.Watched.{all_of}
 
 -- where an entry is dropped, no byte is written
 dropped_bytes : (q : List ℕ) (k : EmergencyQueue) (e : ErrorEntry) → (pushed k).kept ≡ false → pushed_bytes q k e ≡ q
@@ -196,148 +190,59 @@ walk_ends : (t : ℕ) (p : Plain) (e : DllError) (es : List DllError) → (deal 
 unfolding deal_all
 walk_ends t p e es n = ap (λ (b : Bool). pick b (deal t p e) (behind (deal t p e) (deal_all t (deal t p e).head es))) n
 
--- the errors from an index on
-abbrev list_of : Option DllError → List DllError
-list_of (Some e) = e ∷ []
-list_of None = []
+-- the walk: no error, one that ends it, one behind which it goes on, and the last
+pub walk_none : (t : ℕ) (h : Head) (q m : List ℕ) → Ticks h q m (deal_all t (plain h q m) []) (record { head = h; logged = errors.None; ended = false }) q m
+unfolding deal_all
+walk_none t h q m = record { head = refl; logged = refl; ended = refl; joined = refl }
 
-from_index : (es : List DllError) (i : ℕ) → drop i es ≡ list_of (error_at es i) ++ drop (suc i) es
-unfolding error_at
-from_index [] zero = refl
-from_index [] (suc i) = refl
-from_index (x ∷ es) zero = refl
-from_index (x ∷ es) (suc i) = from_index es i
+module _ (t : ℕ) (h : Head) (q m : List ℕ) (e : DllError) (r : PartLeft) (q' m' : List ℕ) (k : Ticks h q m (deal t (plain h q m) e) r q' m') where
+  abbrev p : Plain
+  p = plain h q m
 
-pub none_left : (es : List DllError) (i : ℕ) → error_at es i ≡ None → drop i es ≡ []
-unfolding error_at
-none_left [] zero h = refl
-none_left [] (suc i) h = refl
-none_left (x ∷ es) zero h = absurd (let z : ◌≡◌ {A = ℕ} 1 0 = ap (λ (n : Option DllError). length (list_of n)) h in let f : ⊥ = omega arith in f)
-none_left (x ∷ es) (suc i) h = none_left es i h
+  abbrev d : Ticked
+  d = deal t (plain h q m) e
 
-pub quiet_from : (es : List DllError) (e : DllError) (i : ℕ) → all_of is_quiet es ≡ true → error_at es i ≡ Some e → is_quiet e ≡ true
-unfolding error_at
-quiet_from [] e zero q h = absurd (let z : ◌≡◌ {A = ℕ} 0 1 = ap (λ (n : Option DllError). length (list_of n)) h in let f : ⊥ = omega arith in f)
-quiet_from [] e (suc i) q h = absurd (let z : ◌≡◌ {A = ℕ} 0 1 = ap (λ (n : Option DllError). length (list_of n)) h in let f : ⊥ = omega arith in f)
-quiet_from (x ∷ es) e zero q h = by (is_quiet x) q (ap (λ (n : Option DllError). all_of is_quiet (list_of n)) h)
-  where
-    by : (b : Bool) → both b (all_of is_quiet es) ≡ true → both b true ≡ both (is_quiet e) true → is_quiet e ≡ true
-    by true y z = flat (is_quiet e) (sym z)
-      where
-        flat : (b : Bool) → both b true ≡ true → b ≡ true
-        flat true w = refl
-        flat false w = w
-    by false y z = absurd (false≢true y)
-quiet_from (x ∷ es) e (suc i) q h = quiet_from es e i (rest (is_quiet x) q) h
-  where
-    rest : (b : Bool) → both b (all_of is_quiet es) ≡ true → all_of is_quiet es ≡ true
-    rest true y = y
-    rest false y = absurd (false≢true y)
-
--- the walk's reading of the errors, case by case
-module _ (es : DllErrors) where
-  pub no_error : (i : ℕ) → es ≡ errors.None → None ≡ error_at (reported es) i
-  unfolding error_at
-  no_error i h = sym (ap (λ (es : DllErrors). error_at (reported es) i) h)
-
-  module _ (e : DllError) (i : ℕ) (h : es ≡ errors.One e) where
-    pub only_error : i ≡ 0 → Some e ≡ error_at (reported es) i
-    unfolding error_at
-    only_error z = sym (ap₂ (λ (es : DllErrors) (i : ℕ). error_at (reported es) i) h z)
-
-    pub only_none : (i ≡ 0 → ⊥) → None ≡ error_at (reported es) i
-    unfolding error_at
-    only_none z = behind_one i z ∙ sym (ap (λ (es : DllErrors). error_at (reported es) i) h)
-      where
-        behind_one : (i : ℕ) → (i ≡ 0 → ⊥) → None ≡ error_at (e ∷ []) i
-        behind_one zero z = absurd (z refl)
-        behind_one (suc i) z = refl
-
-  module _ (e f : DllError) (i : ℕ) (h : es ≡ errors.Two e f) where
-    pub first_error : i ≡ 0 → Some e ≡ error_at (reported es) i
-    unfolding error_at
-    first_error z = sym (ap₂ (λ (es : DllErrors) (i : ℕ). error_at (reported es) i) h z)
-
-    pub second_error : i ≡ 1 → Some f ≡ error_at (reported es) i
-    unfolding error_at
-    second_error z = sym (ap₂ (λ (es : DllErrors) (i : ℕ). error_at (reported es) i) h z)
-
-    pub two_none : (i ≡ 0 → ⊥) → (i ≡ 1 → ⊥) → None ≡ error_at (reported es) i
-    unfolding error_at
-    two_none y z = behind_two i y z ∙ sym (ap (λ (es : DllErrors). error_at (reported es) i) h)
-      where
-        behind_two : (i : ℕ) → (i ≡ 0 → ⊥) → (i ≡ 1 → ⊥) → None ≡ error_at (e ∷ f ∷ []) i
-        behind_two zero y z = absurd (y refl)
-        behind_two (suc zero) y z = absurd (z refl)
-        behind_two (suc (suc i)) y z = refl
-
--- an event reports at most two
-pub two_over : (es : DllErrors) (i : ℕ) → 2 ≤ i → drop i (reported es) ≡ []
-two_over errors.None i h = drop_of_length-le [] {i = i} (omega arith)
-two_over (errors.One e) i h = drop_of_length-le (e ∷ []) {i = i} (omega arith)
-two_over (errors.Two e f) i h = drop_of_length-le (e ∷ f ∷ []) {i = i} h
-
--- What the walk keeps: what is left gives what the whole gives, and nothing has joined, been logged or ended.
-pub record Walking (t : ℕ) (es : List DllError) (h₀ : Head) (q₀ m₀ q m : List ℕ) (d : PartLeft) (i : ℕ) : Type 0 where
-  pub alike : Alike (deal_all t (plain h₀ q₀ m₀) es) (deal_all t (plain d.head q m) (drop i es))
-  pub joined : rings d.head q m ≡ rings h₀ q₀ m₀
-  pub logged : reported d.logged ≡ []
-  pub ended : d.ended ≡ false
-
-pub walk_begins :
-    (t : ℕ) (es : List DllError) (h : Head) (q m : List ℕ) (d : PartLeft) →
-    d ≡ record { head = h; logged = errors.None; ended = false } →
-    Walking t es h q m q m d 0
-walk_begins t es h q m d e =
-    rw e (record { alike = record { head = refl; logged = refl; crossings = refl; ended = refl }; joined = refl; logged = refl; ended = refl })
-
-module _ (t : ℕ) (es : List DllError) (h₀ : Head) (q₀ m₀ q m : List ℕ) (d : PartLeft) (i : ℕ) (w : Walking t es h₀ q₀ m₀ q m d i) where
-  -- no error is left
-  pub walk_over : drop i es ≡ [] → Ticks h₀ q₀ m₀ (deal_all t (plain h₀ q₀ m₀) es) d q m
-  unfolding deal_all
-  walk_over z =
-      let s : deal_all t (plain d.head q m) (drop i es) ≡ goes_on (plain d.head q m) = ap (deal_all t (plain d.head q m)) z in
+  pub walk_stops : (es : List DllError) → r.ended ≡ true → Ticks h q m (deal_all t (plain h q m) (e ∷ es)) r q' m'
+  walk_stops es y =
+      let s : deal_all t p (e ∷ es) ≡ d = walk_ends t p e es (sym k.ended ∙ y) in
       record {
-        head = sym (w.alike.head ∙ ap (λ (k : Ticked). k.head) s);
-        logged = w.logged ∙ sym (w.alike.logged ∙ ap (λ (k : Ticked). k.logged) s);
-        ended = w.ended ∙ sym (w.alike.ended ∙ ap (λ (k : Ticked). k.ended) s);
-        joined = w.joined ∙ sym (ap (joins_all (rings h₀ q₀ m₀)) (w.alike.crossings ∙ ap (λ (k : Ticked). k.crossings) s));
+        head = k.head ∙ sym (ap (λ (k : Ticked). k.head) s);
+        logged = k.logged ∙ sym (ap (λ (k : Ticked). k.logged) s);
+        ended = k.ended ∙ sym (ap (λ (k : Ticked). k.ended) s);
+        joined = k.joined ∙ sym (ap (λ (k : Ticked). joins_all (rings h q m) k.crossings) s);
       }
 
-  module _ (e : DllError) (here : error_at es i ≡ Some e) (r : PartLeft) (q' m' : List ℕ) (k : Ticks d.head q m (deal t (plain d.head q m) e) r q' m') where
-    front : drop i es ≡ e ∷ drop (i + 1) es
-    front = rw add-one (from_index es i ∙ ap (λ (n : Option DllError). list_of n ++ drop (suc i) es) here)
+  pub walk_goes_on :
+      is_quiet e ≡ true →
+      r.ended ≡ false →
+      (es : List DllError) (r' : PartLeft) (q'' m'' : List ℕ) →
+      Ticks r.head q' m' (deal_all t (plain r.head q' m') es) r' q'' m'' →
+      Ticks h q m (deal_all t (plain h q m) (e ∷ es)) r' q'' m''
+  walk_goes_on c y es r' q'' m'' w =
+      let n : (deal t p e).ended ≡ false = sym k.ended ∙ y in
+      let a = walk_on t p e c n es in
+      record {
+        head = w.head ∙ ap (λ (p : Plain). (deal_all t p es).head) k.head ∙ sym a.head;
+        logged = w.logged ∙ ap (λ (p : Plain). (deal_all t p es).logged) k.head ∙ sym a.logged;
+        ended = w.ended ∙ ap (λ (p : Plain). (deal_all t p es).ended) k.head ∙ sym a.ended;
+        joined =
+            w.joined
+            ∙ ap (λ (g : Rings). joins_all g (deal_all t (plain r.head q' m') es).crossings) (k.joined ∙ ap (joins_all (rings h q m)) (quiet_crossings t p e c n))
+            ∙ ap (λ (p : Plain). joins_all (rings h q m) (deal_all t p es).crossings) k.head
+            ∙ sym (ap (joins_all (rings h q m)) a.crossings);
+      }
 
-    abbrev p : Plain
-    p = plain d.head q m
-
-    pub walk_stops : r.ended ≡ true → Ticks h₀ q₀ m₀ (deal_all t (plain h₀ q₀ m₀) es) r q' m'
-    walk_stops y =
-        let s : deal_all t p (drop i es) ≡ deal t p e = ap (deal_all t p) front ∙ walk_ends t p e (drop (i + 1) es) (sym k.ended ∙ y) in
-        record {
-          head = k.head ∙ sym (w.alike.head ∙ ap (λ (k : Ticked). k.head) s);
-          logged = k.logged ∙ sym (w.alike.logged ∙ ap (λ (k : Ticked). k.logged) s);
-          ended = k.ended ∙ sym (w.alike.ended ∙ ap (λ (k : Ticked). k.ended) s);
-          joined =
-              k.joined
-              ∙ ap (λ (r : Rings). joins_all r (deal t p e).crossings) w.joined
-              ∙ sym (ap (joins_all (rings h₀ q₀ m₀)) (w.alike.crossings ∙ ap (λ (k : Ticked). k.crossings) s));
-        }
-
-    pub walk_goes_on : all_of is_quiet es ≡ true → r.ended ≡ false → Walking t es h₀ q₀ m₀ q' m' r (i + 1)
-    walk_goes_on quiet y =
-        let n : (deal t p e).ended ≡ false = sym k.ended ∙ y in
-        let c = quiet_from es e i quiet here in
-        let a = walk_on t p e c n (drop (i + 1) es) in
-        record {
-          alike =
-              record {
-                head = w.alike.head ∙ ap (λ (l : List DllError). (deal_all t p l).head) front ∙ a.head ∙ ap (λ (p : Plain). (deal_all t p (drop (i + 1) es)).head) (sym k.head);
-                logged = w.alike.logged ∙ ap (λ (l : List DllError). (deal_all t p l).logged) front ∙ a.logged ∙ ap (λ (p : Plain). (deal_all t p (drop (i + 1) es)).logged) (sym k.head);
-                crossings = w.alike.crossings ∙ ap (λ (l : List DllError). (deal_all t p l).crossings) front ∙ a.crossings ∙ ap (λ (p : Plain). (deal_all t p (drop (i + 1) es)).crossings) (sym k.head);
-                ended = w.alike.ended ∙ ap (λ (l : List DllError). (deal_all t p l).ended) front ∙ a.ended ∙ ap (λ (p : Plain). (deal_all t p (drop (i + 1) es)).ended) (sym k.head);
-              };
-          joined = k.joined ∙ ap (joins_all (rings d.head q m)) (quiet_crossings t p e c n) ∙ w.joined;
-          logged = k.logged ∙ quiet_logged t p e c n;
-          ended = y;
-        }
+  pub walk_last : Ticks h q m (deal_all t (plain h q m) (e ∷ [])) r q' m'
+  unfolding deal_all
+  walk_last = by r.ended refl
+    where
+      by : (b : Bool) → r.ended ≡ b → Ticks h q m (deal_all t (plain h q m) (e ∷ [])) r q' m'
+      by true y = walk_stops [] y
+      by false y =
+          let s : deal_all t p (e ∷ []) ≡ behind d (goes_on d.head) = ap (λ (b : Bool). pick b d (behind d (goes_on d.head))) (sym k.ended ∙ y) in
+          record {
+            head = k.head ∙ sym (ap (λ (k : Ticked). k.head) s);
+            logged = k.logged ∙ sym (append-nil d.logged) ∙ sym (ap (λ (k : Ticked). k.logged) s);
+            ended = y ∙ sym (ap (λ (k : Ticked). k.ended) s);
+            joined = k.joined ∙ ap (joins_all (rings h q m)) (sym (append-nil d.crossings)) ∙ sym (ap (λ (k : Ticked). joins_all (rings h q m) k.crossings) s);
+          }

@@ -12,7 +12,7 @@ ghost use Rattle.tick.specs.TickIn.{LosesIn};
 use crate::soc::deal_all;
 use head::parts::{
     check_of, check_off, deadline_at, dll_of, od_of, set_deadline, set_dll, soc_of, state_at,
-    timeout_of, whole,
+    timeout_of,
 };
 use head::state::Head;
 use heartbeats::dealt::{Dealt, timeout_in_tick};
@@ -20,32 +20,36 @@ use node::timing::{cycle, last_soc, limit, time_since, tolerance_us};
 use types::frame::cs_state_machine::DllCsEvent;
 use types::frame::error::types::DllErrors;
 use types::nmt::states::NmtState;
+use watched::time::Time;
+
+// The tick goes on, or is over, with nothing logged.
+pub(crate) const GOES_ON: Dealt = Dealt {
+    logged: DllErrors::None,
+    ended: false,
+};
 
 fn with_deadline(head: &mut Head, deadline: Option<u64>)
     ensures { Turns head.old (λ p. with_deadline p deadline) head.new (deadline_written head.old deadline) }
 {
-    whole(head);
     set_deadline(head, deadline);
 }
 
 // The end of the cycle that runs now, with the tolerance.
-fn next_deadline(head: &Head, time: u64) -> u64
-    requires { (time ≤ 4611686018427387903) × (0 < cycle_of (od_of head.now)) }
-    ensures { result ≡ next_deadline (unlent head.now) time }
+fn next_deadline(head: &Head, time: Time) -> u64
+    requires { 0 < cycle_of (od_of head.now) }
+    ensures { result ≡ next_deadline (unlent head.now) time.us }
 {
     let last = last_soc(soc_of(head));
     let od = od_of(head);
     let cycle_us = cycle(od);
-    let elapsed = time_since(time, last);
+    let elapsed = time_since(time.us, last);
     last + (elapsed / cycle_us + 1) * cycle_us + tolerance_us(od)
 }
 
 // The check goes on in the next cycle, or off where there is no cycle.
-fn reschedule(head: &mut Head, time: u64)
-    requires { time ≤ 4611686018427387903 }
-    ensures { Turns head.old (λ p. rescheduled p time) head.new (rescheduled_words head.old time) }
+fn reschedule(head: &mut Head, time: Time)
+    ensures { Turns head.old (λ p. rescheduled p time.us) head.new (rescheduled_words head.old time.us) }
 {
-    whole(head);
     if 0 < cycle(od_of(head)) {
         with_deadline(head, Some(next_deadline(head, time)));
         return;
@@ -54,19 +58,13 @@ fn reschedule(head: &mut Head, time: u64)
 }
 
 // Within the limit: the check stands at the limit, where that is still ahead.
-fn within_limit(head: &mut Head, time: u64)
-    requires { time ≤ 4611686018427387903 }
-    ensures { Turns head.old (λ p. within_limit p time) head.new (within_words head.old time) }
+fn within_limit(head: &mut Head, time: Time)
+    ensures { Turns head.old (λ p. within_limit p time.us) head.new (within_words head.old time.us) }
 {
     let od = od_of(head);
-    let last = last_soc(soc_of(head));
-    let at = last + limit(od);
-    if 0 < cycle(od) {
-        if time < at {
-            with_deadline(head, Some(at));
-            return;
-        }
-        reschedule(head, time);
+    let at = last_soc(soc_of(head)) + limit(od);
+    if 0 < cycle(od) && time.us < at {
+        with_deadline(head, Some(at));
         return;
     }
     reschedule(head, time);
@@ -76,76 +74,49 @@ fn within_limit(head: &mut Head, time: u64)
 fn soc_timeout(head: &mut Head) -> DllErrors
     ensures { LosesIn head.old result head.new }
 {
-    whole(head);
     let answer = dll_of(head).process_event(DllCsEvent::SocTimeout, state_at(head), true);
-    let machine = answer.machine;
-    let errors = answer.errors;
-    set_dll(head, machine);
-    errors
+    set_dll(head, answer.machine);
+    answer.errors
 }
 
 // The errors of a lost SoC; where none brings an action, the check goes on.
-fn lose(head: &mut Head, queue: &mut [u8; 640], history: &mut [u8; 5080], time: u64) -> Dealt
-    requires { time ≤ 4611686018427387903 }
-    ensures { TicksIn head.old queue.old history.old (lost (plain (head_of head.old) queue.old history.old) time) result head.new queue.new history.new (lost_words head.old queue.old history.old time) }
+fn lose(head: &mut Head, queue: &mut [u8; 640], history: &mut [u8; 5080], time: Time) -> Dealt
+    ensures { TicksIn head.old queue.old history.old (lost (plain (head_of head.old) queue.old history.old) time.us) result head.new queue.new history.new (lost_words head.old queue.old history.old time.us) }
 {
     let errors = soc_timeout(head);
-    let dealt = deal_all(head, queue, history, errors, time);
+    let dealt = deal_all(head, queue, history, errors, time.us);
     if dealt.ended {
         return dealt;
     }
     reschedule(head, time);
-    let logged = dealt.logged;
-    Dealt {
-        logged,
-        ended: false,
-    }
+    dealt
 }
 
-// The tick goes on, or is over, with nothing logged.
-fn go_on() -> Dealt
-    ensures { result ≡ record { logged = DllErrors.None; ended = false } }
-{
-    Dealt {
-        logged: DllErrors::None,
-        ended: false,
-    }
-}
-
-fn soc_check(head: &mut Head, queue: &mut [u8; 640], history: &mut [u8; 5080], time: u64) -> Dealt
-    requires { time ≤ 4611686018427387903 }
-    ensures { TicksIn head.old queue.old history.old (soc_check (plain (head_of head.old) queue.old history.old) time) result head.new queue.new history.new (check_words head.old queue.old history.old time) }
+fn soc_check(head: &mut Head, queue: &mut [u8; 640], history: &mut [u8; 5080], time: Time) -> Dealt
+    ensures { TicksIn head.old queue.old history.old (soc_check (plain (head_of head.old) queue.old history.old) time.us) result head.new queue.new history.new (check_words head.old queue.old history.old time.us) }
 {
     if check_of(head) {
-        let last = last_soc(soc_of(head));
-        let elapsed = time_since(time, last);
+        let elapsed = time_since(time.us, last_soc(soc_of(head)));
         if limit(od_of(head)) < elapsed {
             return lose(head, queue, history, time);
         }
         within_limit(head, time);
-        return go_on();
     }
-    go_on()
+    GOES_ON
 }
 
 fn at_not_active(head: &Head) -> bool
     ensures { result ≡ at_not_active (unlent head.now) }
 {
-    let state = state_at(head);
-    match state {
-        NmtState::NmtNotActive => true,
-        _ => false,
-    }
+    state_at(head) == NmtState::NmtNotActive
 }
 
-fn set_basic(head: &mut Head, time: u64)
-    requires { time ≤ 4611686018427387903 }
-    ensures { Turns head.old (λ p. sets_basic p time) head.new (basic_words head.old time) }
+fn set_basic(head: &mut Head, time: Time)
+    ensures { Turns head.old (λ p. sets_basic p time.us) head.new (basic_words head.old time.us) }
 {
-    let timeout = timeout_of(head) as u64;
+    let timeout = u64::from(timeout_of(head));
     if 0 < timeout {
-        with_deadline(head, Some(time + timeout));
-        return;
+        with_deadline(head, Some(time.us + timeout));
     }
 }
 
@@ -154,7 +125,6 @@ fn time_out(head: &mut Head)
 {
     if 0 < timeout_of(head) {
         timeout_in_tick(head);
-        return;
     }
 }
 
@@ -163,26 +133,23 @@ pub fn by_deadline(
     head: &mut Head,
     queue: &mut [u8; 640],
     history: &mut [u8; 5080],
-    time: u64,
+    time: Time,
 ) -> Dealt
-    requires { time ≤ 4611686018427387903 }
-    ensures { TicksIn head.old queue.old history.old (by_deadline (plain (head_of head.old) queue.old history.old) time (soc_of head.old).next_tick_us) result head.new queue.new history.new (deadline_words head.old queue.old history.old time (soc_of head.old).next_tick_us) }
+    ensures { TicksIn head.old queue.old history.old (by_deadline (plain (head_of head.old) queue.old history.old) time.us (soc_of head.old).next_tick_us) result head.new queue.new history.new (deadline_words head.old queue.old history.old time.us (soc_of head.old).next_tick_us) }
 {
-    let deadline = deadline_at(head);
-    let Some(at) = deadline else {
+    let Some(at) = deadline_at(head) else {
         if at_not_active(head) {
             set_basic(head, time);
-            return go_on();
         }
-        return go_on();
+        return GOES_ON;
     };
-    if time < at {
-        return go_on();
+    if time.us < at {
+        return GOES_ON;
     }
     with_deadline(head, None);
     if at_not_active(head) {
         time_out(head);
-        return go_on();
+        return GOES_ON;
     }
     soc_check(head, queue, history, time)
 }

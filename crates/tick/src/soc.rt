@@ -1,29 +1,23 @@
 // The errors of the SoC check.
-ghost use Rattle.std.specs.Prelude.{◌≡◌, true, length};
+ghost use Rattle.std.specs.Prelude.{◌≡◌, true};
 ghost use Rattle.types.specs.Errors.{reported};
 ghost use Rattle.entries.specs.Entry.{crossing_entry};
 ghost use Rattle.watched.specs.Watched.{all_of};
 ghost use Rattle.node.specs.Tick.{queued, deal, deal_all};
 ghost use Rattle.node.specs.Refines.{plain, rings, joins};
 ghost use Rattle.heartbeats.specs.Parts.{is_quiet};
-ghost use Rattle.tick.specs.Ticks.{error_at};
 ghost use Rattle.head.specs.Words.{head_of};
 ghost use Rattle.tick.specs.TickWords.{entry_words, deal_words, deal_all_words};
 ghost use Rattle.heartbeats.specs.PartsIn.{TicksIn};
 
+use crate::deadline::GOES_ON;
 use entries::error_history::write_error_to_history;
 use entries::status_response::ErrorEntry;
-use head::parts::{history_of, increment_counter, queue_of, set_history, set_queue, whole};
+use head::parts::{history_of, increment_counter, queue_of, set_history, set_queue};
 use head::state::{Head, Statistic};
 use heartbeats::dealt::{Dealt, acts, finish, signal};
 use node::calls::handled;
 use types::frame::error::types::{DllError, DllErrors};
-
-// Lent as a slice, an array says its length.
-fn long(s: &[u8], n: usize)
-    requires { length s.now ≡ n }
-    ensures { length s.now ≡ n }
-{}
 
 // The entry of a crossing joins queue and history, with counter 2, or is dropped, with counter 3.
 fn queue_entry(
@@ -37,9 +31,6 @@ fn queue_entry(
         × (rings (head_of head.new) queue.new history.new ≡ joins (rings (head_of head.old) queue.old history.old) (crossing_entry error time))
         × (head.new ≡ entry_words head.old) }
 {
-    whole(head);
-    long(queue, 640);
-    long(history, 5080);
     let entry = ErrorEntry::of_crossing(error, time);
     let mut places = queue_of(head);
     if places.push_back(queue, entry) {
@@ -63,42 +54,13 @@ fn deal(
     requires { is_quiet error ≡ true }
     ensures { TicksIn head.old queue.old history.old (deal time (plain (head_of head.old) queue.old history.old) error) result head.new queue.new history.new (deal_words head.old error) }
 {
-    whole(head);
     let answer = handled(head, error);
-    whole(head);
     increment_counter(head, Statistic::Counter1);
-    let action = answer.action;
-    let ended = acts(action);
-    let logged = answer.logged;
     if answer.signal {
         signal(head);
         queue_entry(head, queue, history, error, time);
-        return finish(head, logged, ended);
     }
-    finish(head, logged, ended)
-}
-
-fn error_at(errors: DllErrors, i: usize) -> Option<DllError>
-    ensures { result ≡ error_at (reported errors) i }
-{
-    match errors {
-        DllErrors::None => None,
-        DllErrors::One(first) => {
-            if i == 0 {
-                return Some(first);
-            }
-            None
-        }
-        DllErrors::Two(first, second) => {
-            if i == 0 {
-                return Some(first);
-            }
-            if i == 1 {
-                return Some(second);
-            }
-            None
-        }
-    }
+    finish(head, answer.logged, acts(answer.action))
 }
 
 // The errors of the SoC check in their order: the first whose handling brings an action ends the walk.
@@ -112,21 +74,15 @@ pub(crate) fn deal_all(
     requires { all_of is_quiet (reported errors) ≡ true }
     ensures { TicksIn head.old queue.old history.old (deal_all time (plain (head_of head.old) queue.old history.old) (reported errors)) result head.new queue.new history.new (deal_all_words head.old (reported errors)) }
 {
-    let mut dealt = Dealt {
-        logged: DllErrors::None,
-        ended: false,
-    };
-    let mut i: usize = 0;
-    'walk: while i < 2 {
-        let found = error_at(errors, i);
-        let Some(error) = found else {
-            break 'walk;
-        };
-        dealt = deal(head, queue, history, error, time);
-        if dealt.ended {
-            break 'walk;
+    match errors {
+        DllErrors::None => GOES_ON,
+        DllErrors::One(error) => deal(head, queue, history, error, time),
+        DllErrors::Two(first, second) => {
+            let dealt = deal(head, queue, history, first, time);
+            if dealt.ended {
+                return dealt;
+            }
+            deal(head, queue, history, second, time)
         }
-        i += 1;
     }
-    dealt
 }

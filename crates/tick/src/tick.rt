@@ -1,5 +1,5 @@
 // The tick (node/cn/tick.rs), after its SDO step: the heartbeats, then what a passed deadline leads to.
-ghost use Rattle.std.specs.Prelude.{◌≡◌, true, ◌≤◌};
+ghost use Rattle.std.specs.Prelude.{◌≡◌, true};
 ghost use Rattle.watched.specs.Watched.{all_of, well_formed, watched_of};
 ghost use Rattle.node.specs.Tick.{checks_heartbeats, tick_taken};
 ghost use Rattle.node.specs.Refines.{plain};
@@ -10,7 +10,7 @@ ghost use Rattle.heartbeats.specs.PartsIn.{TicksIn};
 ghost use Rattle.tick.specs.TickIn.{roused_of, TickedIn, StillTicks};
 
 use crate::deadline::by_deadline;
-use head::parts::{set_earliest, state_at, whole};
+use head::parts::{set_earliest, state_at};
 use head::state::Head;
 use heartbeats::dealt::Dealt;
 use heartbeats::heartbeats::{beat_all, look_all};
@@ -19,13 +19,13 @@ use types::frame::error::types::DllErrors;
 use types::nmt::states::NmtState;
 use types::refusals::Refusal;
 use watched::nodes::{NodeWords, Seen, look, try_nodes};
-use watched::time::in_time;
+use watched::time::Time;
 
 // PreOperational2 and the states above it by their numbers, so not CsStopped.
 pub fn checks_heartbeats(state: NmtState) -> bool
     ensures { result ≡ checks_heartbeats state }
 {
-    0x5D <= state.as_u8()
+    NmtState::NmtPreOperational2.as_u8() <= state.as_u8()
 }
 
 // Number 3, and whether some node asks for something: where heartbeats are not checked, none does.
@@ -48,12 +48,12 @@ fn phases(
     history: &mut [u8; 5080],
     nodes: &NodeWords,
     count: usize,
-    time: u64,
+    time: Time,
 ) -> Dealt
-    requires { (time ≤ 4611686018427387903) × (well_formed (watched_of (nodes_of nodes.now) count) ≡ true) × (checks_heartbeats (nmt_of head.old).current_state ≡ true) }
-    ensures { TicksIn head.old queue.old history.old (tick_taken (plain (head_of head.old) queue.old history.old) time (watched_of (nodes_of nodes.now) count)) result head.new queue.new history.new (tick_words head.old queue.old history.old time (watched_of (nodes_of nodes.now) count)) }
+    requires { (well_formed (watched_of (nodes_of nodes.now) count) ≡ true) × (checks_heartbeats (nmt_of head.old).current_state ≡ true) }
+    ensures { TicksIn head.old queue.old history.old (tick_taken (plain (head_of head.old) queue.old history.old) time.us (watched_of (nodes_of nodes.now) count)) result head.new queue.new history.new (tick_words head.old queue.old history.old time.us (watched_of (nodes_of nodes.now) count)) }
 {
-    let beats = beat_all(head, nodes, count, time);
+    let beats = beat_all(head, nodes, count, time.us);
     if beats.ended {
         return beats;
     }
@@ -75,18 +75,14 @@ fn tick_roused(
         × (heard ≡ all_of (not_before time) (watched_of (nodes_of nodes.old) count)) }
     ensures { TickedIn head.old queue.old history.old nodes.old count time result head.new queue.new history.new nodes.new }
 {
-    if !in_time(time) {
-        return Err(Refusal::TimeLimit);
-    }
+    let time = Time::try_from(time)?;
     if !heard {
         return Err(Refusal::BeforeHeard);
     }
     let dealt = phases(head, queue, history, nodes, count, time);
-    let soonest = look_all(nodes, count, time);
-    whole(head);
+    let soonest = look_all(nodes, count, time.us);
     set_earliest(head, moment(soonest));
-    let logged = dealt.logged;
-    Ok(logged)
+    Ok(dealt.logged)
 }
 
 // A tick at which no node asks for anything: the nodes stay as they are, in whatever form, and `late` is the soonest moment at which one would be.
@@ -99,14 +95,10 @@ pub fn tick_still(
 ) -> Result<DllErrors, Refusal>
     ensures { StillTicks head.old queue.old history.old time late result head.new queue.new history.new }
 {
-    if !in_time(time) {
-        return Err(Refusal::TimeLimit);
-    }
+    let time = Time::try_from(time)?;
     let dealt = by_deadline(head, queue, history, time);
-    whole(head);
     set_earliest(head, moment(late));
-    let logged = dealt.logged;
-    Ok(logged)
+    Ok(dealt.logged)
 }
 
 // A tick at a time in microseconds, on a head with its memory and the watched nodes.
@@ -121,14 +113,8 @@ pub fn process_tick(
     ensures { TickedIn head.old queue.old history.old nodes.old count time result head.new queue.new history.new nodes.new }
 {
     match roused(checks_heartbeats(state_at(head)), nodes, count, time) {
-        Seen::Roused(heard) => {
-            return tick_roused(head, queue, history, nodes, count, time, heard);
-        }
-        Seen::Resting(soonest) => {
-            return tick_still(head, queue, history, time, soonest);
-        }
-        Seen::Unformed => {
-            return Err(Refusal::WatchedNodes);
-        }
+        Seen::Roused(heard) => tick_roused(head, queue, history, nodes, count, time, heard),
+        Seen::Resting(soonest) => tick_still(head, queue, history, time, soonest),
+        Seen::Unformed => Err(Refusal::WatchedNodes),
     }
 }

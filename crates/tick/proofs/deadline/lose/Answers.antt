@@ -11,8 +11,8 @@ deal_all-dealt-requires c =
 
 pub returns-then-dealt : goal.returns-then-dealt
 returns-then-dealt c =
-    lost_ends c.args.head.now c.args.queue.now c.args.history.now c.args.time c.soc_timeout-errors.result _ c.soc_timeout-errors.ensures c.deal_all-dealt.result _ _ _ c.deal_all-dealt.ensures c.if-dealt.true
+    lost_ends c.args.head.now c.args.queue.now c.args.history.now c.args.time.us c.soc_timeout-errors.result _ c.soc_timeout-errors.ensures c.deal_all-dealt.result _ _ _ c.deal_all-dealt.ensures c.if-dealt.true
 
 pub returns : goal.returns
 returns c =
-    lost_goes_on c.args.head.now c.args.queue.now c.args.history.now c.args.time c.soc_timeout-errors.result _ c.soc_timeout-errors.ensures c.deal_all-dealt.result _ _ _ c.deal_all-dealt.ensures c.if-dealt.false _ c.reschedule.ensures
+    lost_goes_on c.args.head.now c.args.queue.now c.args.history.now c.args.time.us c.soc_timeout-errors.result _ c.soc_timeout-errors.ensures c.deal_all-dealt.result _ _ _ c.deal_all-dealt.ensures c.if-dealt.false _ c.reschedule.ensures

@@ -15,32 +15,32 @@ use Rattle.tick.proofs.deadline.next_deadline.Goals as goal
 pub nonzero_div-result : goal.nonzero_div-result
 unfolding head_of
 nonzero_div-result c =
-    omega (arith, c.requires.1, c.cycle-cycle_us.ensures.0, ap cycle_of c.od_of-od.ensures)
+    omega (arith, c.requires, c.cycle-cycle_us.ensures.0, ap cycle_of c.od_of-od.ensures)
 
 pub overflow_add-result : goal.overflow_add-result
 unfolding head_of
 overflow_add-result c =
-    omega (arith, div-le_self c.time_since-elapsed.result c.cycle-cycle_us.result, c.time_since-elapsed.ensures, c.requires.0)
+    omega (arith, div-le_self c.time_since-elapsed.result c.cycle-cycle_us.result, c.time_since-elapsed.ensures, c.args.time.in_time)
 
 pub overflow_mul-result : goal.overflow_mul-result
 unfolding head_of
 overflow_mul-result c =
-    omega (arith, ahead c.time_since-elapsed.result c.cycle-cycle_us.result, c.time_since-elapsed.ensures, c.cycle-cycle_us.ensures.1, c.requires.0)
+    omega (arith, ahead c.time_since-elapsed.result c.cycle-cycle_us.result, c.time_since-elapsed.ensures, c.cycle-cycle_us.ensures.1, c.args.time.in_time)
 
 pub overflow_add-result-2 : goal.overflow_add-result-2
 unfolding head_of
 overflow_add-result-2 c =
-    omega (arith, ahead c.time_since-elapsed.result c.cycle-cycle_us.result, c.time_since-elapsed.ensures, c.cycle-cycle_us.ensures.1, c.last_soc-last.ensures, c.requires.0)
+    omega (arith, ahead c.time_since-elapsed.result c.cycle-cycle_us.result, c.time_since-elapsed.ensures, c.cycle-cycle_us.ensures.1, c.last_soc-last.ensures, c.args.time.in_time)
 
 pub overflow_add-result-3 : goal.overflow_add-result-3
 unfolding head_of
 overflow_add-result-3 c =
-    omega (arith, ahead c.time_since-elapsed.result c.cycle-cycle_us.result, c.time_since-elapsed.ensures, c.cycle-cycle_us.ensures.1, c.last_soc-last.ensures, c.tolerance_us.ensures.1, c.requires.0)
+    omega (arith, ahead c.time_since-elapsed.result c.cycle-cycle_us.result, c.time_since-elapsed.ensures, c.cycle-cycle_us.ensures.1, c.last_soc-last.ensures, c.tolerance_us.ensures.1, c.args.time.in_time)
 
 pub returns : goal.returns
 unfolding head_of
 returns c =
-    next_is (head_of c.args.head.now) c.args.time c.last_soc-last.result c.cycle-cycle_us.result c.time_since-elapsed.result c.tolerance_us.result
+    next_is (head_of c.args.head.now) c.args.time.us c.last_soc-last.result c.cycle-cycle_us.result c.time_since-elapsed.result c.tolerance_us.result
     (c.last_soc-last.ensures ∙ ap (λ (s : SocWatch). min s.last_soc_reception_time_us 4611686018427387903) c.soc_of.ensures)
     (c.cycle-cycle_us.ensures.0 ∙ ap cycle_of c.od_of-od.ensures) c.time_since-elapsed.ensures
     (c.tolerance_us.ensures.0 ∙ ap (λ (o : Dictionary). tolerance_of o / 1000) c.od_of-od.ensures)

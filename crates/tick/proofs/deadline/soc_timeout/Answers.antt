@@ -11,6 +11,6 @@ use Rattle.tick.proofs.deadline.soc_timeout.Goals as goal
 
 pub returns : goal.returns
 returns c =
-    loses_in c.args.head.now c.whole.ensures c.process_event-answer.result
+    loses_in c.args.head.now c.told-head c.process_event-answer.result
     (c.process_event-answer.ensures ∙ ap₂ (λ (m : DllCsStateMachine) (s : NmtState). Dll.cs_processed m.state SocTimeout s true) c.dll_of.ensures c.state_at.ensures)
     _ c.set_dll.ensures

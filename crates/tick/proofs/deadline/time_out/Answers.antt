@@ -7,6 +7,6 @@ pub returns-then-timeout_of-gt0 : goal.returns-then-timeout_of-gt0
 returns-then-timeout_of-gt0 c =
     out c.args.head.now 0 c.timeout_of.result c.timeout_of.ensures c.if-timeout_of-gt0.true _ c.timeout_in_tick.ensures
 
-pub returns : goal.returns
-returns c =
+pub returns-else-timeout_of-gt0 : goal.returns-else-timeout_of-gt0
+returns-else-timeout_of-gt0 c =
     never c.args.head.now 0 c.timeout_of.result c.timeout_of.ensures c.if-timeout_of-gt0.false

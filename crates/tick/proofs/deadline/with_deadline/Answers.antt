@@ -5,4 +5,4 @@ use Rattle.tick.proofs.deadline.with_deadline.Goals as goal
 
 pub returns : goal.returns
 returns c =
-    due_turns c.args.head.now c.whole.ensures _ c.args.deadline c.set_deadline.ensures
+    due_turns c.args.head.now c.told-head _ c.args.deadline c.set_deadline.ensures

@@ -1,14 +1,20 @@
 -- `tick::soc::deal` meets its contract: counted, and on a signal registered and queued.
 -- Assumes nothing.
+use mathlib.Core.Path.{◌∙◌}
 use Rattle.tick.proofs.Dealings.{deal_loud, deal_quiet}
 use Rattle.tick.proofs.soc.deal.Goals as goal
-
-pub returns-then-answer : goal.returns-then-answer
-returns-then-answer c =
-    deal_loud c.args.head.now c.whole.ensures c.args.queue.now c.args.history.now c.args.error c.args.time c.requires c.handled-answer.result c.handled-answer.ensures.0 _ c.handled-answer.ensures.1
-    c.whole-2.ensures _ c.increment_counter.ensures c.acts-ended.result c.acts-ended.ensures c.finish.result _ c.if-answer.true _ c.signal.ensures _ _ _ c.queue_entry.ensures c.finish.ensures
+use Rattle.tick.proofs.soc.deal.Goals.{then-answer, else-answer}
 
 pub returns : goal.returns
 returns c =
-    deal_quiet c.args.head.now c.whole.ensures c.args.queue.now c.args.history.now c.args.error c.args.time c.requires c.handled-answer.result c.handled-answer.ensures.0 _ c.handled-answer.ensures.1
-    c.whole-2.ensures _ c.increment_counter.ensures c.acts-ended.result c.acts-ended.ensures c.finish-2.result _ c.if-answer.false c.finish-2.ensures
+    let a = c.args in
+    elim c.if-answer.branch [
+      | then-answer w ↦
+          deal_loud a.head.now c.told-head a.queue.now a.history.now a.error a.time c.requires c.handled-answer.result c.handled-answer.ensures.0 _ c.handled-answer.ensures.1
+          c.handled-answer.array_long _ c.increment_counter.ensures c.acts.result c.acts.ensures c.finish.result _ w.if-answer.true _ w.signal.ensures
+          c.if-answer.head c.if-answer.queue c.if-answer.history (rw (w.head-is, w.queue-is, w.history-is) w.queue_entry.ensures) c.finish.ensures
+      | else-answer w ↦
+          rw (w.queue-is, w.history-is)
+          (deal_quiet a.head.now c.told-head a.queue.now a.history.now a.error a.time c.requires c.handled-answer.result c.handled-answer.ensures.0 _ c.handled-answer.ensures.1
+          c.handled-answer.array_long c.if-answer.head (w.head-is ∙ c.increment_counter.ensures) c.acts.result c.acts.ensures c.finish.result _ w.if-answer.false c.finish.ensures)
+    ]

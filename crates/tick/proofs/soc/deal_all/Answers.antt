@@ -1,39 +1,32 @@
--- `tick::soc::deal_all` meets its contract. The invariant of the walk: what is left gives what the whole gives, and nothing has joined yet.
+-- `tick::soc::deal_all` meets its contract: the first error ends the walk, or the second follows.
 -- Assumes nothing.
-use native.Mathlib.Omega.{arith}
-use mathlib.Core.Path.{sym, ◌∙◌}
+use mathlib.Core.Bool.{true}
+use mathlib.Core.List.{[], ◌∷◌}
+use mathlib.Core.Path.{◌≡◌, ap, sym, ◌∙◌}
 use Rattle.types.specs.Errors.{reported}
-use Rattle.tick.proofs.TickLaws.{two_over, none_left, quiet_from}
-use Rattle.tick.proofs.Dealings.{walk_begins, walk_over, walk_stops, walk_goes_on}
+use Rattle.types.specs.declared.frame.error.types.DllErrors.{DllErrors}
+use Rattle.types.proofs.Tests.{both_first}
+use Rattle.watched.specs.Watched.{all_of}
+use Rattle.heartbeats.specs.Parts.{is_quiet}
+use Rattle.tick.proofs.Dealings.{walk_none, walk_stops, walk_goes_on, walk_last}
 use Rattle.tick.proofs.soc.deal_all.Goals as goal
 
-pub walk-init : goal.walk-init
-walk-init c =
-    (walk_begins c.args.time (reported c.args.errors) c.args.head.now c.args.queue.now c.args.history.now, c.requires, omega arith)
+pub returns-in-None : goal.returns-in-None
+returns-in-None c =
+    rw c.in-None.is (walk_none c.args.time c.args.head.now c.args.queue.now c.args.history.now)
 
-pub deal-dealt-requires : goal.deal-dealt-requires
-deal-dealt-requires c =
-    quiet_from (reported c.args.errors) _ c.walk.i c.walk.invariant.1 (sym c.error_at-found.ensures ∙ c.in-Some.is)
-
-pub walk-preserved : goal.walk-preserved
-walk-preserved c = (
-  walk_goes_on c.args.time (reported c.args.errors) c.args.head.now c.args.queue.now c.args.history.now c.walk.head c.walk.queue c.walk.history c.walk.dealt c.walk.i c.walk.invariant.0
-      _ (sym c.error_at-found.ensures ∙ c.in-Some.is) c.deal-dealt.result _ _ _ c.deal-dealt.ensures c.walk.invariant.1 c.if-dealt.false,
-  c.walk.invariant.1,
-  omega arith,
-)
-
-pub returns-after-walk : goal.returns-after-walk
-returns-after-walk c =
-    walk_over c.args.time (reported c.args.errors) c.args.head.now c.args.queue.now c.args.history.now c.walk.head c.walk.queue c.walk.history c.walk.dealt c.walk.i c.walk.invariant.0
-    (two_over c.args.errors c.walk.i c.walk-test.false)
-
-pub returns-in_default : goal.returns-in_default
-returns-in_default c =
-    walk_over c.args.time (reported c.args.errors) c.args.head.now c.args.queue.now c.args.history.now c.walk.head c.walk.queue c.walk.history c.walk.dealt c.walk.i c.walk.invariant.0
-    (none_left (reported c.args.errors) c.walk.i (sym c.error_at-found.ensures ∙ c.in_default.is))
+pub returns-in-One : goal.returns-in-One
+returns-in-One c =
+    rw c.in-One.is (walk_last c.args.time c.args.head.now c.args.queue.now c.args.history.now _ c.deal.result _ _ _ c.deal.ensures)
 
 pub returns-then-dealt : goal.returns-then-dealt
 returns-then-dealt c =
-    walk_stops c.args.time (reported c.args.errors) c.args.head.now c.args.queue.now c.args.history.now c.walk.head c.walk.queue c.walk.history c.walk.dealt c.walk.i c.walk.invariant.0
-    _ (sym c.error_at-found.ensures ∙ c.in-Some.is) c.deal-dealt.result _ _ _ c.deal-dealt.ensures c.if-dealt.true
+    rw c.in-Two.is (walk_stops c.args.time c.args.head.now c.args.queue.now c.args.history.now _ c.deal-dealt.result _ _ _ c.deal-dealt.ensures _ c.if-dealt.true)
+
+pub returns-else-dealt : goal.returns-else-dealt
+returns-else-dealt c =
+    let a = c.args in
+    let q : all_of is_quiet (c.in-Two.first ∷ c.in-Two.second ∷ []) ≡ true = ap (λ (es : DllErrors). all_of is_quiet (reported es)) (sym c.in-Two.is) ∙ c.requires in
+    rw c.in-Two.is
+    (walk_goes_on a.time a.head.now a.queue.now a.history.now _ c.deal-dealt.result _ _ _ c.deal-dealt.ensures (both_first _ _ q) c.if-dealt.false _ c.deal-in-Two.result _ _ _
+    (walk_last a.time _ _ _ _ c.deal-in-Two.result _ _ _ c.deal-in-Two.ensures))

@@ -14,9 +14,9 @@ use Rattle.tick.proofs.soc.queue_entry.Goals as goal
 
 pub returns-then-push_back : goal.returns-then-push_back
 returns-then-push_back c =
-    enters c.args.head.now c.whole.ensures c.args.queue.now c.args.history.now _ (crossing_entry c.args.error c.args.time) (record { queue = c.push_back.new.self; kept = c.push_back.result })
+    enters c.args.head.now c.told-head c.args.queue.now c.args.history.now _ (crossing_entry c.args.error c.args.time) (record { queue = c.push_back.new.self; kept = c.push_back.result })
     (pushed_as c.push_back.ensures.queue c.push_back.ensures.kept c.queue_of-places.ensures)
-    (c.push_back.ensures.bytes ∙ ap₂ (pushed_bytes c.args.queue.now) c.queue_of-places.ensures c.of_crossing-entry.ensures) c.long.ensures c.long-2.ensures (crossing_fits c.args.error c.args.time) c.if-push_back.true
+    (c.push_back.ensures.bytes ∙ ap₂ (pushed_bytes c.args.queue.now) c.queue_of-places.ensures c.of_crossing-entry.ensures) c.told-queue c.told-history (crossing_fits c.args.error c.args.time) c.if-push_back.true
     c.write_error_to_history-joined.result _ (
       c.write_error_to_history-joined.ensures.0 ∙ ap joined c.history_of.ensures,
       c.write_error_to_history-joined.ensures.1 ∙ ap₂ (joined_bytes c.args.history.now) c.history_of.ensures c.of_crossing-entry.ensures,
@@ -26,6 +26,6 @@ returns-then-push_back c =
 
 pub returns : goal.returns
 returns c =
-    drops c.args.head.now c.whole.ensures c.args.queue.now c.args.history.now _ (crossing_entry c.args.error c.args.time) (record { queue = c.push_back.new.self; kept = c.push_back.result })
+    drops c.args.head.now c.told-head c.args.queue.now c.args.history.now _ (crossing_entry c.args.error c.args.time) (record { queue = c.push_back.new.self; kept = c.push_back.result })
     (pushed_as c.push_back.ensures.queue c.push_back.ensures.kept c.queue_of-places.ensures)
-    (c.push_back.ensures.bytes ∙ ap₂ (pushed_bytes c.args.queue.now) c.queue_of-places.ensures c.of_crossing-entry.ensures) c.long.ensures c.if-push_back.false _ c.increment_counter-2.ensures
+    (c.push_back.ensures.bytes ∙ ap₂ (pushed_bytes c.args.queue.now) c.queue_of-places.ensures c.of_crossing-entry.ensures) c.told-queue c.if-push_back.false _ c.increment_counter-2.ensures

@@ -7,20 +7,16 @@ use Rattle.tick.proofs.tick.phases.Goals as goal
 
 pub beat_all-beats-requires : goal.beat_all-beats-requires
 beat_all-beats-requires c =
-    c.requires.1
+    c.requires.0
 
 pub returns-then-beats : goal.returns-then-beats
 returns-then-beats c =
     let a = c.args in
-    beats_end a.head.now a.queue.now a.history.now a.time (watched_of (nodes_of a.nodes.now) a.count) c.requires.2
+    beats_end a.head.now a.queue.now a.history.now a.time.us (watched_of (nodes_of a.nodes.now) a.count) c.requires.1
     c.beat_all-beats.result _ (c.beat_all-beats.ensures a.queue.now a.history.now) c.if-beats.true
-
-pub by_deadline-requires : goal.by_deadline-requires
-by_deadline-requires c =
-    c.requires.0
 
 pub returns : goal.returns
 returns c =
     let a = c.args in
-    beats_go_on a.head.now a.queue.now a.history.now a.time (watched_of (nodes_of a.nodes.now) a.count) c.requires.2
+    beats_go_on a.head.now a.queue.now a.history.now a.time.us (watched_of (nodes_of a.nodes.now) a.count) c.requires.1
     c.beat_all-beats.result _ (c.beat_all-beats.ensures a.queue.now a.history.now) c.if-beats.false c.by_deadline.result _ _ _ c.by_deadline.ensures

@@ -1,24 +1,27 @@
 -- `tick::tick::tick_roused` meets its contract: numbers 5 and 6, then the phases, the look and the earliest moment.
 -- Assumes nothing.
-use borrow.Author.Tests.{leb-true}
 use mathlib.Core.Path.{sym, ◌∙◌}
+use mathlib.Core.Path.{◌≡◌}
+use Rattle.std.proofs.Common.{rules}
+use Rattle.std.specs.declared.result.Result.TheVariants.{Err}
 use Rattle.tick.proofs.Tickings.{late, before, accepted}
 use Rattle.tick.proofs.tick.tick_roused.Goals as goal
 
-pub returns-then-not-in_time : goal.returns-then-not-in_time
-returns-then-not-in_time c =
+pub returns-in_err-time : goal.returns-in_err-time
+returns-in_err-time c =
     let a = c.args in
-    late a.head.now a.queue.now a.history.now a.nodes.now a.count a.time c.requires.0 c.requires.1 (sym c.in_time.ensures ∙ c.if-not-in_time.true)
+    let r : c.from_residual.result ≡ Err c.in_err-time.field-0.0 = search rules in
+    rw (r, c.in_err-time.ensures.0) (late a.head.now a.queue.now a.history.now a.nodes.now a.count a.time c.requires.0 c.requires.1 c.in_err-time.ensures.1)
 
 pub returns-then-not-heard : goal.returns-then-not-heard
 returns-then-not-heard c =
     let a = c.args in
-    before a.head.now a.queue.now a.history.now a.nodes.now a.count a.time c.requires.0 c.requires.1 (sym c.in_time.ensures ∙ c.if-not-in_time.false)
+    before a.head.now a.queue.now a.history.now a.nodes.now a.count a.time c.requires.0 c.requires.1 c.in_ok-time.ensures.1
     (sym c.requires.2 ∙ c.if-not-heard.true)
 
 pub phases-dealt-requires : goal.phases-dealt-requires
 phases-dealt-requires c =
-    (leb-true c.args.time 4611686018427387903 (sym c.in_time.ensures ∙ c.if-not-in_time.false), c.requires.0, c.requires.1)
+    (c.requires.0, c.requires.1)
 
 pub look_all-soonest-requires : goal.look_all-soonest-requires
 look_all-soonest-requires c =
@@ -27,6 +30,6 @@ look_all-soonest-requires c =
 pub returns : goal.returns
 returns c =
     let a = c.args in
-    accepted a.head.now a.queue.now a.history.now a.nodes.now a.count a.time c.requires.0 c.requires.1 (sym c.in_time.ensures ∙ c.if-not-in_time.false)
+    accepted a.head.now a.queue.now a.history.now a.nodes.now a.count a.time c.requires.0 c.requires.1 c.in_ok-time.ensures.1
     (sym c.requires.2 ∙ c.if-not-heard.false)
-    c.phases-dealt.result _ _ _ c.phases-dealt.ensures c.whole.ensures _ c.look_all-soonest.result c.look_all-soonest.ensures c.moment.result c.moment.ensures _ c.set_earliest.ensures
+    c.phases-dealt.result _ _ _ (rw c.in_ok-time.ensures.0 at c.phases-dealt.ensures) c.phases-dealt.array_long _ c.look_all-soonest.result (rw c.in_ok-time.ensures.0 at c.look_all-soonest.ensures) c.moment.result c.moment.ensures _ c.set_earliest.ensures

@@ -1,21 +1,19 @@
 -- `tick::tick::tick_still` meets its contract: number 5, then the deadline and the earliest moment.
 -- Assumes nothing.
-use borrow.Author.Tests.{leb-true}
-use mathlib.Core.Path.{sym, ◌∙◌}
+use mathlib.Core.Path.{◌≡◌}
+use Rattle.std.proofs.Common.{rules}
+use Rattle.std.specs.declared.result.Result.TheVariants.{Err}
 use Rattle.tick.proofs.Tickings.{still_late, still_accepted}
 use Rattle.tick.proofs.tick.tick_still.Goals as goal
 
-pub returns-then-not-in_time : goal.returns-then-not-in_time
-returns-then-not-in_time c =
+pub returns-in_err-time : goal.returns-in_err-time
+returns-in_err-time c =
     let a = c.args in
-    still_late a.head.now a.queue.now a.history.now a.time a.late (sym c.in_time.ensures ∙ c.if-not-in_time.true)
-
-pub by_deadline-dealt-requires : goal.by_deadline-dealt-requires
-by_deadline-dealt-requires c =
-    leb-true c.args.time 4611686018427387903 (sym c.in_time.ensures ∙ c.if-not-in_time.false)
+    let r : c.from_residual.result ≡ Err c.in_err-time.field-0.0 = search rules in
+    rw (r, c.in_err-time.ensures.0) (still_late a.head.now a.queue.now a.history.now a.time a.late c.in_err-time.ensures.1)
 
 pub returns : goal.returns
 returns c =
     let a = c.args in
-    still_accepted a.head.now a.queue.now a.history.now a.time a.late (sym c.in_time.ensures ∙ c.if-not-in_time.false)
-    c.by_deadline-dealt.result _ _ _ c.by_deadline-dealt.ensures c.whole.ensures c.moment.result c.moment.ensures _ c.set_earliest.ensures
+    still_accepted a.head.now a.queue.now a.history.now a.time a.late c.in_ok-time.ensures.1
+    c.by_deadline-dealt.result _ _ _ (rw c.in_ok-time.ensures.0 at c.by_deadline-dealt.ensures) c.by_deadline-dealt.array_long c.moment.result c.moment.ensures _ c.set_earliest.ensures
