@@ -25,7 +25,7 @@ use types::frame::error::types::{DllError, DllErrors};
 use types::refusals::Refusal;
 use types::types::NodeId;
 use watched::nodes::WatchedNode;
-use watched::time::in_time;
+use watched::time::{Time, in_time};
 
 // What a tick answers, and what it sets.
 fn not_taken(refusal: Refusal) -> (Result<DllErrors, Refusal>, Settling)
@@ -108,9 +108,9 @@ fn phases(
         if dealt.ended {
             return dealt;
         }
-        return by_deadline(head, queue, history, time);
+        return by_deadline(head, queue, history, Time { us: time });
     }
-    by_deadline(head, queue, history, time)
+    by_deadline(head, queue, history, Time { us: time })
 }
 
 // The tick, by what was found of the run.
