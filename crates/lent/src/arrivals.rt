@@ -31,7 +31,7 @@ pub struct Closing {
     pub next: WatchedNode,
 }
 
-// A place that holds no node.
+// A place that holds no node; a derived default would not say which record that is.
 fn no_node() -> WatchedNode
     ensures { result ≡ no_node }
 {
