@@ -37,6 +37,7 @@ impl NetTime {
 
     // The time later by a duration. The sum of the nanoseconds is made in 64 bits: with nanoseconds far above a
     // second it would overflow 32.
+    #[tactic(auto, unfolding(crate::specs::Common::add_nanos))]
     pub fn add_nanos(self, nanos: u64) -> Self
         ensures { result ≡ add_nanos self nanos }
     {
