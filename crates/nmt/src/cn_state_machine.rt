@@ -47,6 +47,7 @@ fn reported_of(unexpected: bool, state: NmtState, event: NmtEvent) -> DllErrors
 }
 
 // What a reset passes. Most events are none, and for them nothing is looked up.
+#[tactic(auto, using(crate::proofs::Laws::plain_passes))]
 fn reset_of(event: NmtEvent) -> ResetSequence
     ensures { passed result ≡ reset_sequence event }
 {
