@@ -18,11 +18,7 @@ use types::nmt::events::NmtEvent;
 pub fn acts(action: NmtAction) -> bool
     ensures { result ≡ acts action }
 {
-    match action {
-        NmtAction::None => false,
-        NmtAction::ResetCommunication => true,
-        NmtAction::ResetNode(_) => true,
-    }
+    action != NmtAction::None
 }
 
 // A signal sets error_status_changed and the register's lowest bit; counter 5 rises where that changes it.
