@@ -60,7 +60,7 @@ impl Desk {
     }
 }
 
-// A start was accepted, or declined by a number.
+// A start was accepted, or declined by a number, the first of its answer.
 fn started(session: Session, refusal: u64) -> Session
     ensures { result ≡ started_by session refusal }
 {
@@ -74,7 +74,7 @@ fn started(session: Session, refusal: u64) -> Session
     }
 }
 
-// So many nodes are watched where the call was not declined by a number.
+// So many nodes are watched where the call was not declined by the first number of its answer.
 fn numbered(session: Session, refusal: u64, number: usize) -> Session
     ensures { result ≡ numbered_by session refusal number }
 {

@@ -90,7 +90,7 @@ fn read_entry(line: &[u8], at: usize, bytes: &mut EntryBuffer) -> Option<u8>
     None
 }
 
-// Reads a line that is no comment.
+// Reads a line that is no comment. Each of the first three is read in its own way, so they are no rows of the table.
 fn read_line(line: &[u8], given: &mut Given, bytes: &mut EntryBuffer) -> Option<u8>
     ensures { says result given.new bytes.new ≡ line_says line.now given.old bytes.old }
 {

@@ -7,7 +7,7 @@ use crate::EntryBuffer;
 use crate::digits::read_entries;
 use patterns::{Given, KEPT, UNREADABLE, match_at};
 
-// Reads a value that may be named at a place; the place behind.
+// Reads a value that may be named at a place; the place behind. One match answers the place and sets the number, so no Option stands between.
 fn read_value(row: &[u8], line: &[u8], at: usize, given: &mut Given, place: usize) -> usize
     requires { place ≤ 17 }
     ensures { matched result given.new ≡ value row.now line.now place (matched at given.old) }

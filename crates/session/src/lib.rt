@@ -9,7 +9,7 @@ ghost use Rattle.session.specs.Session.{key_after, lent_number, with_run, places
 use patterns::Given;
 use watched::nodes::NodeWords;
 
-// The places of a run: those that a call is lent, and those behind them.
+// The places of a run: those that a call is lent, and those behind them. Two arrays, since a call is lent the first whole.
 #[derive(Drop)]
 pub struct Places {
     pub nodes: NodeWords,
@@ -92,7 +92,8 @@ impl Places {
         }
     }
 
-    // The place behind the last record from one place to another, of 40, that is not all zeros.
+    // The place behind the last record from one place to another, of 40, that is not all zeros. The records stand in two arrays, which no one iterator
+    // goes over.
     pub fn end_of(&self, from: usize, to: usize) -> usize
         ensures { (result ≡ end_of self.now from to) × (result ≤ 40) }
     {

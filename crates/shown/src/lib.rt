@@ -52,7 +52,7 @@ fn kinds(head: &Head) -> [ThresholdCounter; 7]
     ]
 }
 
-// The level and the cumulative count of each kind, and the lost links.
+// The level and the cumulative count of each kind, and the lost links: written out, as two numbers of a kind stand side by side.
 fn counters(head: &Head) -> [u64; 15]
     ensures { result ≡ counters_shown (head_of head.now) }
 {
@@ -135,6 +135,7 @@ pub fn thresholds(head: &Head) -> [u64; 7]
     kinds(head).map(|kind| u64::from(kind.threshold))
 }
 
+// No `From`: neither type is of this crate.
 fn entry_numbers(entry: ErrorEntry) -> [u64; 8]
     ensures { result ≡ entry_shown entry }
 {
