@@ -1,12 +1,8 @@
 -- `printed::Buffer::say` meets its contract. The loop's invariant: what is left of the text, laid here, is the whole.
 -- Assumes nothing.
-use mathlib.Core.Path.{refl, ◌∙◌}
+use mathlib.Core.Path.{◌∙◌}
 use Rattle.printed.proofs.Printing.{say_next, say_ends}
 use Rattle.printed.proofs.Buffer.say.Goals as goal
-
-pub loop-byte-init : goal.loop-byte-init
-loop-byte-init c =
-    refl
 
 pub loop-byte-preserved : goal.loop-byte-preserved
 loop-byte-preserved c =

@@ -1,13 +1,9 @@
 -- `printed::Buffer::say_bytes` meets its contract. The loop's invariant: what is left of the bytes, laid here, is the whole.
 -- Assumes nothing.
-use mathlib.Core.Path.{refl, ap, ◌∙◌}
+use mathlib.Core.Path.{ap, ◌∙◌}
 use Rattle.forms.specs.Hex.{hex_digits}
 use Rattle.printed.proofs.Printing.{bytes_first, bytes_next, bytes_end}
 use Rattle.printed.proofs.Buffer.say_bytes.Goals as goal
-
-pub loop-byte-init : goal.loop-byte-init
-loop-byte-init c =
-    refl
 
 pub loop-byte-preserved : goal.loop-byte-preserved
 loop-byte-preserved c =

@@ -1,13 +1,9 @@
 -- `printed::Buffer::say_form` meets its contract. The loop's invariant: what is left of the form, laid here with what is left of the numbers, is the whole.
 -- Assumes nothing.
-use mathlib.Core.Path.{refl, ◌∙◌}
+use mathlib.Core.Path.{◌∙◌}
 use native.Mathlib.Omega.{arith}
 use Rattle.printed.proofs.Printing.{form_next, form_ends}
 use Rattle.printed.proofs.Buffer.say_form.Goals as goal
-
-pub loop-mark-init : goal.loop-mark-init
-loop-mark-init c =
-    (refl, omega arith)
 
 pub loop-mark-preserved : goal.loop-mark-preserved
 loop-mark-preserved c =
