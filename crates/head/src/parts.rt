@@ -191,6 +191,7 @@ pub fn set_ready(head: &mut Head, ready: bool)
     head[READY] = u32::from(ready);
 }
 
+// Any word is a state, so that no reading is refused: what names none is NonCyclic.
 fn dll_state(word: u32) -> DllCsState
     ensures { result ≡ dll_state word }
 {
@@ -245,6 +246,7 @@ pub fn set_counter(head: &mut Head, kind: CounterKind, counter: ThresholdCounter
     head[place + 3] = counter.crossings_cnt;
 }
 
+// What is one word has a reader and a writer by name: over a place, a caller could name any word.
 pub fn links_of(head: &Head) -> u32
     ensures { result ≡ word head.now at.links }
 {
