@@ -55,7 +55,7 @@ pub fn start(
     answers::answer(said, answer)
 }
 
-// A call that needs the head alone, by its key.
+// A call that needs the head alone, by its key, the byte that its line begins with.
 pub fn on_head(key: u8, given: Given, head: &mut Head, answer: &mut Numbers)
     ensures { (q m : List ℕ) → Makes head.old q m (head_call key given) answer.new head.new q m no_run }
 {

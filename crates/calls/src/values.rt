@@ -38,7 +38,7 @@ fn object(n: u64) -> Option<u32>
     (n != NOTHING).then_some(word(n))
 }
 
-// The dictionary values of a start.
+// The dictionary values of a start. No From: neither type is of this crate.
 pub(crate) fn dictionary(given: Given) -> Dictionary
     ensures { result ≡ dictionary_of given }
 {

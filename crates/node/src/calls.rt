@@ -33,6 +33,7 @@ pub struct NmtTaken {
     pub reset: ResetSequence,
 }
 
+// What document 01 says that an error answers. The three are read apart, so they are no enum.
 #[derive(Clone, Copy, PartialEq, Eq)]
 pub struct ErrorTaken {
     pub action: NmtAction,

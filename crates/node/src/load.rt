@@ -21,6 +21,7 @@ pub struct DictionaryUpdate {
     pub counter_5: Option<u32>,
 }
 
+// Three writers and no generic one: each is a line, with the value's own type.
 fn load_register(head: &mut Head, update: Option<u8>)
     ensures { (head.new ≡ byte_loaded head.old at.register update) × ByteFits update }
 {

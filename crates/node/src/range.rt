@@ -51,6 +51,7 @@ pub fn soc_range(head: &Head, earliest: u64, latest: u64) -> Result<SocVerdict, 
     Ok(SocVerdict::Kept)
 }
 
+// No try_from, whose error could not come.
 fn signed(n: u64) -> i64
     requires { n ≤ 9223372036854775807 }
     ensures { result ≡ pos n }

@@ -16,14 +16,14 @@ pub const UNREADABLE: usize = usize::MAX;
 // In place of a value that a load does not name, and of the number of bytes where it names no history.
 pub const KEPT: u64 = 8589934592;
 
-// A number and the place behind its digits.
+// A number and the place behind its digits. No Option: what was read of a number that can't be read whole is given too.
 #[derive(Clone, Copy)]
 struct Number {
     n: u64,
     end: usize,
 }
 
-// The value of a hexadecimal digit of either case; 16 of any other character.
+// The value of a hexadecimal digit of either case; 16 of any other character, which ends the digits of either base.
 pub fn digit_of(c: u8) -> u8
     ensures { (result ≡ digit_of c) × (result ≤ 16) }
 {
