@@ -5,8 +5,8 @@
   - a file that a document or a comment names, by its path or by the end of it, is there; of `file:name` the file has the name
   - another name between backquotes stands in the code, and that of a comment not in comments alone
 
-A name is looked up whole: one that is cut short is not there. docs/CHANGES.md, docs/PORT.md and docs/DESIGN-PASS.md tell of each step by the names of its time, so names alone are not looked up
-there; docs/DESIGN-PLACES.md tells of the files of one commit, so of it links alone are."""
+A name is looked up whole: one that is cut short is not there. docs/CHANGES.md tells of each step by the names of its time, so names alone are not looked up there; docs/PORT.md,
+docs/DESIGN-PASS.md and docs/DESIGN-PLACES.md tell of the files of other commits too, so of them links alone are."""
 import os
 import re
 import sys
@@ -23,7 +23,8 @@ MARKS = {'.rt': '//', '.antt': '--', '.rs': '//', '.sh': '#', '.py': '#'}
 FILE = r'(?<![\w/.·*$-])((?:[\w.-]+/)*[\w-]+\.(?:rt\.txt|antt|rt|edit|sh|py|md|txt|out)|(?:%s)/[\w./-]*\.rs)\b' % '|'.join(TOP)
 NAME = r"[\w·′-]+(::[\w·′-]+)*"
 # what the Rust has and we leave out, what is gone, and a file of the kit
-ELSEWHERE = {'from_od', 'TimeOfDay', 'TimeDifference', 'dll_mn_event', 'startup', 'Denote/Struct/Field.antt'}
+ELSEWHERE = {'from_od', 'TimeOfDay', 'TimeDifference', 'dll_mn_event', 'startup', 'scripts/lent_laws.py', 'Denote/Struct/Field.antt'}
+OTHER_COMMITS = ('docs/PORT.md', 'docs/DESIGN-PASS.md', 'docs/DESIGN-PLACES.md')
 TEXT = {}
 wrong = []
 
@@ -111,9 +112,9 @@ for file in FILES:
                 found += 1
                 if not re.match(r'[a-z]+:', target) and not os.path.exists(os.path.join(os.path.dirname(file), target)):
                     wrong.append(f'{file}:{number}: the link to {target} leads nowhere')
-            if file == 'docs/DESIGN-PLACES.md':
+            if file in OTHER_COMMITS:
                 continue
-            found += look(f'{file}:{number}', re.sub(r'\]\([^)]*\)', ']', line), file not in ('docs/CHANGES.md', 'docs/PORT.md', 'docs/DESIGN-PASS.md'), True)
+            found += look(f'{file}:{number}', re.sub(r'\]\([^)]*\)', ']', line), file != 'docs/CHANGES.md', True)
         else:
             found += look(f'{file}:{number}', comment(file, line), is_code(file), False)
 if wrong:
