@@ -62,8 +62,8 @@ fn print_entry(out: &mut Output, pattern: &[u8]) {
 fn fill(pattern: &mut [u8; 20], generator: &mut Generator)
     ensures { (generator.new.x ≡ last 20 generator.old.x) × (pattern.new ≡ filled 20 0 generator.old.x pattern.old) }
 {
-    for i in 0..20usize {
-        pattern[i] = generator.below(256) as u8;
+    for byte in pattern.iter_mut() {
+        *byte = generator.below(256) as u8;
     }
 }
 

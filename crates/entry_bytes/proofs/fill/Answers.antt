@@ -4,16 +4,16 @@ use mathlib.Core.Path.{refl}
 use Rattle.entry_bytes.proofs.Filling.{step, ends}
 use Rattle.entry_bytes.proofs.fill.Goals as goal
 
-pub loop-i-init : goal.loop-i-init
-loop-i-init c =
+pub loop-byte-init : goal.loop-byte-init
+loop-byte-init c =
     record { number = refl; bytes = refl }
 
-pub loop-i-preserved : goal.loop-i-preserved
-loop-i-preserved c =
-    let l = c.loop-i in
-    step _ _ _ _ l.i _ _ c.loop-i-test.true c.below.ensures.next c.below.ensures.number l.invariant
+pub loop-byte-preserved : goal.loop-byte-preserved
+loop-byte-preserved c =
+    let l = c.loop-byte in
+    step _ _ _ _ l.byte-index _ _ c.loop-byte-test.true c.below.ensures.next c.below.ensures.number l.invariant
 
 pub returns : goal.returns
 returns c =
-    let l = c.loop-i in
-    ends _ _ _ _ l.i c.loop-i-test.false l.invariant
+    let l = c.loop-byte in
+    ends _ _ _ _ l.byte-index c.loop-byte-test.false l.invariant

@@ -3,5 +3,5 @@
 use Rattle.entry_bytes.proofs.Filling.{Left}
 use Rattle.entry_bytes.proofs.fill.Given as goal
 
-abbrev pub invariant-loop-i : goal.invariant-loop-i
-invariant-loop-i l = Left l.initial.pattern l.initial.generator.x l.pattern l.generator.x l.i
+abbrev pub invariant-loop-byte : goal.invariant-loop-byte
+invariant-loop-byte l = Left l.initial.pattern l.initial.generator.x l.pattern l.generator.x l.byte-index
