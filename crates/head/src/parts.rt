@@ -86,19 +86,6 @@ const AWAITED: usize = 57;
 
 const EARLIEST: usize = 58;
 
-// Lent as a slice, the words say how many they are.
-fn counted(words: &[u32])
-    requires { length words.now ≡ 60 }
-    ensures { length words.now ≡ 60 }
-{}
-
-// What the proof of a caller that writes needs: a head has 60 words. No instruction is made of it.
-pub fn whole(head: &Head)
-    ensures { length head.now ≡ 60 }
-{
-    counted(head);
-}
-
 // The lowest byte of a word.
 fn byte_at(head: &Head, place: usize) -> u8
     requires { place < 60 }
@@ -547,11 +534,4 @@ pub fn set_capacity(head: &mut Head, capacity: u8)
     ensures { head.new ≡ slice_set head.old at.capacity capacity }
 {
     head[CAPACITY] = capacity as u32;
-}
-
-// A byte says that it is one.
-pub fn byte(n: u8) -> u8
-    ensures { (result ≡ n) × (result ≤ 255) }
-{
-    n
 }

@@ -7,8 +7,7 @@ ghost use Rattle.heartbeats.specs.PartWords.{signal_words, event_words};
 ghost use Rattle.heartbeats.specs.PartsIn.{Turns, FinishesIn};
 
 use head::parts::{
-    check_off, nmt_of, register_of, set_changed, set_nmt, set_register, set_statistic,
-    statistic_of, whole,
+    check_off, nmt_of, register_of, set_changed, set_nmt, set_register, set_statistic, statistic_of,
 };
 use head::state::{Head, Statistic};
 use types::frame::error::types::{DllErrors, NmtAction};
@@ -25,7 +24,6 @@ pub fn acts(action: NmtAction) -> bool
 pub fn signal(head: &mut Head)
     ensures { Turns head.old signalled head.new (signal_words head.old) }
 {
-    whole(head);
     let register = register_of(head);
     let counter = statistic_of(head, Statistic::Counter5);
     if register % 2 == 0 {
@@ -46,7 +44,6 @@ pub fn signal(head: &mut Head)
 fn event_in_tick(head: &mut Head, event: NmtEvent)
     ensures { Turns head.old (λ p. event_in_tick p event) head.new (event_words head.old event) }
 {
-    whole(head);
     let answer = nmt_of(head).process_event(event);
     let machine = answer.machine;
     set_nmt(head, machine);

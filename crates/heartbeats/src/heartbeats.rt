@@ -11,7 +11,6 @@ ghost use Rattle.heartbeats.specs.PartWords.{looked_time, looked_words, beat_wor
 ghost use Rattle.heartbeats.specs.PartsIn.{TicksIn};
 
 use crate::dealt::{Dealt, acts, finish, signal};
-use head::parts::whole;
 use head::state::Head;
 use node::calls::handled;
 use node::timing::time_since;
@@ -59,7 +58,6 @@ fn beat(head: &mut Head, node: u64) -> Dealt
     requires { node ≤ 255 }
     ensures { (w : WatchedNode) → w.node ≡ node → (q m : List ℕ) → TicksIn head.old q m (beat (plain (head_of head.old) q m) w) result head.new q m (beat_words head.old w) }
 {
-    whole(head);
     let node_id = NodeId(node as u8);
     let answer = handled(head, DllError::HeartbeatTimeout { node_id });
     let action = answer.action;

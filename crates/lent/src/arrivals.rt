@@ -8,7 +8,6 @@ ghost use Rattle.lent.specs.Arrivals.{for_partner, carry_next, carried_all, move
 use crate::calls::keep_moment;
 use crate::run::{Setting, Surveyed, ask, passes, survey};
 use counters::counters::ThresholdCounter;
-use head::parts::whole;
 use head::state::Head;
 use lentlaws::{scan, scan_back};
 use partners::{is_known, try_add, try_remove};
@@ -144,7 +143,6 @@ pub fn add_by(
 ) -> (Result<(), Refusal>, Option<Carrying>)
     ensures { Adds head.old number.old node timeout seen result head.new number.new }
 {
-    whole(head);
     let count = *number;
     let answer = try_add(
         is_known(node),
@@ -193,7 +191,6 @@ pub fn remove_by(
 ) -> (Result<(), Refusal>, Option<Closing>)
     ensures { Removes head.old number.old node seen result head.new number.new }
 {
-    whole(head);
     let count = *number;
     let answer = try_remove(passes(seen), seen.found.watched);
     keep_moment(head, answer, seen.found.soonest);

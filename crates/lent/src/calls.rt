@@ -9,7 +9,7 @@ ghost use Rattle.lent.specs.Judged.{done_by, Hears, Starts};
 
 use crate::run::{Setting, Settling, Surveyed, for_heard, for_start, passes, settle, survey};
 use counters::counters::Thresholds;
-use head::parts::{set_earliest, whole};
+use head::parts::set_earliest;
 use head::state::{Dictionary, Head};
 use node::heard::{moment, try_heard};
 use start::start::begin;
@@ -66,7 +66,6 @@ pub fn hear(
 ) -> (Result<(), Refusal>, Settling)
     ensures { Hears head.old number node time seen result head.new }
 {
-    whole(head);
     let answer = try_heard(passes(seen), time, seen.found.watched);
     keep_moment(head, answer, seen.found.soonest);
     set_if_taken(answer, number, Setting::Heard(node, time))

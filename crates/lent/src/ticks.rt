@@ -15,7 +15,7 @@ ghost use Rattle.lent.specs.Judged.{TicksBy, tick_done, tick_declined};
 
 use crate::run::{Beats, Setting, Settling, Surveyed, for_tick, look_if, passes, settle, survey};
 use counters::counters::CounterKind;
-use head::parts::{set_counter, set_earliest, state_at, whole};
+use head::parts::{set_counter, set_earliest, state_at};
 use head::state::Head;
 use heartbeats::dealt::{Dealt, finish, signal};
 use node::heard::moment;
@@ -72,7 +72,6 @@ fn beaten(head: &mut Head, beats: Beats) -> Dealt
     ensures { (t : ℕ) (vs : List WatchedNode) → beats ≡ beats_all head.old t vs → (q m : List ℕ) →
         TicksIn head.old q m (beat_all (plain (head_of head.old) q m) (late_ones t vs)) result head.new q m (beat_all_words head.old (late_ones t vs)) }
 {
-    whole(head);
     let counter = beats.counter;
     set_counter(head, CounterKind::HeartbeatTimeout, counter);
     if beats.crossed {
@@ -136,7 +135,6 @@ pub fn tick_by(
     }
     let beats = seen.found.beats;
     let dealt = phases(head, queue, history, checks, beats, time);
-    whole(head);
     set_earliest(head, moment(seen.found.soonest));
     taken(dealt, number, checks, time)
 }

@@ -7,7 +7,7 @@ ghost use Rattle.node.specs.Loaded.{byte_loaded, counter_loaded, object_loaded, 
 ghost use Rattle.head.specs.Head.{head_with_od};
 
 use entries::error_history::ErrorHistory;
-use head::parts::{byte, set_history, set_object, set_register, set_statistic};
+use head::parts::{set_history, set_object, set_register, set_statistic};
 use head::state::{Head, Object, Statistic};
 
 #[derive(Clone, Copy, PartialEq, Eq)]
@@ -26,7 +26,7 @@ fn load_register(head: &mut Head, update: Option<u8>)
     ensures { (head.new ≡ byte_loaded head.old at.register update) × ByteFits update }
 {
     if let Some(n) = update {
-        set_register(head, byte(n));
+        set_register(head, n);
     }
 }
 

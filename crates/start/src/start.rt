@@ -6,7 +6,7 @@ ghost use Rattle.head.specs.Words.{head_of};
 ghost use Rattle.watched.specs.Nodes.{nodes_of};
 
 use counters::counters::{CnErrorCounters, Thresholds};
-use head::parts::{byte, clear, set_capacity, set_identity, set_nmt, set_od, set_thresholds};
+use head::parts::{clear, set_capacity, set_identity, set_nmt, set_od, set_thresholds};
 use head::state::{Dictionary, Head};
 use nmt::cn_state_machine::CnNmtStateMachine;
 use types::nmt::flags::FeatureFlags;
@@ -31,9 +31,6 @@ impl Setup {
         ensures { (head_of head.new ≡ fresh_head self.node_id self.feature_flags self.basic_ethernet_timeout self.queue_capacity self.od self.thresholds)
             × (head.new ≡ fresh_words self.node_id self.feature_flags self.basic_ethernet_timeout self.queue_capacity self.od self.thresholds) }
     {
-        let number = byte(self.node_id.0);
-        let register = byte(self.od.error_register);
-        let capacity = byte(self.queue_capacity);
         let nmt = CnNmtStateMachine::new(
             self.node_id,
             self.feature_flags,

@@ -9,6 +9,6 @@ use Rattle.heartbeats.proofs.dealt.event_in_tick.Goals as goal
 
 pub returns : goal.returns
 returns c =
-    event_turns c.args.head.now c.whole.ensures _ c.args.event c.process_event-answer.result
+    event_turns c.args.head.now c.told-head _ c.args.event c.process_event-answer.result
     (c.process_event-answer.ensures ∙ ap (λ (m : CnNmtStateMachine). Nmt.processed m c.args.event) c.nmt_of.ensures)
     (c.check_off.ensures ∙ ap (λ (l : List ℕ). set l at.check 0) c.set_nmt.ensures)

@@ -8,7 +8,7 @@ use Rattle.heartbeats.proofs.dealt.signal.Goals as goal
 
 pub returns-then-register-eq0 : goal.returns-then-register-eq0
 returns-then-register-eq0 c =
-    signal_even c.args.head.now c.whole.ensures _
+    signal_even c.args.head.now c.told-head _
     (sym (ap (λ (n : ℕ). n % 2) c.register_of-register.ensures) ∙ c.if-register-eq0.true)
     (c.set_statistic.ensures
     ∙ (λ i. set (c.set_register.ensures i) at.counter5 (c.wrapping_add_u32.ensures.value i))
@@ -16,5 +16,5 @@ returns-then-register-eq0 c =
 
 pub returns : goal.returns
 returns c =
-    signal_odd c.args.head.now c.whole.ensures _
+    signal_odd c.args.head.now c.told-head _
     (λ e. c.if-register-eq0.false (ap (λ (n : ℕ). n % 2) c.register_of-register.ensures ∙ e)) c.set_changed-2.ensures

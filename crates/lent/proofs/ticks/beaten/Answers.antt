@@ -6,9 +6,9 @@ use Rattle.lent.proofs.ticks.beaten.Goals as goal
 pub returns-then-beats : goal.returns-then-beats
 returns-then-beats c =
     let a = c.args in
-    λ t vs e q m. beaten_crossed a.head.now c.whole.ensures a.beats t vs e q m _ c.set_counter.ensures c.if-beats.true _ c.signal.ensures c.finish.result _ c.finish.ensures
+    λ t vs e q m. beaten_crossed a.head.now c.told-head a.beats t vs e q m _ c.set_counter.ensures c.if-beats.true _ c.signal.ensures c.finish.result _ c.finish.ensures
 
 pub returns : goal.returns
 returns c =
     let a = c.args in
-    λ t vs e q m. beaten_quiet a.head.now c.whole.ensures a.beats t vs e q m _ c.set_counter.ensures c.if-beats.false
+    λ t vs e q m. beaten_quiet a.head.now c.told-head a.beats t vs e q m _ c.set_counter.ensures c.if-beats.false

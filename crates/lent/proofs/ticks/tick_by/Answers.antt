@@ -31,4 +31,4 @@ pub returns : goal.returns
 returns c =
     let a = c.args in
     tick_accepted a.head.now a.queue.now a.history.now a.number a.time a.seen c.taken.result (sym c.passes.ensures ∙ c.if-not-passes.false) (sym c.in_time.ensures ∙ c.if-not-in_time.false) c.checks_heartbeats-checks.result (c.checks_heartbeats-checks.ensures ∙ ap checks_heartbeats c.state_at.ensures)
-    (sym c.after_heard.ensures ∙ c.if-not-after_heard.false) c.phases-dealt.result _ _ _ c.phases-dealt.ensures c.whole.ensures c.moment.result c.moment.ensures _ c.set_earliest.ensures c.taken.ensures
+    (sym c.after_heard.ensures ∙ c.if-not-after_heard.false) c.phases-dealt.result _ _ _ c.phases-dealt.ensures c.phases-dealt.array_long c.moment.result c.moment.ensures _ c.set_earliest.ensures c.taken.ensures

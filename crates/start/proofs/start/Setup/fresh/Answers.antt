@@ -9,4 +9,4 @@ returns c =
     let s = c.args.self in
     fresh_is s.node_id s.feature_flags s.basic_ethernet_timeout s.queue_capacity s.od s.thresholds c.new-nmt.result c.new-errors.result _ _ _ _ _ _
     c.new-nmt.ensures c.new-errors.ensures c.clear.ensures c.set_nmt.ensures c.set_identity.ensures c.set_thresholds.ensures c.set_od.ensures c.set_capacity.ensures
-    (omega (arith, c.byte-number.ensures.0, c.byte-number.ensures.1)) (omega (arith, c.byte-capacity.ensures.0, c.byte-capacity.ensures.1)) (omega (arith, c.byte-register.ensures.0, c.byte-register.ensures.1))
+    (omega arith) (omega arith) (omega arith)
