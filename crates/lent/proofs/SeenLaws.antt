@@ -7,6 +7,7 @@ use mathlib.Core.List.{List, [], ◌∷◌, map}
 use native.Mathlib.Nat.{add-zero, zero-add}
 use native.Mathlib.Omega.{arith}
 use lib.Dec.{eqb, leb, ltb}
+use Rattle.std.specs.Prelude.{is_some}
 use lib.ListN.{length, get_or, take}
 use borrow.Author.Tests.{ltb-true, ltb-false, lt-ltb, le-ltb, leb-true, leb-false, ne_eqb, eq-eqb, eqb-true}
 use Rattle.types.specs.Pick.{pick, both, either}
@@ -26,7 +27,9 @@ use Rattle.lent.specs.declared.run.Surveyed.{Surveyed}
 use Rattle.lent.specs.declared.run.Settling.{Settling}
 use Rattle.lent.specs.declared.run.Setting.{Setting}
 use Rattle.lent.specs.declared.run.Setting.TheVariants.{Nothing, Heard}
-use Rattle.lent.specs.Runs.{up_to33, found_by, found_all, surveyed_by, surveyed, sought_from, asked, passes, settled, settling_of, set_next, settled_all}
+use Rattle.std.specs.declared.option.Option.{Option}
+use Rattle.std.specs.declared.option.Option.TheVariants.{Some, None}
+use Rattle.lent.specs.Runs.{up_to33, tried_by, found_by, found_all, surveyed_by, surveyed, sought_from, asked, passes, settled, settling_of, set_next, settled_all}
 
 both_true : (b : Bool) → both b true ≡ b
 both_true true = refl
@@ -52,12 +55,27 @@ both_snd : (a b : Bool) → both a b ≡ true → b ≡ true
 both_snd true b e = e
 both_snd false b e = absurd (true≢false (sym e))
 
-formed_all : (s : Findings) (ws : List WatchedNode) → (found_all s ws).tried.formed ≡ both s.tried.formed (rising s.tried.last ws)
+-- the nodes ahead rise from the last one
+abbrev rises_from : Option ℕ → List WatchedNode → Bool
+rises_from None ws = false
+rises_from (Some l) ws = rising l ws
+
+formed_all : (s : Findings) (ws : List WatchedNode) → is_some (found_all s ws).tried ≡ rises_from s.tried ws
 unfolding folded
-formed_all s [] = sym (both_true s.tried.formed)
-formed_all s (w ∷ ws) =
-    formed_all (found_by s w) ws
-    ∙ both_again s.tried.formed (both (ltb s.tried.last w.node) (fits w)) (rising w.node ws)
+formed_all s [] = by s.tried
+  where
+    by : (o : Option ℕ) → is_some o ≡ rises_from o []
+    by None = refl
+    by (Some l) = refl
+formed_all s (w ∷ ws) = formed_all (found_by s w) ws ∙ by s.tried
+  where
+    of : (l : ℕ) (b : Bool) → rises_from (pick b (Some w.node) None) ws ≡ both b (rising w.node ws)
+    of l true = refl
+    of l false = refl
+
+    by : (o : Option ℕ) → rises_from (tried_by o w) ws ≡ rises_from o (w ∷ ws)
+    by None = refl
+    by (Some l) = of l (both (ltb l w.node) (fits w))
 
 -- of the places as many are seen as there are, up to 33, and so many are left to try
 one_more_lem : (c n : ℕ) → eqb (up_to33 c + n) 32 ≡ eqb (c + suc n) 32
@@ -122,7 +140,7 @@ module _ (k n t : ℕ) (y : Setting) (c : ThresholdCounter) (vs : List WatchedNo
       ap passes e
       ∙ ap₂ both (places_all (asked k n t y c) vs ∙ ap (λ (n : ℕ). eqb n 32) (zero-add (length vs)))
       (ap₂ both (ap (λ (n : ℕ). eqb n 0) (left_all (asked k n t y c) vs))
-      (ap (λ (f : Findings). f.tried.formed) (found_all_lem k (asked k n t y c) vs refl) ∙ formed_all sought (take k vs)))
+      (ap (λ (f : Findings). is_some f.tried) (found_all_lem k (asked k n t y c) vs refl) ∙ formed_all sought (take k vs)))
 
   long : length (watched_of vs k) ≡ k
   long = listed_long (λ (i : ℕ). get_or vs i no_node) k

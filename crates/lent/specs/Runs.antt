@@ -1,6 +1,8 @@
 -- A walk over the places of a run: what it has found out after each, and what a walk sets.
 -- Assumes nothing.
-use Rattle.std.specs.Prelude.{ℕ, ◌+◌, ◌-◌, Bool, true, false, List, eqb, ltb}
+use Rattle.std.specs.Prelude.{ℕ, ◌+◌, ◌-◌, Bool, true, false, List, eqb, ltb, is_some}
+use Rattle.std.specs.declared.option.Option.{Option}
+use Rattle.std.specs.declared.option.Option.TheVariants.{Some, None}
 use Rattle.types.specs.Pick.{pick, both, either}
 use Rattle.counters.specs.Counters.{new_counter, after_error}
 use Rattle.counters.specs.declared.counters.CounterKind.TheVariants.{HeartbeatTimeout}
@@ -13,7 +15,6 @@ use Rattle.watched.specs.Nodes.{not_before, never, sooner_by}
 use Rattle.node.specs.Tick.{checks_heartbeats, is_late, looked}
 use Rattle.lentlaws.specs.Fold.{folded}
 use Rattle.lentlaws.specs.Scan.{scanned}
-use Rattle.lent.specs.declared.run.Tried.{Tried}
 use Rattle.lent.specs.declared.run.Beats.{Beats}
 use Rattle.lent.specs.declared.run.Findings.{Findings}
 use Rattle.lent.specs.declared.run.Surveyed.{Surveyed}
@@ -26,8 +27,9 @@ abbrev pub up_to33 : ℕ → ℕ
 up_to33 n = pick (ltb n 33) (n + 1) n
 
 -- number 3: above the one before, and within its limits
-abbrev pub tried_by : Tried → WatchedNode → Tried
-tried_by s w = record { last = w.node; formed = both s.formed (both (ltb s.last w.node) (fits w)) }
+abbrev pub tried_by : Option ℕ → WatchedNode → Option ℕ
+tried_by None w = None
+tried_by (Some l) w = pick (both (ltb l w.node) (fits w)) (Some w.node) None
 
 -- the error of a late node, given to the heartbeat counter; the first crossing ends the errors
 abbrev pub erred : Beats → WatchedNode → Beats
@@ -74,7 +76,7 @@ sought_from n t y c =
       node = n;
       time = t;
       setting = y;
-      tried = record { last = 0; formed = true };
+      tried = Some 0;
       watched = false;
       after = true;
       beats = record { counter = c; crossed = false; node = 0 };
@@ -102,7 +104,7 @@ for_tick ws k t = asked k 0 t (tick_sets ws t) (beats_at ws)
 
 -- number 3 does not stand: 32 places, the number within them, and its nodes well formed
 abbrev pub passes : Surveyed → Bool
-passes s = both (eqb s.places 32) (both (eqb s.left 0) s.found.tried.formed)
+passes s = both (eqb s.places 32) (both (eqb s.left 0) (is_some s.found.tried))
 
 -- the walk back: so many places are set
 abbrev pub settling_of : ℕ → Setting → Settling

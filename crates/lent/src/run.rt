@@ -15,15 +15,6 @@ use tick::tick::checks_heartbeats;
 use watched::nodes::{NEVER, WatchedNode};
 use watched::record::NodeRecord;
 
-// Number 3, node by node.
-#[derive(Clone, Copy)]
-pub struct Tried {
-    // The number of the last one.
-    pub last: u8,
-    // Ascending, and each within its limits.
-    pub formed: bool,
-}
-
 // The errors of the late nodes, ascending: the first that crosses ends them.
 #[derive(Clone, Copy)]
 pub struct Beats {
@@ -49,7 +40,8 @@ pub struct Findings {
     pub node: u8,
     pub time: u64,
     pub setting: Setting,
-    pub tried: Tried,
+    // Number 3, node by node: the last one's number while they ascend, each within its limits.
+    pub tried: Option<u8>,
     // The node is among them.
     pub watched: bool,
     // The time is before no node's last one (number 6).
@@ -93,10 +85,7 @@ pub fn ask(
             node,
             time,
             setting,
-            tried: Tried {
-                last: 0,
-                formed: true,
-            },
+            tried: Some(0),
             watched: false,
             after: true,
             beats: Beats {
@@ -158,7 +147,7 @@ pub fn passes(survey: Surveyed) -> bool
     if survey.left != 0 {
         return false;
     }
-    survey.found.tried.formed
+    survey.found.tried.is_some()
 }
 
 // One place more, up to 33.
@@ -169,23 +158,14 @@ fn one_more(places: u8) -> u8
 }
 
 // A node with a higher number than the last, and within its limits.
-fn rises(formed: bool, last: u8, w: WatchedNode) -> bool
-    ensures { result ≡ both formed (both (ltb last w.node) (fits w)) }
-{
-    if !formed {
-        return false;
-    }
-    NodeRecord::from(w).follows(last as u64)
-}
-
-fn try_node(tried: Tried, w: WatchedNode) -> Tried
+fn try_node(tried: Option<u8>, w: WatchedNode) -> Option<u8>
     ensures { result ≡ tried_by tried w }
 {
-    let formed = rises(tried.formed, tried.last, w);
-    Tried {
-        last: w.node,
-        formed,
+    let last = tried?;
+    if NodeRecord::from(w).follows(last as u64) {
+        return Some(w.node);
     }
+    None
 }
 
 // The error of a late node, where none has crossed.
