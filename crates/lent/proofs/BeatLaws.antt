@@ -5,6 +5,9 @@ use mathlib.Core.Path.{◌≡◌, refl, sym, ap, ◌∙◌}
 use mathlib.Core.Bool.{Bool, true, false}
 use mathlib.Core.List.{List, [], ◌∷◌}
 use lib.ListN.{length}
+use Rattle.std.specs.Prelude.{is_some}
+use Rattle.std.specs.declared.option.Option.{Option}
+use Rattle.std.specs.declared.option.Option.TheVariants.{Some, None}
 use Rattle.types.specs.Pick.{pick}
 use Rattle.types.specs.Types.{node}
 use Rattle.types.specs.Errors.{reported}
@@ -41,15 +44,19 @@ use Rattle.lent.specs.Runs.{erred, beaten_by, found_by, found_all, beats_at, bea
 abbrev with_counter : Plain → ThresholdCounter → Plain
 with_counter p c = with_errors p (replaced kind.HeartbeatTimeout c p.errors)
 
-abbrev crossed_by : Plain → Beats → Ticked
-crossed_by p b = finished true (HeartbeatTimeout (node b.node) ∷ []) [] [] [] (signalled (with_counter p b.counter))
+abbrev crossed_by : Plain → Beats → ℕ → Ticked
+crossed_by p b n = finished true (HeartbeatTimeout (node n) ∷ []) [] [] [] (signalled (with_counter p b.counter))
+
+abbrev came_by : Plain → Beats → Option ℕ → Ticked
+came_by p b None = goes_on (with_counter p b.counter)
+came_by p b (Some n) = crossed_by p b n
 
 abbrev came : Plain → Beats → Ticked
-came p b = pick b.crossed (crossed_by p b) (goes_on (with_counter p b.counter))
+came p b = came_by p b b.crossed
 
 -- before the first error
-abbrev fresh : Plain → ℕ → Beats
-fresh p n = record { counter = p.errors.heartbeat_timeout; crossed = false; node = n }
+abbrev fresh : Plain → Beats
+fresh p = record { counter = p.errors.heartbeat_timeout; crossed = None }
 
 -- the error of one late node, by whether it crosses
 module _ (p : Plain) (w : WatchedNode) where
@@ -73,41 +80,41 @@ module _ (p : Plain) (w : WatchedNode) where
 
 module _ (t : ℕ) where
   -- a crossing ends the errors
-  stays : (b : Beats) (ws : List WatchedNode) → b.crossed ≡ true → folded (beaten_by t) b ws ≡ b
+  stays : (b : Beats) (ws : List WatchedNode) → is_some b.crossed ≡ true → folded (beaten_by t) b ws ≡ b
   unfolding folded
   stays b [] e = refl
   stays b (w ∷ ws) e = ap (λ (d : Beats). folded (beaten_by t) d ws) (ap (λ (z : Bool). pick z b (pick (is_late t w) (erred b w) b)) e) ∙ stays b ws e
 
-  comes : (p : Plain) (n : ℕ) (ws : List WatchedNode) → Alike (beat_all p (late_ones t ws)) (came p (folded (beaten_by t) (fresh p n) ws))
+  comes : (p : Plain) (ws : List WatchedNode) → Alike (beat_all p (late_ones t ws)) (came p (folded (beaten_by t) (fresh p) ws))
   unfolding folded beat_all replaced
-  comes p n [] = record { head = refl; logged = refl; crossings = refl; ended = refl }
-  comes p n (w ∷ ws) = by (is_late t w) (comes p n ws) (hit (after_error (c p w)).reached refl (comes (next p w) w.node ws))
+  comes p [] = record { head = refl; logged = refl; crossings = refl; ended = refl }
+  comes p (w ∷ ws) = by (is_late t w) (comes p ws) (hit (after_error (c p w)).reached refl (comes (next p w) ws))
     where
-      late : List WatchedNode
-      late = late_ones t ws
+      error_of : Bool → Option ℕ
+      error_of r = pick r (Some w.node) None
 
       by :
           (z : Bool) →
-          Alike (beat_all p (late_ones t ws)) (came p (folded (beaten_by t) (fresh p n) ws)) →
-          Alike (beat_all p (w ∷ late_ones t ws)) (came p (folded (beaten_by t) (erred (fresh p n) w) ws)) →
-          Alike (beat_all p (pick z (w ∷ late_ones t ws) (late_ones t ws))) (came p (folded (beaten_by t) (pick z (erred (fresh p n) w) (fresh p n)) ws))
+          Alike (beat_all p (late_ones t ws)) (came p (folded (beaten_by t) (fresh p) ws)) →
+          Alike (beat_all p (w ∷ late_ones t ws)) (came p (folded (beaten_by t) (erred (fresh p) w) ws)) →
+          Alike (beat_all p (pick z (w ∷ late_ones t ws) (late_ones t ws))) (came p (folded (beaten_by t) (pick z (erred (fresh p) w) (fresh p)) ws))
       by true a b = b
       by false a b = a
 
       hit :
           (r : Bool) → (after_error (c p w)).reached ≡ r →
-          Alike (beat_all (next p w) (late_ones t ws)) (came (next p w) (folded (beaten_by t) (fresh (next p w) w.node) ws)) →
-          Alike (beat_all p (w ∷ late_ones t ws)) (came p (folded (beaten_by t) (erred (fresh p n) w) ws))
+          Alike (beat_all (next p w) (late_ones t ws)) (came (next p w) (folded (beaten_by t) (fresh (next p w)) ws)) →
+          Alike (beat_all p (w ∷ late_ones t ws)) (came p (folded (beaten_by t) (erred (fresh p) w) ws))
       hit true e more =
           let s = beat_is p w true e in
-          let d = erred (fresh p n) w in
+          let d = erred (fresh p) w in
           alike_then _ (beat p w) _ (same_alike _ _ (beats_end p w (late_ones t ws) (ap (λ (k : Ticked). k.ended) s)))
           (alike_then _ (finished true (timeout_of w ∷ []) (ms p w) [] [] (signalled (next p w))) _ (same_alike _ _ s)
-          (alike_then _ (crossed_by p d) _ (record { head = refl; logged = refl; crossings = refl; ended = refl })
-          (same_alike _ _ (sym (ap (came p) (stays d ws e) ∙ ap (λ (r : Bool). pick r (crossed_by p d) (goes_on (with_counter p d.counter))) e)))))
+          (alike_then _ (crossed_by p d w.node) _ (record { head = refl; logged = refl; crossings = refl; ended = refl })
+          (same_alike _ _ (sym (ap (came p) (stays d ws (ap (λ (r : Bool). is_some (error_of r)) e)) ∙ ap (λ (r : Bool). came_by p d (error_of r)) e)))))
       hit false e more =
           let s = beat_is p w false e in
-          let same : fresh (next p w) w.node ≡ erred (fresh p n) w = (λ i. record { counter = (after_error (c p w)).counter; crossed = sym e i; node = w.node }) in
+          let same : fresh (next p w) ≡ erred (fresh p) w = (λ i. record { counter = (after_error (c p w)).counter; crossed = error_of (sym e i) }) in
           alike_then _ _ _ (beats_on p w (ap (λ (k : Ticked). k.ended) s) (late_ones t ws))
           (alike_then _ _ _ (same_alike _ _ (ap (λ (q : Plain). beat_all q (late_ones t ws)) (ap (λ (k : Ticked). k.head) s)))
           (alike_then _ _ _ more (same_alike _ _ (ap (λ (b : Beats). came p (folded (beaten_by t) b ws)) same))))
@@ -123,10 +130,10 @@ abbrev counted_in : List ℕ → ThresholdCounter → List ℕ
 counted_in ws c = counter_written ws kind.HeartbeatTimeout c
 
 abbrev came_in : List ℕ → Beats → List ℕ
-came_in ws b = pick b.crossed (finished_words true (signal_words (counted_in ws b.counter))) (counted_in ws b.counter)
+came_in ws b = pick (is_some b.crossed) (finished_words true (signal_words (counted_in ws b.counter))) (counted_in ws b.counter)
 
-abbrev fresh_in : List ℕ → ℕ → Beats
-fresh_in ws n = record { counter = beats_at ws; crossed = false; node = n }
+abbrev fresh_in : List ℕ → Beats
+fresh_in ws = record { counter = beats_at ws; crossed = None }
 
 module _ (ws : List ℕ) (long : length ws ≡ 60) where
   same_counter_lem : ws ≡ counted_in ws (beats_at ws)
@@ -174,66 +181,73 @@ module _ (ws : List ℕ) (long : length ws ≡ 60) where
     next_read = read_counter (after_error (beats_at ws)).counter (check_keeps (beats_at ws))
 
     next_came : (b : Beats) → came_in next_in b ≡ came_in ws b
-    next_came b = ap (λ (l : List ℕ). pick b.crossed (finished_words true (signal_words l)) l) (last_counter (after_error (beats_at ws)).counter b.counter)
+    next_came b = ap (λ (l : List ℕ). pick (is_some b.crossed) (finished_words true (signal_words l)) l) (last_counter (after_error (beats_at ws)).counter b.counter)
 
 module _ (t : ℕ) where
   -- the threshold is no error's to change
   keeps_threshold : (b : Beats) (vs : List WatchedNode) → (folded (beaten_by t) b vs).counter.threshold ≡ b.counter.threshold
   unfolding folded
   keeps_threshold b [] = refl
-  keeps_threshold b (w ∷ vs) = keeps_threshold (beaten_by t b w) vs ∙ one b.crossed (is_late t w)
+  keeps_threshold b (w ∷ vs) = keeps_threshold (beaten_by t b w) vs ∙ one (is_some b.crossed) (is_late t w)
     where
       one : (c l : Bool) → (pick c b (pick l (erred b w) b)).counter.threshold ≡ b.counter.threshold
       one true l = refl
       one false true = check_keeps b.counter
       one false false = refl
 
-  comes_in : (ws : List ℕ) → length ws ≡ 60 → (n : ℕ) (vs : List WatchedNode) → beat_all_words ws (late_ones t vs) ≡ came_in ws (folded (beaten_by t) (fresh_in ws n) vs)
+  comes_in : (ws : List ℕ) → length ws ≡ 60 → (vs : List WatchedNode) → beat_all_words ws (late_ones t vs) ≡ came_in ws (folded (beaten_by t) (fresh_in ws) vs)
   unfolding folded beat_all_words
-  comes_in ws long n [] = same_counter_lem ws long
-  comes_in ws long n (w ∷ vs) = by (is_late t w) (comes_in ws long n vs) (hit (after_error (beats_at ws)).reached refl (comes_in (next_in ws long w) (still_long ws long (after_error (beats_at ws)).counter) w.node vs))
+  comes_in ws long [] = same_counter_lem ws long
+  comes_in ws long (w ∷ vs) = by (is_late t w) (comes_in ws long vs) (hit (after_error (beats_at ws)).reached refl (comes_in (next_in ws long w) (still_long ws long (after_error (beats_at ws)).counter) vs))
     where
       by :
           (z : Bool) →
-          beat_all_words ws (late_ones t vs) ≡ came_in ws (folded (beaten_by t) (fresh_in ws n) vs) →
-          beat_all_words ws (w ∷ late_ones t vs) ≡ came_in ws (folded (beaten_by t) (erred (fresh_in ws n) w) vs) →
-          beat_all_words ws (pick z (w ∷ late_ones t vs) (late_ones t vs)) ≡ came_in ws (folded (beaten_by t) (pick z (erred (fresh_in ws n) w) (fresh_in ws n)) vs)
+          beat_all_words ws (late_ones t vs) ≡ came_in ws (folded (beaten_by t) (fresh_in ws) vs) →
+          beat_all_words ws (w ∷ late_ones t vs) ≡ came_in ws (folded (beaten_by t) (erred (fresh_in ws) w) vs) →
+          beat_all_words ws (pick z (w ∷ late_ones t vs) (late_ones t vs)) ≡ came_in ws (folded (beaten_by t) (pick z (erred (fresh_in ws) w) (fresh_in ws)) vs)
       by true a b = b
       by false a b = a
+
+      error_of : Bool → Option ℕ
+      error_of r = pick r (Some w.node) None
+
+      crosses : (r : Bool) → (after_error (beats_at ws)).reached ≡ r → is_some (error_of (after_error (beats_at ws)).reached) ≡ r
+      crosses true e = ap (λ (r : Bool). is_some (error_of r)) e
+      crosses false e = ap (λ (r : Bool). is_some (error_of r)) e
 
       ahead : Bool → List ℕ
       ahead r = pick r (beat_words ws w) (beat_all_words (beat_words ws w) (late_ones t vs))
 
       hit :
           (r : Bool) → (after_error (beats_at ws)).reached ≡ r →
-          beat_all_words (next_in ws long w) (late_ones t vs) ≡ came_in (next_in ws long w) (folded (beaten_by t) (fresh_in (next_in ws long w) w.node) vs) →
-          beat_all_words ws (w ∷ late_ones t vs) ≡ came_in ws (folded (beaten_by t) (erred (fresh_in ws n) w) vs)
+          beat_all_words (next_in ws long w) (late_ones t vs) ≡ came_in (next_in ws long w) (folded (beaten_by t) (fresh_in (next_in ws long w)) vs) →
+          beat_all_words ws (w ∷ late_ones t vs) ≡ came_in ws (folded (beaten_by t) (erred (fresh_in ws) w) vs)
       hit true e more =
-          let d : Beats = erred (fresh_in ws n) w in
+          let d : Beats = erred (fresh_in ws) w in
           ap ahead (ends_in ws long w true e) ∙ beat_in ws long w true e
-          ∙ sym (ap (came_in ws) (stays t d vs e) ∙ ap (λ (r : Bool). pick r (finished_words true (signal_words (next_in ws long w))) (next_in ws long w)) e)
+          ∙ sym (ap (came_in ws) (stays t d vs (crosses true e)) ∙ ap (λ (r : Bool). pick r (finished_words true (signal_words (next_in ws long w))) (next_in ws long w)) (crosses true e))
       hit false e more =
-          let same : fresh_in (next_in ws long w) w.node ≡ erred (fresh_in ws n) w = (λ i. record { counter = next_read ws long w i; crossed = sym e i; node = w.node }) in
+          let same : fresh_in (next_in ws long w) ≡ erred (fresh_in ws) w = (λ i. record { counter = next_read ws long w i; crossed = error_of (sym e i) }) in
           ap ahead (ends_in ws long w false e) ∙ ap (λ (l : List ℕ). beat_all_words l (late_ones t vs)) (beat_in ws long w false e)
-          ∙ more ∙ next_came ws long w (folded (beaten_by t) (fresh_in (next_in ws long w) w.node) vs) ∙ ap (λ (b : Beats). came_in ws (folded (beaten_by t) b vs)) same
+          ∙ more ∙ next_came ws long w (folded (beaten_by t) (fresh_in (next_in ws long w)) vs) ∙ ap (λ (b : Beats). came_in ws (folded (beaten_by t) b vs)) same
 
 module _ (ws : List ℕ) (long : length ws ≡ 60) (b : Beats) where
   module _ (t : ℕ) (vs : List WatchedNode) (e : b ≡ beats_all ws t vs) where
-    carried : b ≡ folded (beaten_by t) (fresh_in ws 0) vs
+    carried : b ≡ folded (beaten_by t) (fresh_in ws) vs
     carried = e ∙ beats_carried _ vs
 
     counts : head_of (counted_in ws b.counter) ≡ head_with_errors (head_of ws) (replaced kind.HeartbeatTimeout b.counter (errors_of ws))
-    counts = counter_written_lem ws long kind.HeartbeatTimeout b.counter (ap (λ (b : Beats). b.counter.threshold) carried ∙ keeps_threshold t (fresh_in ws 0) vs)
+    counts = counter_written_lem ws long kind.HeartbeatTimeout b.counter (ap (λ (b : Beats). b.counter.threshold) carried ∙ keeps_threshold t (fresh_in ws) vs)
 
     beats_come : (q m : List ℕ) → Alike (beat_all (plain (head_of ws) q m) (late_ones t vs)) (came (plain (head_of ws) q m) b)
     unfolding head_of
-    beats_come q m = alike_then _ _ _ (comes t (plain (head_of ws) q m) 0 vs) (same_alike _ _ (ap (came (plain (head_of ws) q m)) (sym carried)))
+    beats_come q m = alike_then _ _ _ (comes t (plain (head_of ws) q m) vs) (same_alike _ _ (ap (came (plain (head_of ws) q m)) (sym carried)))
 
     words_come : beat_all_words ws (late_ones t vs) ≡ came_in ws b
-    words_come = comes_in t ws long 0 vs ∙ ap (came_in ws) (sym carried)
+    words_come = comes_in t ws long vs ∙ ap (came_in ws) (sym carried)
 
-    by_crossed : {A : Type 0} (x y : A) (r : Bool) → b.crossed ≡ r → pick b.crossed x y ≡ pick r x y
-    by_crossed x y r z = ap (λ (r : Bool). pick r x y) z
+    by_crossed : (o : Option ℕ) → b.crossed ≡ o → came_in ws b ≡ pick (is_some o) (finished_words true (signal_words (counted_in ws b.counter))) (counted_in ws b.counter)
+    by_crossed o z = ap (λ (o : Option ℕ). pick (is_some o) (finished_words true (signal_words (counted_in ws b.counter))) (counted_in ws b.counter)) z
 
     module _ (q m : List ℕ) where
       abbrev p : Plain
@@ -243,36 +257,36 @@ module _ (ws : List ℕ) (long : length ws ≡ 60) (b : Beats) where
       unfolding head_of
       plain_counts = ap (λ (h : Head). plain h q m) counts
 
-      come : (r : Bool) → b.crossed ≡ r → Alike (beat_all p (late_ones t vs)) (pick r (crossed_by p b) (goes_on (with_counter p b.counter)))
-      come r z = alike_then _ _ _ (beats_come q m) (same_alike _ _ (by_crossed (crossed_by p b) (goes_on (with_counter p b.counter)) r z))
+      come : (o : Option ℕ) → b.crossed ≡ o → Alike (beat_all p (late_ones t vs)) (came_by p b o)
+      come o z = alike_then _ _ _ (beats_come q m) (same_alike _ _ (ap (came_by p b) z))
 
       module _ (ws₁ : List ℕ) (e₁ : ws₁ ≡ counted_in ws b.counter) where
         pub beaten_quiet :
-            b.crossed ≡ false → TicksIn ws q m (beat_all p (late_ones t vs)) (record { logged = errors.None; ended = false }) ws₁ q m (beat_all_words ws (late_ones t vs))
+            b.crossed ≡ None → TicksIn ws q m (beat_all p (late_ones t vs)) (record { logged = errors.None; ended = false }) ws₁ q m (beat_all_words ws (late_ones t vs))
         unfolding head_of
         beaten_quiet z =
             record {
               ticks =
-                  alike_ticks (head_of ws) q m _ (goes_on (with_counter p b.counter)) _ (come false z)
+                  alike_ticks (head_of ws) q m _ (goes_on (with_counter p b.counter)) _ (come None z)
                   (record {
                     head = ap (λ (l : List ℕ). plain (head_of l) q m) e₁ ∙ plain_counts;
                     logged = refl;
                     ended = refl;
                     joined = ap (λ (l : List ℕ). rings (head_of l) q m) e₁ ∙ ap (λ (h : Head). rings h q m) counts;
                   });
-              words = e₁ ∙ sym (words_come ∙ by_crossed (finished_words true (signal_words (counted_in ws b.counter))) (counted_in ws b.counter) false z);
+              words = e₁ ∙ sym (words_come ∙ by_crossed None z);
             }
 
         pub beaten_crossed :
-            b.crossed ≡ true → (ws₂ : List ℕ) → Turns ws₁ signalled ws₂ (signal_words ws₁) →
-            (f : Dealt) (ws' : List ℕ) → FinishesIn ws₂ (errors.One (HeartbeatTimeout (node b.node))) true f ws' →
+            (n : ℕ) → b.crossed ≡ Some n → (ws₂ : List ℕ) → Turns ws₁ signalled ws₂ (signal_words ws₁) →
+            (f : Dealt) (ws' : List ℕ) → FinishesIn ws₂ (errors.One (HeartbeatTimeout (node n))) true f ws' →
             TicksIn ws q m (beat_all p (late_ones t vs)) f ws' q m (beat_all_words ws (late_ones t vs))
         unfolding head_of
-        beaten_crossed z ws₂ s f ws' k =
+        beaten_crossed n z ws₂ s f ws' k =
             let g = k.finishes in
             record {
               ticks =
-                  alike_ticks (head_of ws) q m _ (crossed_by p b) (dealt_of ws' f) (come true z)
+                  alike_ticks (head_of ws) q m _ (crossed_by p b n) (dealt_of ws' f) (come (Some n) z)
                   (record {
                     head =
                         g.head q m
@@ -287,5 +301,5 @@ module _ (ws : List ℕ) (long : length ws ≡ 60) (b : Beats) where
                   });
               words =
                   k.words ∙ ap (finished_words true) (s.words ∙ ap signal_words e₁)
-                  ∙ sym (words_come ∙ by_crossed (finished_words true (signal_words (counted_in ws b.counter))) (counted_in ws b.counter) true z);
+                  ∙ sym (words_come ∙ by_crossed (Some n) z);
             }

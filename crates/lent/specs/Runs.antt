@@ -33,10 +33,10 @@ tried_by (Some l) w = pick (both (ltb l w.node) (fits w)) (Some w.node) None
 
 -- the error of a late node, given to the heartbeat counter; the first crossing ends the errors
 abbrev pub erred : Beats → WatchedNode → Beats
-erred s w = record { counter = (after_error s.counter).counter; crossed = (after_error s.counter).reached; node = w.node }
+erred s w = record { counter = (after_error s.counter).counter; crossed = pick (after_error s.counter).reached (Some w.node) None }
 
 abbrev pub beaten_by : ℕ → Beats → WatchedNode → Beats
-beaten_by t s w = pick s.crossed s (pick (is_late t w) (erred s w) s)
+beaten_by t s w = pick (is_some s.crossed) s (pick (is_late t w) (erred s w) s)
 
 -- a node after a setting
 abbrev pub settled : Setting → WatchedNode → WatchedNode
@@ -79,7 +79,7 @@ sought_from n t y c =
       tried = Some 0;
       watched = false;
       after = true;
-      beats = record { counter = c; crossed = false; node = 0 };
+      beats = record { counter = c; crossed = None };
       soonest = never;
     }
 

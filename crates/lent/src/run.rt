@@ -19,9 +19,8 @@ use watched::record::NodeRecord;
 #[derive(Clone, Copy)]
 pub struct Beats {
     pub counter: ThresholdCounter,
-    pub crossed: bool,
-    // The node of the last error.
-    pub node: u8,
+    // The node of the crossing.
+    pub crossed: Option<u8>,
 }
 
 // What a call sets: nothing, all last-heard times to 0, that of one node, or those that a tick sets.
@@ -90,8 +89,7 @@ pub fn ask(
             after: true,
             beats: Beats {
                 counter,
-                crossed: false,
-                node: 0,
+                crossed: None,
             },
             soonest: NEVER,
         },
@@ -172,7 +170,7 @@ fn try_node(tried: Option<u8>, w: WatchedNode) -> Option<u8>
 fn beat(beats: Beats, w: WatchedNode, time: u64) -> Beats
     ensures { result ≡ beaten_by time beats w }
 {
-    if beats.crossed {
+    if beats.crossed.is_some() {
         return beats;
     }
     if !is_late(NodeRecord::from(w), time) {
@@ -183,8 +181,7 @@ fn beat(beats: Beats, w: WatchedNode, time: u64) -> Beats
     let counter = check.counter;
     Beats {
         counter,
-        crossed: check.reached,
-        node: w.node,
+        crossed: if check.reached { Some(w.node) } else { None },
     }
 }
 

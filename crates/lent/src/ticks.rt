@@ -74,8 +74,8 @@ fn beaten(head: &mut Head, beats: Beats) -> Dealt
 {
     let counter = beats.counter;
     set_counter(head, CounterKind::HeartbeatTimeout, counter);
-    if beats.crossed {
-        let node_id = NodeId(beats.node);
+    if let Some(node) = beats.crossed {
+        let node_id = NodeId(node);
         signal(head);
         return finish(
             head,
