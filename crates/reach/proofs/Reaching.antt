@@ -20,6 +20,7 @@ use Rattle.types.specs.declared.refusals.Refusal.{Refusal}
 use Rattle.types.proofs.Cases.{everywhere, NmtEvents}
 use Rattle.types.proofs.RoundTrips.{events_faithful}
 use Rattle.types.proofs.Tests.{both_first, both_second, either_cases}
+use Rattle.counters.specs.Counters.{all_of as all}
 use Rattle.nmt.specs.Resets.{is_reset}
 use Rattle.nmt.specs.Nmt.{Outcome, processed}
 use Rattle.nmt.specs.Table.{ruled}
@@ -37,11 +38,7 @@ use Rattle.reach.specs.Positions.{Position, position_at, position, Steps, none, 
 event_small : (e : NmtEvent) → event_number e - 18 ≡ 0
 event_small = everywhere NmtEvents (λ e. event_number e - 18) (λ e. 0) refl refl
 
--- a test at every one of a list, and at one of them
-abbrev all : {A : Type 0} → (A → Bool) → List A → Bool
-all f [] = true
-all f (x ∷ xs) = both (f x) (all f xs)
-
+-- a test at one of a list; std's `list_any` tells the place of one, and asked here is that it is among them
 abbrev any : {A : Type 0} → (A → Bool) → List A → Bool
 any f [] = false
 any f (x ∷ xs) = either (f x) (any f xs)

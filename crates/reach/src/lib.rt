@@ -37,7 +37,7 @@ pub fn lines() -> [Line; 14]
     LINES
 }
 
-// No plainer as a sum: the proof has an arm for each anyway.
+// As a sum with `u8::from` no plainer.
 fn flag(on: bool) -> u8
     ensures { result ≡ glyph (one on) }
 {
