@@ -95,7 +95,7 @@ fn main(rt: HostRuntime) -> io::Result<()> {
     let mut counters = CnErrorCounters::new(Thresholds::same_for_all(15));
     let mut generator = Generator::new();
     for _ in 0..2000 {
-        counters = print_call(&mut out, counters, generator.below(32));
+        counters = print_call(&mut out, counters, generator.next() % 32);
     }
     out.end()
 }

@@ -5,10 +5,10 @@ use mathlib.Core.Path.{◌≡◌, refl, sym, ap, subst, ◌∙◌}
 use mathlib.Core.Bool.{Bool, true, false}
 use mathlib.Core.List.{List}
 use native.Mathlib.Omega.{arith}
-use lib.Dec.{ltb}
+use lib.Dec.{eqb, ltb}
 use lib.ListN.{length, take, drop, length-drop, drop_of_length-le}
 use lib.Seq.{take_all, drop-length}
-use borrow.Author.Tests.{ltb-true, ltb-false}
+use borrow.Author.Tests.{ne_eqb, ltb-true, ltb-false}
 use Rattle.types.specs.Pick.{pick}
 use Rattle.std.specs.declared.result.Result.{Result}
 use Rattle.std.specs.declared.result.Result.TheVariants.{Ok, Err}
@@ -17,12 +17,13 @@ use Rattle.types.specs.declared.refusals.Refusal.{Refusal}
 use Rattle.types.specs.Refusals.{refusal_number}
 use Rattle.std.specs.Result.{result_err}
 use Rattle.watched.specs.Watched.{Run}
-use Rattle.node.specs.Plain.{Call, Answer}
+use Rattle.node.specs.Plain.{Call, arm, Answer}
 use Rattle.node.specs.Run.{Said}
 use Rattle.drive.specs.declared.Row.{Row}
 use Rattle.drive.specs.declared.Tag.{Tag}
+use Rattle.drive.specs.declared.Tag.TheVariants.{Lend, Arm}
 use Rattle.trace.specs.Driven.{Made}
-use Rattle.drive.specs.Script.{part_of, call_tagged, call_of, number_of, number_in, Turned}
+use Rattle.drive.specs.Script.{tag_of, part_of, call_tagged, call_of, number_of, number_in, Turned}
 
 module _ {ws q m ns ws' q' m' ns' : List ℕ} {k k' n : ℕ} {c : Call} where
   pub turned : {s : Said} → Made ws q m ns k c s ws' q' m' ns' k' → n ≡ number_of s.answer → Turned ws q m ns k c n ws' q' m' ns' k'
@@ -79,3 +80,15 @@ part_cut r l from size to e f g =
     let s : to - from ≡ size = omega arith in
     let w : size ≡ pick (ltb r.j (length (drop from l))) r.j (length (drop from l)) = f ∙ ap (λ (x : ℕ). pick (ltb r.j x) r.j x) (sym (length-drop from l)) in
     ap (λ (x : ℕ). take x (drop from l)) (s ∙ w) ∙ cut_take (drop from l) r.j ∙ ap (take r.j) d
+
+-- a row with the first number of no other call is the call `arm`
+pub call_else :
+    (r : Row) (l : Run) (bytes : List ℕ) (n : ℕ) → (n ≡ 0 → ⊥) → (n ≡ 1 → ⊥) → (n ≡ 2 → ⊥) → (n ≡ 3 → ⊥) → (n ≡ 4 → ⊥) → (n ≡ 5 → ⊥) →
+    (n ≡ 6 → ⊥) → (n ≡ 7 → ⊥) → (n ≡ 9 → ⊥) → (n ≡ 11 → ⊥) → (n ≡ 12 → ⊥) → (n ≡ 13 → ⊥) → (n ≡ 14 → ⊥) →
+    call_tagged (tag_of n) r l bytes ≡ arm r.a
+call_else r l bytes n a b c d e f g h i j k m o =
+    rw (ne_eqb n 0 a, ne_eqb n 1 b, ne_eqb n 2 c, ne_eqb n 3 d, ne_eqb n 4 e, ne_eqb n 5 f, ne_eqb n 6 g, ne_eqb n 7 h, ne_eqb n 9 i, ne_eqb n 11 j, ne_eqb n 12 k, ne_eqb n 13 m, ne_eqb n 14 o) (by (eqb n 10))
+  where
+    by : (b : Bool) → call_tagged (pick b Lend Arm) r l bytes ≡ arm r.a
+    by true = refl
+    by false = refl

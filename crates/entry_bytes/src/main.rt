@@ -63,7 +63,7 @@ fn fill(pattern: &mut [u8; 20], generator: &mut Generator)
     ensures { (generator.new.x ≡ last 20 generator.old.x) × (pattern.new ≡ filled 20 0 generator.old.x pattern.old) }
 {
     for byte in pattern.iter_mut() {
-        *byte = generator.below(256) as u8;
+        *byte = (generator.next() % 256) as u8;
     }
 }
 

@@ -1,5 +1,5 @@
 // The numbers that choose the calls and bytes of a long comparison, as in compare/driver/generator.rs: the same in every run.
-ghost use Rattle.std.specs.Prelude.{◌≡◌, ◌<◌, ◌/◌, ◌%◌};
+ghost use Rattle.std.specs.Prelude.{◌≡◌, ◌<◌, ◌/◌};
 ghost use Rattle.forms.specs.Generator.{drawn};
 
 #[derive(Clone, Copy)]
@@ -15,13 +15,12 @@ impl Generator {
         Self { x: 1 }
     }
 
-    // The next number, below a limit. It is made of the upper bits of x, since the lower ones repeat soon.
-    pub fn below(&mut self, limit: u64) -> u64
-        requires { 0 < limit }
-        ensures number { result ≡ drawn self.old.x / 65536 % limit }
+    // The next number, below 2^15. It is made of the upper bits of x, since the lower ones repeat soon.
+    pub fn next(&mut self) -> u64
+        ensures number { result ≡ drawn self.old.x / 65536 }
         ensures next { self.new.x ≡ drawn self.old.x }
     {
         self.x = (self.x * 1103515245 + 12345) % 2147483648;
-        self.x / 65536 % limit
+        self.x / 65536
     }
 }

@@ -1,6 +1,7 @@
 -- `entry_bytes::fill` meets its contract. The loop's invariant: what is left to fill gives the same as the whole.
 -- Assumes nothing.
-use mathlib.Core.Path.{refl}
+use Prim.Native.Nat.{ℕ, ◌%◌}
+use mathlib.Core.Path.{refl, ap}
 use Rattle.entry_bytes.proofs.Filling.{step, ends}
 use Rattle.entry_bytes.proofs.fill.Goals as goal
 
@@ -11,7 +12,7 @@ loop-byte-init c =
 pub loop-byte-preserved : goal.loop-byte-preserved
 loop-byte-preserved c =
     let l = c.loop-byte in
-    step _ _ _ _ l.byte-index _ _ c.loop-byte-test.true c.below.ensures.next c.below.ensures.number l.invariant
+    step _ _ _ _ l.byte-index _ _ c.loop-byte-test.true c.next.ensures.next (ap (λ (x : ℕ). x % 256) c.next.ensures.number) l.invariant
 
 pub returns : goal.returns
 returns c =
