@@ -80,12 +80,12 @@ pub fn beat_all(head: &mut Head, nodes: &NodeWords, count: usize, time: u64) -> 
         logged: DllErrors::None,
         ended: false,
     };
-    for place in 0..count {
+    'walk: for place in 0..count {
         let node = NodeRecord::at(nodes, place);
         if is_late(node, time) {
             dealt = beat(head, node.node);
             if dealt.ended {
-                return dealt;
+                break 'walk;
             }
         }
     }

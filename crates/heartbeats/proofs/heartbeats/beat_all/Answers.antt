@@ -9,37 +9,37 @@ use Rattle.heartbeats.proofs.Beatings.{walk_begins, walk_over, walk_passes, walk
 use Rattle.heartbeats.proofs.heartbeats.beat_all.Goals.{then-is_late+else-dealt, else-is_late}
 use Rattle.heartbeats.proofs.heartbeats.beat_all.Goals as goal
 
-pub loop-place-init : goal.loop-place-init
-loop-place-init c =
+pub walk-init : goal.walk-init
+walk-init c =
     let a = c.args in
     walk_begins a.nodes.now a.count (few a.nodes.now a.count c.requires) a.time a.head.now
 
 pub at-node-requires : goal.at-node-requires
 at-node-requires c =
-    omega (arith, c.loop-place-test.true, few c.args.nodes.now c.args.count c.requires)
+    omega (arith, c.walk-test.true, few c.args.nodes.now c.args.count c.requires)
 
 pub beat-dealt-requires : goal.beat-dealt-requires
 beat-dealt-requires c =
     let a = c.args in
-    omega (arith, ap (λ (w : WatchedNode). w.node) c.at-node.ensures, number_small a.nodes.now a.count (few a.nodes.now a.count c.requires) c.requires c.loop-place.place c.loop-place-test.true)
+    omega (arith, ap (λ (w : WatchedNode). w.node) c.at-node.ensures, number_small a.nodes.now a.count (few a.nodes.now a.count c.requires) c.requires c.walk.place c.walk-test.true)
 
-pub loop-place-preserved : goal.loop-place-preserved
-loop-place-preserved c =
+pub walk-preserved : goal.walk-preserved
+walk-preserved c =
     let a = c.args in
-    let l = c.loop-place in
+    let l = c.walk in
     elim c.if-is_late.branch [
-      | then-is_late+else-dealt w ↦ rw (w.head-is, w.dealt-is) (walk_goes_on a.nodes.now a.count (few a.nodes.now a.count c.requires) a.time a.head.now l.head l.dealt l.place l.invariant c.loop-place-test.true (node_of c.at-node.result) c.at-node.ensures c.is_late.result c.is_late.ensures w.if-is_late.true w.beat-dealt.result _ w.beat-dealt.ensures w.if-dealt.false)
-      | else-is_late w ↦ rw (w.head-is, w.dealt-is) (walk_passes a.nodes.now a.count (few a.nodes.now a.count c.requires) a.time a.head.now l.head l.dealt l.place l.invariant c.loop-place-test.true (node_of c.at-node.result) c.at-node.ensures c.is_late.result c.is_late.ensures w.if-is_late.false)
+      | then-is_late+else-dealt w ↦ rw (w.head-is, w.dealt-is) (walk_goes_on a.nodes.now a.count (few a.nodes.now a.count c.requires) a.time a.head.now l.head l.dealt l.place l.invariant c.walk-test.true (node_of c.at-node.result) c.at-node.ensures c.is_late.result c.is_late.ensures w.if-is_late.true w.beat-dealt.result _ w.beat-dealt.ensures w.if-dealt.false)
+      | else-is_late w ↦ rw (w.head-is, w.dealt-is) (walk_passes a.nodes.now a.count (few a.nodes.now a.count c.requires) a.time a.head.now l.head l.dealt l.place l.invariant c.walk-test.true (node_of c.at-node.result) c.at-node.ensures c.is_late.result c.is_late.ensures w.if-is_late.false)
     ]
 
-pub returns : goal.returns
-returns c =
+pub returns-after-walk : goal.returns-after-walk
+returns-after-walk c =
     let a = c.args in
-    let l = c.loop-place in
-    walk_over a.nodes.now a.count (few a.nodes.now a.count c.requires) a.time a.head.now l.head l.dealt l.place l.invariant c.loop-place-test.false
+    let l = c.walk in
+    walk_over a.nodes.now a.count (few a.nodes.now a.count c.requires) a.time a.head.now l.head l.dealt l.place l.invariant c.walk-test.false
 
 pub returns-then-dealt : goal.returns-then-dealt
 returns-then-dealt c =
     let a = c.args in
-    let l = c.loop-place in
-    walk_stops a.nodes.now a.count (few a.nodes.now a.count c.requires) a.time a.head.now l.head l.dealt l.place l.invariant c.loop-place-test.true (node_of c.at-node.result) c.at-node.ensures c.is_late.result c.is_late.ensures c.if-is_late.true c.beat-dealt.result _ c.beat-dealt.ensures c.if-dealt.true
+    let l = c.walk in
+    walk_stops a.nodes.now a.count (few a.nodes.now a.count c.requires) a.time a.head.now l.head l.dealt l.place l.invariant c.walk-test.true (node_of c.at-node.result) c.at-node.ensures c.is_late.result c.is_late.ensures c.if-is_late.true c.beat-dealt.result _ c.beat-dealt.ensures c.if-dealt.true

@@ -6,6 +6,6 @@ use Rattle.watched.specs.Nodes.{nodes_of}
 use Rattle.heartbeats.proofs.Beatings.{BeatingIn}
 use Rattle.heartbeats.proofs.heartbeats.beat_all.Given as goal
 
-abbrev pub invariant-loop-place : goal.invariant-loop-place
-invariant-loop-place l =
+abbrev pub invariant-walk : goal.invariant-walk
+invariant-walk l =
     BeatingIn l.time (watched_of (nodes_of l.nodes) l.count) l.initial.head l.head l.dealt (drop l.place (take l.count (nodes_of l.nodes)))
