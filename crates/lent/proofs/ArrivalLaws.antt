@@ -204,7 +204,7 @@ module _ (ws : List ℕ) (long : length ws ≡ 60) (k n : ℕ) (s : Surveyed) (f
   written : c ≡ (Ok tt) → ws' ≡ earliest_written ws (moment_of s.found.soonest)
   written g = w ∙ ap (λ (c : Result (Unit {0}) Refusal). unless_refused c ws (earliest_written ws (moment_of s.found.soonest))) g
 
-  module _ (vs : List WatchedNode) (z : s ≡ surveyed (for_partner k n) vs) where
+  module _ (vs : List WatchedNode) (z : s ≡ surveyed k (for_partner n) vs) where
     abbrev r : Run
     r = run vs k
 

@@ -54,7 +54,7 @@ left_as {k} l l' e = ap (λ (l : List WatchedNode). run l k) e
 
 -- heard, by what its tests say
 module _ (ws : List ℕ) (long : length ws ≡ 60) (k n t : ℕ) (s : Surveyed) (f : Bool) (p : f ≡ passes s) (a : Result (Unit {0}) Refusal) (e : a ≡ heard_answer f t s.found.watched) (ws' : List ℕ) (w : ws' ≡ unless_refused a ws (earliest_written ws (moment_of s.found.soonest))) where
-  module _ (vs : List WatchedNode) (z : s ≡ surveyed (for_heard k n t) vs) where
+  module _ (vs : List WatchedNode) (z : s ≡ surveyed k (for_heard n t) vs) where
     abbrev r : Run
     r = run vs k
 
@@ -147,7 +147,7 @@ module _ (ws q m : List ℕ) (k t : ℕ) (s : Surveyed) (r : Result DllErrors Re
       TickedOn ws q m (run vs k) t r.0 ws q m (run (settled_all r.1 vs) k)
   tick_declined x d vs z = rw d (subst (λ (l : List WatchedNode). TickedOn ws q m (run vs k) t (Err x) ws q m (run l k)) (sym (set_none vs)) z)
 
-  lent_as : (b : Bool) → passes s ≡ b → (vs : List WatchedNode) → s ≡ surveyed (for_tick ws k t) vs → well_lent (run vs k) ≡ b
+  lent_as : (b : Bool) → passes s ≡ b → (vs : List WatchedNode) → s ≡ surveyed k (for_tick ws t) vs → well_lent (run vs k) ≡ b
   lent_as b f vs e = sym (seen_lent k 0 t Y (beats_at ws) vs s e) ∙ f
 
   pub tick_unformed : passes s ≡ false → r ≡ no_tick WatchedNodes → TicksBy ws q m k t s r ws q m
@@ -159,7 +159,7 @@ module _ (ws q m : List ℕ) (k t : ℕ) (s : Surveyed) (r : Result DllErrors Re
 
     module _ (b : in_time t ≡ true) (checks : Bool) (c : checks ≡ C) where
       after_is :
-          (vs : List WatchedNode) → s ≡ surveyed (for_tick ws k t) vs → pick C (all_of (not_before t) (watched_of vs k)) true ≡ pick checks s.found.after true
+          (vs : List WatchedNode) → s ≡ surveyed k (for_tick ws t) vs → pick C (all_of (not_before t) (watched_of vs k)) true ≡ pick checks s.found.after true
       after_is vs e =
           ap (λ (x : Bool). pick x (all_of (not_before t) (watched_of vs k)) true) (sym c)
           ∙ ap (λ (x : Bool). pick checks x true) (sym (seen_after k 0 t Y (beats_at ws) vs s e f))
@@ -168,7 +168,7 @@ module _ (ws q m : List ℕ) (k t : ℕ) (s : Surveyed) (r : Result DllErrors Re
       tick_before z d vs e = tick_declined BeforeHeard d vs (run_before ws q m (run vs k) t (lent_as true f vs e) b (after_is vs e ∙ z))
 
       -- the run as the look leaves it, by whether heartbeats are checked
-      module _ (vs : List WatchedNode) (e : s ≡ surveyed (for_tick ws k t) vs) where
+      module _ (vs : List WatchedNode) (e : s ≡ surveyed k (for_tick ws t) vs) where
         looks : (x : Bool) → first (map (settled (pick x (Looked t) Nothing))) k vs ≡ (pick x (changing (map (looked t)) (run vs k)) (run vs k)).places
         looks true = refl
         looks false = ap (λ (l : List WatchedNode). l ++ drop k vs) (settled_none (take k vs)) ∙ take-append-drop k vs

@@ -29,7 +29,7 @@ use Rattle.lent.specs.declared.run.Setting.{Setting}
 use Rattle.lent.specs.declared.run.Setting.TheVariants.{Nothing, Heard}
 use Rattle.std.specs.declared.option.Option.{Option}
 use Rattle.std.specs.declared.option.Option.TheVariants.{Some, None}
-use Rattle.lent.specs.Runs.{up_to33, tried_by, found_by, found_all, surveyed_by, surveyed, sought_from, asked, passes, settled, settling_of, set_next, settled_all}
+use Rattle.lent.specs.Runs.{tried_by, found_by, found_all, surveyed, sought_from, passes, settled, settling_of, set_next, settled_all}
 
 both_true : (b : Bool) → both b true ≡ b
 both_true true = refl
@@ -77,41 +77,6 @@ formed_all s (w ∷ ws) = formed_all (found_by s w) ws ∙ by s.tried
     by None = refl
     by (Some l) = of l (both (ltb l w.node) (fits w))
 
--- of the places as many are seen as there are, up to 33, and so many are left to try
-one_more_lem : (c n : ℕ) → eqb (up_to33 c + n) 32 ≡ eqb (c + suc n) 32
-one_more_lem c n = by (ltb c 33) refl
-  where
-    by : (b : Bool) → ltb c 33 ≡ b → eqb (pick b (c + 1) c + n) 32 ≡ eqb (c + suc n) 32
-    by true e = let k : c + 1 + n ≡ c + suc n = omega arith in ap (λ (k : ℕ). eqb k 32) k
-    by false e = let l = ltb-false c 33 e in ne_eqb (c + n) 32 (λ h. omega arith) ∙ sym (ne_eqb (c + suc n) 32 (λ h. omega arith))
-
-places_all : (s : Surveyed) (ws : List WatchedNode) → eqb (surveyed s ws).places 32 ≡ eqb (s.places + length ws) 32
-unfolding folded
-places_all s [] = ap (λ (n : ℕ). eqb n 32) (sym (add-zero s.places))
-places_all s (w ∷ ws) = places_all (surveyed_by s w) ws ∙ one_more_lem s.places (length ws)
-
-left_all : (s : Surveyed) (ws : List WatchedNode) → (surveyed s ws).left ≡ s.left - length ws
-unfolding folded
-left_all s [] = omega arith
-left_all s (w ∷ ws) = left_all (surveyed_by s w) ws ∙ omega arith
-
--- the places past the number add nothing
-idle_all : (s : Surveyed) (ws : List WatchedNode) → s.left ≡ 0 → (surveyed s ws).found ≡ s.found
-unfolding folded
-idle_all s [] e = refl
-idle_all s (w ∷ ws) e =
-    let z : s.left - 1 ≡ 0 = omega (arith, e) in
-    idle_all (surveyed_by s w) ws z ∙ ap (λ (b : Bool). pick b (found_by s.found w) s.found) (le-ltb 0 s.left (omega (arith, e)))
-
-found_all_lem : (k : ℕ) (s : Surveyed) (ws : List WatchedNode) → s.left ≡ k → (surveyed s ws).found ≡ found_all s.found (take k ws)
-unfolding folded
-found_all_lem zero s ws e = idle_all s ws e
-found_all_lem (suc k) s [] e = refl
-found_all_lem (suc k) s (w ∷ ws) e =
-    let z : s.left - 1 ≡ k = omega (arith, e) in
-    found_all_lem k (surveyed_by s w) ws z
-    ∙ ap (λ (b : Bool). found_all (pick b (found_by s.found w) s.found) (take k ws)) (lt-ltb 0 s.left (omega (arith, e)))
-
 watched_all : (s : Findings) (ws : List WatchedNode) → (found_all s ws).watched ≡ either s.watched (is_watched s.node ws)
 unfolding folded
 watched_all s [] = sym (either_false s.watched)
@@ -128,19 +93,15 @@ soonest_all s [] = refl
 soonest_all s (w ∷ ws) = soonest_all (found_by s w) ws
 
 -- from what was seen to what the run is
-module _ (k n t : ℕ) (y : Setting) (c : ThresholdCounter) (vs : List WatchedNode) (s : Surveyed) (e : s ≡ surveyed (asked k n t y c) vs) where
+module _ (k n t : ℕ) (y : Setting) (c : ThresholdCounter) (vs : List WatchedNode) (s : Surveyed) (e : s ≡ surveyed k (sought_from n t y c) vs) where
   abbrev places : Bool
   places = eqb (length vs) 32
 
   abbrev sought : Findings
   sought = sought_from n t y c
 
-  tests : passes s ≡ both places (both (eqb (k - length vs) 0) (rising 0 (take k vs)))
-  tests =
-      ap passes e
-      ∙ ap₂ both (places_all (asked k n t y c) vs ∙ ap (λ (n : ℕ). eqb n 32) (zero-add (length vs)))
-      (ap₂ both (ap (λ (n : ℕ). eqb n 0) (left_all (asked k n t y c) vs))
-      (ap (λ (f : Findings). is_some f.tried) (found_all_lem k (asked k n t y c) vs refl) ∙ formed_all sought (take k vs)))
+  tests : passes s ≡ both (both places (leb k 32)) (rising 0 (take k vs))
+  tests = ap passes e ∙ ap (both (both places (leb k 32))) (formed_all sought (take k vs))
 
   long : length (watched_of vs k) ≡ k
   long = listed_long (λ (i : ℕ). get_or vs i no_node) k
@@ -149,17 +110,13 @@ module _ (k n t : ℕ) (y : Setting) (c : ThresholdCounter) (vs : List WatchedNo
   unfolding well_formed
   seen_lent = tests ∙ by places refl
     where
-      within : length vs ≡ 32 → (b : Bool) → leb k 32 ≡ b → both (eqb (k - length vs) 0) (rising 0 (take k vs)) ≡ both b (both (ascending (watched_of vs k)) (all_of fits (watched_of vs k)))
+      within : length vs ≡ 32 → (b : Bool) → leb k 32 ≡ b → both b (rising 0 (take k vs)) ≡ both b (both (ascending (watched_of vs k)) (all_of fits (watched_of vs k)))
       within l true h =
           let z : k ≤ 32 = leb-true k 32 h in
-          let x : k - length vs ≡ 0 = omega (arith, l, z) in
-          ap₂ both (eq-eqb (k - length vs) 0 x)
-          (rising_all (take k vs) ∙ ap (λ (l : List WatchedNode). both (ascending l) (all_of fits l)) (sym (watched_take vs k (omega (arith, l, z)))))
-      within l false h =
-          let z : 32 < k = leb-false k 32 h in
-          ap (λ (b : Bool). both b (rising 0 (take k vs))) (ne_eqb (k - length vs) 0 (λ x. omega (arith, l, z, x)))
+          rising_all (take k vs) ∙ ap (λ (l : List WatchedNode). both (ascending l) (all_of fits l)) (sym (watched_take vs k (omega (arith, l, z))))
+      within l false h = refl
 
-      by : (b : Bool) → places ≡ b → both b (both (eqb (k - length vs) 0) (rising 0 (take k vs))) ≡ both b (well_formed (watched_of vs k))
+      by : (b : Bool) → places ≡ b → both (both b (leb k 32)) (rising 0 (take k vs)) ≡ both b (well_formed (watched_of vs k))
       by false h = refl
       by true h =
           within (eqb-true (length vs) 32 h) (leb k 32) refl
@@ -183,7 +140,7 @@ module _ (k n t : ℕ) (y : Setting) (c : ThresholdCounter) (vs : List WatchedNo
 
     pub seen_found : s.found ≡ found_all sought (watched_of vs k)
     seen_found =
-        ap (λ (s : Surveyed). s.found) e ∙ found_all_lem k (asked k n t y c) vs refl ∙ ap (found_all sought) (sym seen_first)
+        ap (λ (s : Surveyed). s.found) e ∙ ap (found_all sought) (sym seen_first)
 
     pub seen_watched : s.found.watched ≡ is_watched n (watched_of vs k)
     seen_watched = ap (λ (f : Findings). f.watched) seen_found ∙ watched_all sought (watched_of vs k)

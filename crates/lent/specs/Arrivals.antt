@@ -12,15 +12,16 @@ use Rattle.std.specs.declared.option.Option.{Option}
 use Rattle.std.specs.declared.option.Option.TheVariants.{Some, None}
 use Rattle.std.specs.declared.result.Result.{Result}
 use Rattle.types.specs.declared.refusals.Refusal.{Refusal}
+use Rattle.lent.specs.declared.run.Findings.{Findings}
 use Rattle.lent.specs.declared.run.Surveyed.{Surveyed}
 use Rattle.lent.specs.declared.run.Setting.TheVariants.{Heard}
 use Rattle.lent.specs.declared.arrivals.Carrying.{Carrying}
 use Rattle.lent.specs.declared.arrivals.Closing.{Closing}
-use Rattle.lent.specs.Runs.{asked, surveyed}
+use Rattle.lent.specs.Runs.{sought_from, surveyed}
 
 -- a node that is never heard awaits nothing: the earliest moment without it
-abbrev pub for_partner : ℕ → ℕ → Surveyed
-for_partner k n = asked k n 0 (Heard n 0) (new_counter 0)
+abbrev pub for_partner : ℕ → Findings
+for_partner n = sought_from n 0 (Heard n 0) (new_counter 0)
 
 -- an add: the record v is carried, so many of the places ahead are watched
 abbrev pub carrying_of : ℕ → WatchedNode → Option Carrying
@@ -54,8 +55,8 @@ closed_all a vs = scanned_back (λ c x. (close_next c x).0) (λ c x. (close_next
 -- by what was found of a run, whatever it is
 abbrev pub Adds : List ℕ → ℕ → ℕ → ℕ → Surveyed → Result (Unit {0}) Refusal × Option Carrying → List ℕ → ℕ → Type 0
 Adds ws k n o s r ws' k' =
-    (vs : List WatchedNode) → s ≡ surveyed (for_partner k n) vs → AddedOn ws (run vs k) n o r.0 ws' (run (carried_all r.1 vs) k')
+    (vs : List WatchedNode) → s ≡ surveyed k (for_partner n) vs → AddedOn ws (run vs k) n o r.0 ws' (run (carried_all r.1 vs) k')
 
 abbrev pub Removes : List ℕ → ℕ → ℕ → Surveyed → Result (Unit {0}) Refusal × Option Closing → List ℕ → ℕ → Type 0
 Removes ws k n s r ws' k' =
-    (vs : List WatchedNode) → s ≡ surveyed (for_partner k n) vs → RemovedOn ws (run vs k) n r.0 ws' (run (closed_all r.1 vs) k')
+    (vs : List WatchedNode) → s ≡ surveyed k (for_partner n) vs → RemovedOn ws (run vs k) n r.0 ws' (run (closed_all r.1 vs) k')

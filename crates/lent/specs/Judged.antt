@@ -32,15 +32,15 @@ done_by (Err r) k y = (Err r, settles_nothing)
 
 abbrev pub Hears : List ℕ → ℕ → ℕ → ℕ → Surveyed → Result (Unit {0}) Refusal × Settling → List ℕ → Type 0
 Hears ws k n t s r ws' =
-    (vs : List WatchedNode) → s ≡ surveyed (for_heard k n t) vs → HeardOn ws (run vs k) n t r.0 ws' (run (settled_all r.1 vs) k)
+    (vs : List WatchedNode) → s ≡ surveyed k (for_heard n t) vs → HeardOn ws (run vs k) n t r.0 ws' (run (settled_all r.1 vs) k)
 
 abbrev pub Starts : List ℕ → ℕ → ℕ → FeatureFlags → ℕ → ℕ → Dictionary → Thresholds → Surveyed → Result (Unit {0}) Refusal × Settling → List ℕ → Type 0
 Starts ws k n f t c o ts s r ws' =
-    (vs : List WatchedNode) → s ≡ surveyed (for_start k) vs → StartedOn ws (run vs k) n f t c o ts r.0 ws' (run (settled_all r.1 vs) k)
+    (vs : List WatchedNode) → s ≡ surveyed k for_start vs → StartedOn ws (run vs k) n f t c o ts r.0 ws' (run (settled_all r.1 vs) k)
 
 abbrev pub TicksBy : List ℕ → List ℕ → List ℕ → ℕ → ℕ → Surveyed → Result DllErrors Refusal × Settling → List ℕ → List ℕ → List ℕ → Type 0
 TicksBy ws q m k t s r ws' q' m' =
-    (vs : List WatchedNode) → s ≡ surveyed (for_tick ws k t) vs → TickedOn ws q m (run vs k) t r.0 ws' q' m' (run (settled_all r.1 vs) k)
+    (vs : List WatchedNode) → s ≡ surveyed k (for_tick ws t) vs → TickedOn ws q m (run vs k) t r.0 ws' q' m' (run (settled_all r.1 vs) k)
 
 abbrev pub tick_done : Dealt → ℕ → Bool → ℕ → Result DllErrors Refusal × Settling
 tick_done d k checks t = (Ok d.logged, settling_of k (pick checks (Looked t) Nothing))

@@ -1,6 +1,6 @@
 -- A walk over the places of a run: what it has found out after each, and what a walk sets.
 -- Assumes nothing.
-use Rattle.std.specs.Prelude.{ℕ, ◌+◌, ◌-◌, Bool, true, false, List, eqb, ltb, is_some}
+use Rattle.std.specs.Prelude.{ℕ, ◌-◌, Bool, true, false, List, length, take, eqb, ltb, leb, is_some}
 use Rattle.std.specs.declared.option.Option.{Option}
 use Rattle.std.specs.declared.option.Option.TheVariants.{Some, None}
 use Rattle.types.specs.Pick.{pick, both, either}
@@ -21,10 +21,6 @@ use Rattle.lent.specs.declared.run.Surveyed.{Surveyed}
 use Rattle.lent.specs.declared.run.Settling.{Settling}
 use Rattle.lent.specs.declared.run.Setting.{Setting}
 use Rattle.lent.specs.declared.run.Setting.TheVariants.{Nothing, Unheard, Heard, Looked}
-
--- so many places, and 33 where there are more than 32
-abbrev pub up_to33 : ℕ → ℕ
-up_to33 n = pick (ltb n 33) (n + 1) n
 
 -- number 3: above the one before, and within its limits
 abbrev pub tried_by : Option ℕ → WatchedNode → Option ℕ
@@ -61,13 +57,9 @@ found_by s w =
 abbrev pub found_all : Findings → List WatchedNode → Findings
 found_all s vs = folded found_by s vs
 
--- a place of the run: "the places past that number are not tried"
-abbrev pub surveyed_by : Surveyed → WatchedNode → Surveyed
-surveyed_by s w =
-    record { left = s.left - 1; places = up_to33 s.places; found = pick (ltb 0 s.left) (found_by s.found w) s.found }
-
-abbrev pub surveyed : Surveyed → List WatchedNode → Surveyed
-surveyed s vs = folded surveyed_by s vs
+-- a run of which k places are watched: "the places past that number are not tried"
+abbrev pub surveyed : ℕ → Findings → List WatchedNode → Surveyed
+surveyed k s vs = record { within = both (eqb (length vs) 32) (leb k 32); found = found_all s (take k vs) }
 
 -- before the first node: what a call asks for
 abbrev pub sought_from : ℕ → ℕ → Setting → ThresholdCounter → Findings
@@ -83,14 +75,11 @@ sought_from n t y c =
       soonest = never;
     }
 
-abbrev pub asked : ℕ → ℕ → ℕ → Setting → ThresholdCounter → Surveyed
-asked k n t y c = record { left = k; places = 0; found = sought_from n t y c }
+abbrev pub for_start : Findings
+for_start = sought_from 0 0 Unheard (new_counter 0)
 
-abbrev pub for_start : ℕ → Surveyed
-for_start k = asked k 0 0 Unheard (new_counter 0)
-
-abbrev pub for_heard : ℕ → ℕ → ℕ → Surveyed
-for_heard k n t = asked k n 0 (Heard n t) (new_counter 0)
+abbrev pub for_heard : ℕ → ℕ → Findings
+for_heard n t = sought_from n 0 (Heard n t) (new_counter 0)
 
 -- the words of a head: its heartbeat counter, and what a tick sets
 abbrev pub beats_at : List ℕ → ThresholdCounter
@@ -99,12 +88,12 @@ beats_at ws = counter_at ws (at.counter HeartbeatTimeout)
 abbrev pub tick_sets : List ℕ → ℕ → Setting
 tick_sets ws t = pick (checks_heartbeats (nmt_of ws).current_state) (Looked t) Nothing
 
-abbrev pub for_tick : List ℕ → ℕ → ℕ → Surveyed
-for_tick ws k t = asked k 0 t (tick_sets ws t) (beats_at ws)
+abbrev pub for_tick : List ℕ → ℕ → Findings
+for_tick ws t = sought_from 0 t (tick_sets ws t) (beats_at ws)
 
 -- number 3 does not stand: 32 places, the number within them, and its nodes well formed
 abbrev pub passes : Surveyed → Bool
-passes s = both (eqb s.places 32) (both (eqb s.left 0) (is_some s.found.tried))
+passes s = both s.within (is_some s.found.tried)
 
 -- the walk back: so many places are set
 abbrev pub settling_of : ℕ → Setting → Settling
@@ -118,4 +107,4 @@ settled_all a vs = scanned (λ c x. (set_next c x).0) (λ c x. (set_next c x).1)
 
 -- what the errors of the late nodes come to, on the words of a head
 abbrev pub beats_all : List ℕ → ℕ → List WatchedNode → Beats
-beats_all ws t vs = (found_all (sought_from 0 t (tick_sets ws t) (beats_at ws)) vs).beats
+beats_all ws t vs = (found_all (for_tick ws t) vs).beats

@@ -6,7 +6,7 @@ ghost use Rattle.partners.specs.Partners.{AddedOn, RemovedOn};
 ghost use Rattle.lent.specs.Arrivals.{for_partner, carry_next, carried_all, moved_down, close_next, closed_all, Adds, Removes};
 
 use crate::calls::keep_moment;
-use crate::run::{Setting, Surveyed, ask, passes, survey};
+use crate::run::{Findings, Setting, Surveyed, ask, passes, survey};
 use counters::counters::ThresholdCounter;
 use head::state::Head;
 use lentlaws::{scan, scan_back};
@@ -42,16 +42,10 @@ fn no_node() -> WatchedNode
 }
 
 // Of a node: whether it is watched, and the soonest moment without it.
-pub fn for_partner(number: &usize, node: u8) -> Surveyed
-    ensures { result ≡ for_partner number.now node }
+pub fn for_partner(node: u8) -> Findings
+    ensures { result ≡ for_partner node }
 {
-    ask(
-        *number,
-        node,
-        0,
-        Setting::Heard(node, 0),
-        ThresholdCounter::new(0),
-    )
+    ask(node, 0, Setting::Heard(node, 0), ThresholdCounter::new(0))
 }
 
 // One place, and what is carried on: the record that is carried takes the place of one above it, or the first past the number, which is cleared from there on.
@@ -176,7 +170,7 @@ pub fn add(
 ) -> Result<(), Refusal>
     ensures { AddedOn head.old (run nodes.old number.old) node timeout result head.new (run nodes.new number.new) }
 {
-    let seen = survey(nodes, for_partner(number, node));
+    let seen = survey(nodes, *number, for_partner(node));
     let (answer, carrying) = add_by(head, number, node, timeout, seen);
     carry(nodes, carrying);
     answer
@@ -218,7 +212,7 @@ pub fn remove(
 ) -> Result<(), Refusal>
     ensures { RemovedOn head.old (run nodes.old number.old) node result head.new (run nodes.new number.new) }
 {
-    let seen = survey(nodes, for_partner(number, node));
+    let seen = survey(nodes, *number, for_partner(node));
     let (answer, closing) = remove_by(head, number, node, seen);
     close(nodes, closing);
     answer

@@ -81,7 +81,7 @@ pub fn heard(
 ) -> Result<(), Refusal>
     ensures { HeardOn head.old (run nodes.old number) node time result head.new (run nodes.new number) }
 {
-    let seen = survey(nodes, for_heard(number, node, time));
+    let seen = survey(nodes, number, for_heard(node, time));
     let (answer, settling) = hear(head, number, node, time, seen);
     settle(nodes, settling);
     answer
@@ -129,7 +129,7 @@ pub fn start(
 ) -> Result<(), Refusal>
     ensures { StartedOn head.old (run nodes.old number) node feature_flags basic_ethernet_timeout queue_capacity od thresholds result head.new (run nodes.new number) }
 {
-    let seen = survey(nodes, for_start(number));
+    let seen = survey(nodes, number, for_start());
     let (answer, settling) = start_by(
         head,
         number,

@@ -4,7 +4,7 @@ ghost use Rattle.types.specs.Pick.{pick, both, either};
 ghost use Rattle.watched.specs.Watched.{fits};
 ghost use Rattle.watched.specs.Nodes.{not_before, sooner_by};
 ghost use Rattle.lentlaws.specs.Scan.{scanned};
-ghost use Rattle.lent.specs.Runs.{asked, for_start, for_heard, for_tick, passes, up_to33, tried_by, beaten_by, found_by, surveyed_by, surveyed, settled, set_next, settled_all};
+ghost use Rattle.lent.specs.Runs.{sought_from, for_start, for_heard, for_tick, passes, tried_by, beaten_by, found_by, surveyed, settled, set_next, settled_all};
 
 use counters::counters::{CounterKind, ThresholdCounter};
 use head::parts::{counter_of, state_at};
@@ -50,13 +50,11 @@ pub struct Findings {
     pub soonest: u64,
 }
 
-// What a walk over the places of a run finds out.
+// What a walk over the watched places of a run finds out.
 #[derive(Clone, Copy)]
 pub struct Surveyed {
-    // So many of the places ahead are watched.
-    pub left: usize,
-    // So many places; 33 where there are more than 32.
-    pub places: u8,
+    // There are 32 places, and the number watched is within them.
+    pub within: bool,
     pub found: Findings,
 }
 
@@ -68,47 +66,36 @@ pub struct Settling {
 }
 
 // Before the first place.
-pub fn ask(
-    number: usize,
-    node: u8,
-    time: u64,
-    setting: Setting,
-    counter: ThresholdCounter,
-) -> Surveyed
-    ensures { result ≡ asked number node time setting counter }
+pub fn ask(node: u8, time: u64, setting: Setting, counter: ThresholdCounter) -> Findings
+    ensures { result ≡ sought_from node time setting counter }
 {
-    Surveyed {
-        left: number,
-        places: 0,
-        found: Findings {
-            node,
-            time,
-            setting,
-            tried: Some(0),
-            watched: false,
-            after: true,
-            beats: Beats {
-                counter,
-                crossed: None,
-            },
-            soonest: NEVER,
+    Findings {
+        node,
+        time,
+        setting,
+        tried: Some(0),
+        watched: false,
+        after: true,
+        beats: Beats {
+            counter,
+            crossed: None,
         },
+        soonest: NEVER,
     }
 }
 
 // Of the nodes alone.
-pub fn for_start(number: usize) -> Surveyed
-    ensures { result ≡ for_start number }
+pub fn for_start() -> Findings
+    ensures { result ≡ for_start }
 {
-    ask(number, 0, 0, Setting::Unheard, ThresholdCounter::new(0))
+    ask(0, 0, Setting::Unheard, ThresholdCounter::new(0))
 }
 
 // Of a node too.
-pub fn for_heard(number: usize, node: u8, time: u64) -> Surveyed
-    ensures { result ≡ for_heard number node time }
+pub fn for_heard(node: u8, time: u64) -> Findings
+    ensures { result ≡ for_heard node time }
 {
     ask(
-        number,
         node,
         0,
         Setting::Heard(node, time),
@@ -127,32 +114,22 @@ pub fn look_if(checks: bool, time: u64) -> Setting
 }
 
 // Of a time too, with the head's heartbeat counter.
-pub fn for_tick(head: &Head, number: usize, time: u64) -> Surveyed
-    ensures { result ≡ for_tick head.now number time }
+pub fn for_tick(head: &Head, time: u64) -> Findings
+    ensures { result ≡ for_tick head.now time }
 {
     let counter = counter_of(head, CounterKind::HeartbeatTimeout);
     let setting = look_if(checks_heartbeats(state_at(head)), time);
-    ask(number, 0, time, setting, counter)
+    ask(0, time, setting, counter)
 }
 
 // Number 3 does not stand: 32 places, the number within them, and its nodes well formed.
-pub fn passes(survey: Surveyed) -> bool
-    ensures { result ≡ passes survey }
+pub fn passes(seen: Surveyed) -> bool
+    ensures { result ≡ passes seen }
 {
-    if survey.places != 32 {
+    if !seen.within {
         return false;
     }
-    if survey.left != 0 {
-        return false;
-    }
-    survey.found.tried.is_some()
-}
-
-// One place more, up to 33.
-fn one_more(places: u8) -> u8
-    ensures { result ≡ up_to33 places }
-{
-    if places < 33 { places + 1 } else { places }
+    seen.found.tried.is_some()
 }
 
 // A node with a higher number than the last, and within its limits.
@@ -261,33 +238,20 @@ pub fn see(found: Findings, w: WatchedNode) -> Findings
     }
 }
 
-// One place: past the number it is not tried.
-pub fn see_place(survey: Surveyed, w: WatchedNode) -> Surveyed
-    ensures { result ≡ surveyed_by survey w }
+// The watched places, in order; those past the number are not tried.
+pub fn survey(nodes: &[WatchedNode], number: usize, first: Findings) -> Surveyed
+    ensures { result ≡ surveyed number first nodes.now }
 {
-    let places = one_more(survey.places);
-    let found = survey.found;
-    let left = survey.left;
-    if left == 0 {
-        return Surveyed {
-            left,
-            places,
-            found,
-        };
-    }
-    let found = see(found, w);
+    let within = nodes.len() == 32 && number <= 32;
+    let watched = if number <= nodes.len() {
+        &nodes[..number]
+    } else {
+        nodes
+    };
     Surveyed {
-        left: left - 1,
-        places,
-        found,
+        within,
+        found: fold(watched, first, |found, w| see(found, w)),
     }
-}
-
-// All places, in order; none is changed.
-pub fn survey(nodes: &[WatchedNode], seen: Surveyed) -> Surveyed
-    ensures { result ≡ surveyed seen nodes.now }
-{
-    fold(nodes, seen, |seen, w| see_place(seen, w))
 }
 
 // One place as it is set, and what is to be set behind it: past the number it stays as it is.

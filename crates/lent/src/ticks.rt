@@ -150,7 +150,7 @@ pub fn process_tick(
 ) -> Result<DllErrors, Refusal>
     ensures { TickedOn head.old queue.old history.old (run nodes.old number) time result head.new queue.new history.new (run nodes.new number) }
 {
-    let seen = survey(nodes, for_tick(head, number, time));
+    let seen = survey(nodes, number, for_tick(head, time));
     let (answer, settling) = tick_by(head, queue, history, number, time, seen);
     settle(nodes, settling);
     answer
