@@ -16,7 +16,8 @@ use Rattle.watched.specs.Watched.{ascending, no_node, inserted}
 use Rattle.watched.specs.Nodes.{node_at, nodes_of}
 use Rattle.watched.proofs.Watching.{places, node_at_lem}
 use Rattle.partners.specs.Walks.{carried}
-use Rattle.partners.proofs.Places.{rest_set, turn_set, turn_kept, all_behind, ahead}
+use Rattle.std.proofs.lemmas.List.{drop-set-lt}
+use Rattle.partners.proofs.Places.{turn_set, turn_kept, all_behind, ahead}
 
 pub carried_begins : (k : ℕ) (v : WatchedNode) (ps : List WatchedNode) → carried k v ps ≡ carried (k - 0) v ps
 carried_begins k v ps = let e : k ≡ k - 0 = omega arith in ap (λ (j : ℕ). carried j v ps) e
@@ -49,7 +50,7 @@ module _ (ns : List ℕ) (i k : ℕ) (v : WatchedNode) (goal : List WatchedNode)
       carried_swaps h ns' s =
           by_number
           ∙ ap (λ (b : Bool). take i ps ++ pick b (v ∷ carried (k - suc i) w more) (w ∷ carried (k - suc i) v more)) (lt-ltb v.node w.node h)
-          ∙ sym (turn_set ps i within v (carried (k - suc i) w more) (carried (k - suc i) w (drop (suc i) (set ps i v))) (ap (carried (k - suc i) w) (rest_set ps i v)))
+          ∙ sym (turn_set ps i within v (carried (k - suc i) w more) (carried (k - suc i) w (drop (suc i) (set ps i v))) (ap (carried (k - suc i) w) (drop-set-lt (suc i) ps i v (omega arith))))
           ∙ ap (λ (l : List WatchedNode). take (suc i) l ++ carried (k - suc i) w (drop (suc i) l)) (sym s)
           ∙ ap (λ (j : ℕ). take j (nodes_of ns') ++ carried (k - j) w (drop j (nodes_of ns'))) (sym (add-one i))
 
@@ -69,7 +70,7 @@ module _ (ns : List ℕ) (i k : ℕ) (v : WatchedNode) (goal : List WatchedNode)
         turned
         ∙ ap (λ (j : ℕ). take i ps ++ carried j v (w ∷ more)) z
         ∙ ap (λ (j : ℕ). take i ps ++ (v ∷ carried j no_node more)) (sym y)
-        ∙ sym (turn_set ps i within v (carried (k - suc i) no_node more) (carried (k - suc i) no_node (drop (suc i) (set ps i v))) (ap (carried (k - suc i) no_node) (rest_set ps i v)))
+        ∙ sym (turn_set ps i within v (carried (k - suc i) no_node more) (carried (k - suc i) no_node (drop (suc i) (set ps i v))) (ap (carried (k - suc i) no_node) (drop-set-lt (suc i) ps i v (omega arith))))
         ∙ ap (λ (l : List WatchedNode). take (suc i) l ++ carried (k - suc i) no_node (drop (suc i) l)) (sym s)
         ∙ ap (λ (j : ℕ). take j (nodes_of ns') ++ carried (k - j) no_node (drop j (nodes_of ns'))) (sym (add-one i))
 

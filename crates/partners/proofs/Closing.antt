@@ -15,7 +15,8 @@ use Rattle.watched.specs.Watched.{place_of, no_node, without}
 use Rattle.watched.specs.Nodes.{node_at, nodes_of}
 use Rattle.watched.proofs.Watching.{places}
 use Rattle.partners.specs.Walks.{closed}
-use Rattle.partners.proofs.Places.{rest_set, turn_set, all_behind, ahead}
+use Rattle.std.proofs.lemmas.List.{drop-set-lt}
+use Rattle.partners.proofs.Places.{turn_set, all_behind, ahead}
 
 -- the walk: what is ahead gives what the whole gives
 module _ (ns : List ℕ) (i k : ℕ) (goal : List WatchedNode) (e : goal ≡ take i (nodes_of ns) ++ closed (k - i) (drop i (nodes_of ns))) where
@@ -36,7 +37,7 @@ module _ (ns : List ℕ) (i k : ℕ) (goal : List WatchedNode) (e : goal ≡ tak
         let z : k - i - 1 ≡ k - suc i = omega arith in
         e ∙ ap (λ (l : List WatchedNode). take i ps ++ closed (k - i) l) (ahead ns i inside)
         ∙ ap₂ (λ (x : WatchedNode) (j : ℕ). take i ps ++ (x ∷ closed j more)) f z
-        ∙ sym (turn_set ps i (rw (places ns) inside) x (closed (k - suc i) more) (closed (k - suc i) (drop (suc i) (set ps i x))) (ap (closed (k - suc i)) (rest_set ps i x)))
+        ∙ sym (turn_set ps i (rw (places ns) inside) x (closed (k - suc i) more) (closed (k - suc i) (drop (suc i) (set ps i x))) (ap (closed (k - suc i)) (drop-set-lt (suc i) ps i x (omega arith))))
         ∙ ap (λ (l : List WatchedNode). take (suc i) l ++ closed (k - suc i) (drop (suc i) l)) (sym s)
         ∙ ap (λ (j : ℕ). take j (nodes_of ns') ++ closed (k - j) (drop j (nodes_of ns'))) (sym (add-one i))
 

@@ -2,7 +2,7 @@
 -- Assumes nothing.
 use Prim.Native.Nat.{ℕ, zero, suc, ◌+◌, ◌≤◌, ◌<◌}
 use mathlib.Core.Path.{◌≡◌, refl, sym, ap, ap₂, ◌∙◌}
-use mathlib.Core.Bool.{Bool, true, false, not, false≢true}
+use mathlib.Core.Bool.{Bool, true, false, false≢true}
 use mathlib.Core.List.{List, [], ◌∷◌, ◌++◌, map}
 use native.Mathlib.Omega.{arith}
 use native.Mathlib.Numerals.{add-one}
@@ -10,6 +10,7 @@ use lib.Dec.{eqb, leb, ltb}
 use lib.ListN.{length, get_or, set, take, drop, take-append-drop, length-append, drop_of_length-le}
 use lib.Seq.{length-take-le, take-suc, drop-cons, append_snoc, set-append_left, get_or-take, set_at, get_or_at, take_at}
 use borrow.Author.Tests.{ltb-false, le-leb, lt-leb, leb-true}
+use Rattle.std.proofs.lemmas.List.{length-map, map-append}
 use Rattle.types.specs.Pick.{pick, both, either}
 use Rattle.types.specs.Types.{is_node}
 use Rattle.entries.specs.Ring.{listed}
@@ -17,15 +18,6 @@ use Rattle.entries.proofs.Rings.{listed_long}
 use Rattle.watched.specs.declared.nodes.WatchedNode.{WatchedNode}
 use Rattle.watched.specs.Nodes.{rising}
 use Rattle.watched.specs.Watched.{all_of, ascending, fits, well_formed, no_node, heard_now, is_watched, heard_at, place_of, watched_of, heard_first}
-
--- what a test that is denied says
-pub not_true : (b : Bool) → not b ≡ true → b ≡ false
-not_true true e = sym e
-not_true false e = refl
-
-pub not_false : (b : Bool) → not b ≡ false → b ≡ true
-not_false true e = refl
-not_false false e = sym e
 
 -- the first k nodes of an array that has as many
 pub watched_take : (ns : List WatchedNode) (k : ℕ) → k ≤ length ns → watched_of ns k ≡ take k ns
@@ -152,20 +144,12 @@ heard_long n t (w ∷ ws) = by (eqb w.node n) (heard_long n t ws)
 
 -- one law for every loop that sets each of the first nodes
 module _ (f : WatchedNode → WatchedNode) where
-  each_long : (ws : List WatchedNode) → length (map f ws) ≡ length ws
-  each_long [] = refl
-  each_long (w ∷ ws) = ap suc (each_long ws)
-
-  each_more : (xs ys : List WatchedNode) → map f (xs ++ ys) ≡ map f xs ++ map f ys
-  each_more [] ys = refl
-  each_more (x ∷ xs) ys = ap (λ (l : List WatchedNode). f x ∷ l) (each_more xs ys)
-
   -- a node that the loop has not reached is as it was
   pub each_ahead :
       (ns l : List WatchedNode) (i : ℕ) (d : WatchedNode) → i < length ns → l ≡ map f (take i ns) ++ drop i ns → get_or l i d ≡ get_or ns i d
   each_ahead ns l i d h e =
       let xs : List WatchedNode = map f (take i ns) in
-      let long : length xs ≡ i = each_long (take i ns) ∙ length-take-le i ns (omega arith) in
+      let long : length xs ≡ i = length-map (take i ns) f ∙ length-take-le i ns (omega arith) in
       ap (λ (l : List WatchedNode). get_or l i d) (e ∙ ap (λ (r : List WatchedNode). xs ++ r) (drop-cons ns i d h))
       ∙ get_or_at xs (get_or ns i d) (drop (suc i) ns) d i long
 
@@ -180,10 +164,10 @@ module _ (f : WatchedNode → WatchedNode) where
   each_turn ns l i d h e v g =
       let w : WatchedNode = get_or ns i d in
       let xs : List WatchedNode = map f (take i ns) in
-      let long : length xs ≡ i = each_long (take i ns) ∙ length-take-le i ns (omega arith) in
+      let long : length xs ≡ i = length-map (take i ns) f ∙ length-take-le i ns (omega arith) in
       let here : l ≡ xs ++ (w ∷ drop (suc i) ns) = e ∙ ap (λ (r : List WatchedNode). xs ++ r) (drop-cons ns i d h) in
       let next : map f (take (i + 1) ns) ++ drop (i + 1) ns ≡ xs ++ (f w ∷ drop (suc i) ns) =
-      rw (add-one, take-suc ns i d h, each_more (take i ns) (w ∷ [])) (append_snoc xs (f w) (drop (suc i) ns)) in
+      rw (add-one, take-suc ns i d h, map-append f (take i ns) (w ∷ [])) (append_snoc xs (f w) (drop (suc i) ns)) in
       let new : v ≡ f w = g ∙ ap f (each_ahead ns l i d h e) in
       ap₂ (λ (l : List WatchedNode) (v : WatchedNode). set l i v) here new
       ∙ set_at xs w (drop (suc i) ns) (f w) i long
@@ -202,7 +186,7 @@ module _ (ns : List WatchedNode) (k : ℕ) (long : length ns ≡ 32) (few : k �
   whole = watched_take ns k (omega arith)
 
   pub each_nodes : (f : WatchedNode → WatchedNode) → watched_of (map f (take k ns) ++ drop k ns) k ≡ map f (watched_of ns k)
-  each_nodes f = front ns (map f (take k ns)) k (each_long f (take k ns) ∙ taken_long) ∙ ap (map f) (sym whole)
+  each_nodes f = front ns (map f (take k ns)) k (length-map (take k ns) f ∙ taken_long) ∙ ap (map f) (sym whole)
 
   module _ (n t : ℕ) where
     pub heard_nodes : watched_of (heard_first n t k ns) k ≡ heard_at n t (watched_of ns k)
