@@ -9,7 +9,7 @@ ghost use Rattle.watched.specs.Nodes.{nodes_of};
 ghost use Rattle.bitmap.specs.Bitmap.{bytes_of, bitmap_said, bitmap_reply, bytes_after};
 
 use types::refusals::Refusal;
-use watched::nodes::{NodeWords, well_formed};
+use watched::nodes::{Formed, NodeWords, well_formed};
 use watched::record::NodeRecord;
 
 // A byte with the bit of a node set.
@@ -20,13 +20,12 @@ fn with_node(byte: u8, node: u64) -> u8
 }
 
 // All bits cleared, then one set for each node.
-fn set_bits(nodes: &NodeWords, count: usize, bytes: &mut [u8; 32])
-    requires { well_formed (watched_of (nodes_of nodes.now) count) ≡ true }
-    ensures { bytes.new ≡ bytes_of (watched_of (nodes_of nodes.now) count) }
+fn set_bits(formed: Formed, bytes: &mut [u8; 32])
+    ensures { bytes.new ≡ bytes_of (watched_of (nodes_of formed.entry.nodes.now) formed.entry.count) }
 {
     *bytes = [0; 32];
-    for i in 0..count {
-        let node = NodeRecord::at(nodes, i).node;
+    for i in 0..formed.count {
+        let node = NodeRecord::at(formed.nodes, i).node;
         let at = (node / 8) as usize;
         bytes[at] = with_node(bytes[at], node);
     }
@@ -47,6 +46,6 @@ pub fn bitmap(nodes: &NodeWords, count: usize, bytes: &mut [u8; 32]) -> Result<u
     if !well_formed(nodes, count) {
         return Err(Refusal::WatchedNodes);
     }
-    set_bits(nodes, count, bytes);
+    set_bits(Formed { nodes, count }, bytes);
     Ok(count_bits(bytes))
 }

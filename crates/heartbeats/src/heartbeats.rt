@@ -16,7 +16,7 @@ use node::calls::handled;
 use node::timing::time_since;
 use types::frame::error::types::{DllError, DllErrors};
 use types::types::NodeId;
-use watched::nodes::{NEVER, NodeWords};
+use watched::nodes::{Formed, NEVER, NodeWords};
 use watched::record::NodeRecord;
 
 // A node that was heard once, and then not for longer than its timeout.
@@ -71,17 +71,16 @@ fn beat(head: &mut Head, node: u64) -> Dealt
 }
 
 // The errors of the late nodes, ascending: the first whose handling brings an action ends the walk. The nodes are those before the look.
-pub fn beat_all(head: &mut Head, nodes: &NodeWords, count: usize, time: u64) -> Dealt
-    requires { well_formed (watched_of (nodes_of nodes.now) count) ≡ true }
-    ensures { (q m : List ℕ) → TicksIn head.old q m (beat_all (plain (head_of head.old) q m) (late_ones time (watched_of (nodes_of nodes.now) count))) result head.new q m
-        (beat_all_words head.old (late_ones time (watched_of (nodes_of nodes.now) count))) }
+pub fn beat_all(head: &mut Head, formed: Formed, time: u64) -> Dealt
+    ensures { (q m : List ℕ) → TicksIn head.old q m (beat_all (plain (head_of head.old) q m) (late_ones time (watched_of (nodes_of formed.entry.nodes.now) formed.entry.count))) result head.new q m
+        (beat_all_words head.old (late_ones time (watched_of (nodes_of formed.entry.nodes.now) formed.entry.count))) }
 {
     let mut dealt = Dealt {
         logged: DllErrors::None,
         ended: false,
     };
-    'walk: for place in 0..count {
-        let node = NodeRecord::at(nodes, place);
+    'walk: for place in 0..formed.count {
+        let node = NodeRecord::at(formed.nodes, place);
         if is_late(node, time) {
             dealt = beat(head, node.node);
             if dealt.ended {

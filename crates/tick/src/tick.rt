@@ -18,7 +18,7 @@ use node::heard::moment;
 use types::frame::error::types::DllErrors;
 use types::nmt::states::NmtState;
 use types::refusals::Refusal;
-use watched::nodes::{NodeWords, Seen, look, try_nodes};
+use watched::nodes::{Formed, NodeWords, Seen, look, try_nodes};
 use watched::time::Time;
 
 // PreOperational2 and the states above it by their numbers, so not CsStopped.
@@ -46,14 +46,13 @@ fn phases(
     head: &mut Head,
     queue: &mut [u8; 640],
     history: &mut [u8; 5080],
-    nodes: &NodeWords,
-    count: usize,
+    formed: Formed,
     time: Time,
 ) -> Dealt
-    requires { (well_formed (watched_of (nodes_of nodes.now) count) ≡ true) × (checks_heartbeats (nmt_of head.old).current_state ≡ true) }
-    ensures { TicksIn head.old queue.old history.old (tick_taken (plain (head_of head.old) queue.old history.old) time.us (watched_of (nodes_of nodes.now) count)) result head.new queue.new history.new (tick_words head.old queue.old history.old time.us (watched_of (nodes_of nodes.now) count)) }
+    requires { checks_heartbeats (nmt_of head.old).current_state ≡ true }
+    ensures { TicksIn head.old queue.old history.old (tick_taken (plain (head_of head.old) queue.old history.old) time.us (watched_of (nodes_of formed.entry.nodes.now) formed.entry.count)) result head.new queue.new history.new (tick_words head.old queue.old history.old time.us (watched_of (nodes_of formed.entry.nodes.now) formed.entry.count)) }
 {
-    let beats = beat_all(head, nodes, count, time.us);
+    let beats = beat_all(head, formed, time.us);
     if beats.ended {
         return beats;
     }
@@ -79,7 +78,7 @@ fn tick_roused(
     if !heard {
         return Err(Refusal::BeforeHeard);
     }
-    let dealt = phases(head, queue, history, nodes, count, time);
+    let dealt = phases(head, queue, history, Formed { nodes, count }, time);
     let soonest = look_all(nodes, count, time.us);
     set_earliest(head, moment(soonest));
     Ok(dealt.logged)

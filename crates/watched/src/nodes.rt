@@ -1,6 +1,6 @@
 // The watched nodes in lent words, three a node: its number, its timeout, when it was last heard. 32 places, of which the first so many are
 // watched.
-ghost use Rattle.std.specs.Prelude.{◌≡◌, ◌≤◌, true, length};
+ghost use Rattle.std.specs.Prelude.{◌≡◌, ◌≤◌, true};
 ghost use Rattle.watched.specs.Watched.{all_of, well_formed, watched_of};
 ghost use Rattle.watched.specs.Climb.{climbed, climb_of, climbed_of, heard_climbed, nodes_from};
 ghost use Rattle.watched.specs.Nodes.{never, climbing, numbered, roused_from, nodes_tried, found_of, seen_of, nodes_of};
@@ -19,11 +19,6 @@ pub struct WatchedNode {
     // In microseconds; 0 is never.
     pub last_heard: u64,
 }
-
-// What the proof of a caller that writes needs: 32 places have 96 words. No instruction is made of it.
-pub fn all_places(nodes: &NodeWords)
-    ensures { length nodes.now ≡ 96 }
-{}
 
 // No moment: the walks carry the earliest one as a number, since a least number takes no test.
 pub const NEVER: u64 = 18446744073709551615;
@@ -173,6 +168,14 @@ pub fn try_nodes(nodes: &NodeWords, count: usize) -> Option<u64>
         return None;
     }
     Some(soonest)
+}
+
+// Nodes that pass number 3, lent to be read.
+#[derive(Clone, Copy)]
+pub struct Formed<'a> {
+    pub nodes: &'a NodeWords,
+    pub count: usize,
+    pub ghost formed: { well_formed (watched_of (nodes_of nodes.now) count) ≡ true },
 }
 
 pub fn well_formed(nodes: &NodeWords, count: usize) -> bool

@@ -11,10 +11,6 @@ returns-then-not-well_formed c =
     let a = c.args in
     turned_away_lem (watched_of (nodes_of a.nodes.now) a.count) a.bytes.now (sym c.well_formed-2.ensures ∙ c.if-not-well_formed.true)
 
-pub set_bits-requires : goal.set_bits-requires
-set_bits-requires c =
-    sym c.well_formed-2.ensures ∙ c.if-not-well_formed.false
-
 pub count_bits-requires : goal.count_bits-requires
 count_bits-requires c =
     let a = c.args in

@@ -21,30 +21,30 @@ node_read ns i e = ap (λ (w : WatchedNode). w.node) e
 pub loop-i-init : goal.loop-i-init
 unfolding bytes_of listed
 loop-i-init c =
-    let a = c.args in
-    (refl, omega arith, few (nodes_of a.nodes.now) a.count _ (sym c.requires) refl)
+    let f = c.args.formed in
+    (refl, omega arith, few (nodes_of f.nodes.now) f.count _ (sym f.formed) refl)
 
 pub bounds-bytes-at : goal.bounds-bytes-at
 unfolding bytes_of listed
 bounds-bytes-at c =
     let l = c.loop-i in
-    let a = c.args in
-    omega (arith, node_read a.nodes.now l.i c.at-node.ensures, node_below a.nodes.now a.count c.requires l.i (omega arith) l.invariant.2)
+    let f = c.args.formed in
+    omega (arith, node_read f.nodes.now l.i c.at-node.ensures, node_below f.nodes.now f.count f.formed l.i (omega arith) l.invariant.2)
 
 pub bounds-bytes-at-in-loop-i : goal.bounds-bytes-at-in-loop-i
 unfolding bytes_of listed
 bounds-bytes-at-in-loop-i c =
     let l = c.loop-i in
-    let a = c.args in
-    omega (arith, node_read a.nodes.now l.i c.at-node.ensures, node_below a.nodes.now a.count c.requires l.i (omega arith) l.invariant.2)
+    let f = c.args.formed in
+    omega (arith, node_read f.nodes.now l.i c.at-node.ensures, node_below f.nodes.now f.count f.formed l.i (omega arith) l.invariant.2)
 
 pub loop-i-preserved : goal.loop-i-preserved
 unfolding bytes_of listed
 loop-i-preserved c =
     let l = c.loop-i in
-    let a = c.args in
-    let n : c.at-node.result.node ≡ get_or a.nodes.now (3 * l.i) 0 = node_read a.nodes.now l.i c.at-node.ensures in (
-      rw n (turn a.nodes.now a.count c.requires l.i (omega arith) l.invariant.2 l.bytes l.invariant.0 c.with_node.result (rw n at c.with_node.ensures)),
+    let f = c.args.formed in
+    let n : c.at-node.result.node ≡ get_or f.nodes.now (3 * l.i) 0 = node_read f.nodes.now l.i c.at-node.ensures in (
+      rw n (turn f.nodes.now f.count f.formed l.i (omega arith) l.invariant.2 l.bytes l.invariant.0 c.with_node.result (rw n at c.with_node.ensures)),
       omega arith,
       l.invariant.2,
     )
@@ -53,6 +53,6 @@ pub returns : goal.returns
 unfolding bytes_of listed
 returns c =
     let l = c.loop-i in
-    let a = c.args in
-    let e : l.i ≡ a.count = omega arith in
+    let f = c.args.formed in
+    let e : l.i ≡ f.count = omega arith in
     rw e at l.invariant.0

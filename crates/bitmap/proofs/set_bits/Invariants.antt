@@ -9,4 +9,4 @@ use Rattle.bitmap.proofs.set_bits.Given as goal
 
 abbrev pub invariant-loop-i : goal.invariant-loop-i
 invariant-loop-i l =
-    (l.bytes ≡ bytes_of (watched_of (nodes_of l.nodes) l.i)) × (l.i ≤ l.count) × (l.count ≤ 32)
+    (l.bytes ≡ bytes_of (watched_of (nodes_of l.formed.nodes.now) l.i)) × (l.i ≤ l.formed.count) × (l.formed.count ≤ 32)

@@ -12,34 +12,40 @@ use Rattle.heartbeats.proofs.heartbeats.beat_all.Goals as goal
 pub walk-init : goal.walk-init
 walk-init c =
     let a = c.args in
-    walk_begins a.nodes.now a.count (few a.nodes.now a.count c.requires) a.time a.head.now
+    let f = a.formed in
+    walk_begins f.nodes.now f.count (few f.nodes.now f.count f.formed) a.time a.head.now
 
 pub at-node-requires : goal.at-node-requires
 at-node-requires c =
-    omega (arith, c.walk-test.true, few c.args.nodes.now c.args.count c.requires)
+    let f = c.args.formed in
+    omega (arith, c.walk-test.true, few f.nodes.now f.count f.formed)
 
 pub beat-dealt-requires : goal.beat-dealt-requires
 beat-dealt-requires c =
     let a = c.args in
-    omega (arith, ap (λ (w : WatchedNode). w.node) c.at-node.ensures, number_small a.nodes.now a.count (few a.nodes.now a.count c.requires) c.requires c.walk.place c.walk-test.true)
+    let f = a.formed in
+    omega (arith, ap (λ (w : WatchedNode). w.node) c.at-node.ensures, number_small f.nodes.now f.count (few f.nodes.now f.count f.formed) f.formed c.walk.place c.walk-test.true)
 
 pub walk-preserved : goal.walk-preserved
 walk-preserved c =
     let a = c.args in
+    let f = a.formed in
     let l = c.walk in
     elim c.if-is_late.branch [
-      | then-is_late+else-dealt w ↦ rw (w.head-is, w.dealt-is) (walk_goes_on a.nodes.now a.count (few a.nodes.now a.count c.requires) a.time a.head.now l.head l.dealt l.place l.invariant c.walk-test.true (node_of c.at-node.result) c.at-node.ensures c.is_late.result c.is_late.ensures w.if-is_late.true w.beat-dealt.result _ w.beat-dealt.ensures w.if-dealt.false)
-      | else-is_late w ↦ rw (w.head-is, w.dealt-is) (walk_passes a.nodes.now a.count (few a.nodes.now a.count c.requires) a.time a.head.now l.head l.dealt l.place l.invariant c.walk-test.true (node_of c.at-node.result) c.at-node.ensures c.is_late.result c.is_late.ensures w.if-is_late.false)
+      | then-is_late+else-dealt w ↦ rw (w.head-is, w.dealt-is) (walk_goes_on f.nodes.now f.count (few f.nodes.now f.count f.formed) a.time a.head.now l.head l.dealt l.place l.invariant c.walk-test.true (node_of c.at-node.result) c.at-node.ensures c.is_late.result c.is_late.ensures w.if-is_late.true w.beat-dealt.result _ w.beat-dealt.ensures w.if-dealt.false)
+      | else-is_late w ↦ rw (w.head-is, w.dealt-is) (walk_passes f.nodes.now f.count (few f.nodes.now f.count f.formed) a.time a.head.now l.head l.dealt l.place l.invariant c.walk-test.true (node_of c.at-node.result) c.at-node.ensures c.is_late.result c.is_late.ensures w.if-is_late.false)
     ]
 
 pub returns-after-walk : goal.returns-after-walk
 returns-after-walk c =
     let a = c.args in
+    let f = a.formed in
     let l = c.walk in
-    walk_over a.nodes.now a.count (few a.nodes.now a.count c.requires) a.time a.head.now l.head l.dealt l.place l.invariant c.walk-test.false
+    walk_over f.nodes.now f.count (few f.nodes.now f.count f.formed) a.time a.head.now l.head l.dealt l.place l.invariant c.walk-test.false
 
 pub returns-then-dealt : goal.returns-then-dealt
 returns-then-dealt c =
     let a = c.args in
+    let f = a.formed in
     let l = c.walk in
-    walk_stops a.nodes.now a.count (few a.nodes.now a.count c.requires) a.time a.head.now l.head l.dealt l.place l.invariant c.walk-test.true (node_of c.at-node.result) c.at-node.ensures c.is_late.result c.is_late.ensures c.if-is_late.true c.beat-dealt.result _ c.beat-dealt.ensures c.if-dealt.true
+    walk_stops f.nodes.now f.count (few f.nodes.now f.count f.formed) a.time a.head.now l.head l.dealt l.place l.invariant c.walk-test.true (node_of c.at-node.result) c.at-node.ensures c.is_late.result c.is_late.ensures c.if-is_late.true c.beat-dealt.result _ c.beat-dealt.ensures c.if-dealt.true

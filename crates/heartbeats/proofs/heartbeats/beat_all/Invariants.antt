@@ -8,4 +8,4 @@ use Rattle.heartbeats.proofs.heartbeats.beat_all.Given as goal
 
 abbrev pub invariant-walk : goal.invariant-walk
 invariant-walk l =
-    BeatingIn l.time (watched_of (nodes_of l.nodes) l.count) l.initial.head l.head l.dealt (drop l.place (take l.count (nodes_of l.nodes)))
+    BeatingIn l.time (watched_of (nodes_of l.formed.nodes.now) l.formed.count) l.initial.head l.head l.dealt (drop l.place (take l.formed.count (nodes_of l.formed.nodes.now)))

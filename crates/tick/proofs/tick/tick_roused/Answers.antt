@@ -21,7 +21,7 @@ returns-then-not-heard c =
 
 pub phases-dealt-requires : goal.phases-dealt-requires
 phases-dealt-requires c =
-    (c.requires.0, c.requires.1)
+    c.requires.1
 
 pub look_all-soonest-requires : goal.look_all-soonest-requires
 look_all-soonest-requires c =
