@@ -1,7 +1,7 @@
 -- The tests of an answer are true exactly where it is the one stated: each arm of a match, over plain variables.
 -- Assumes nothing.
 use Prim.Native.Nat.{ℕ}
-use mathlib.Core.Path.{◌≡◌, refl, sym, ap, ◌∙◌}
+use mathlib.Core.Path.{◌≡◌, refl, ap}
 use mathlib.Core.Bool.{Bool, true, false, not, ◌&&◌}
 use mathlib.Core.List.{List, [], ◌∷◌}
 use native.Mathlib.Omega.{arith}
@@ -9,24 +9,24 @@ use Rattle.std.proofs.Common.{rules}
 use Rattle.types.specs.Errors.{reported}
 use Rattle.types.specs.contracts.frame.error.types.DllErrorPartialEq.TheImpl as a-error
 use Rattle.types.specs.contracts.frame.error.types.DllErrorsPartialEq.TheImpl as some-errors
-use Rattle.types.specs.contracts.frame.error.types.NmtActionPartialEq.TheImpl as an-action
 use Rattle.types.specs.contracts.nmt.states.NmtStatePartialEq.TheImpl as a-state
 use Rattle.types.specs.declared.nmt.states.NmtState.{NmtState}
 use Rattle.types.specs.declared.nmt.states.NmtState.TheVariants.{NmtGsInitialising, NmtGsResetApplication, NmtGsResetCommunication, NmtGsResetConfiguration, NmtNotActive}
 use Rattle.types.specs.declared.frame.error.types.DllError.{DllError}
-use Rattle.types.specs.declared.frame.error.types.DllError.TheVariants as error
 use Rattle.types.specs.declared.frame.error.types.DllErrors.{DllErrors}
 use Rattle.types.specs.declared.frame.error.types.DllErrors.TheVariants as errors
-use Rattle.types.specs.declared.frame.error.types.NmtAction.{NmtAction}
-use Rattle.types.specs.declared.frame.error.types.NmtAction.TheVariants as action
+use Rattle.std.specs.Result.{result_eq}
+use Rattle.std.specs.declared.result.Result.{Result}
+use Rattle.std.specs.declared.result.Result.TheVariants.{Ok, Err}
+use Rattle.types.specs.declared.refusals.Refusal.{Refusal}
 use Rattle.nmt.specs.Resets.{Passed, range}
 use Rattle.nmt.specs.declared.state_machine.IndexRange.{IndexRange}
-use Rattle.node.specs.Plain.{refused, taken, nmt_answer, dll_answer, error_answer, tick_answer}
-use Rattle.node.specs.contracts.calls.ErrorTakenPartialEq.TheImpl as a-reply
-use Rattle.node.specs.declared.calls.ErrorTaken.{ErrorTaken}
+use Rattle.node.specs.Plain.{refused, taken, nmt_answer, dll_answer, tick_answer}
+use Rattle.node.specs.InPlace.{dll_said}
+use Rattle.tick.specs.TickIn.{tick_said}
 use Rattle.examples.specs.Same.{Exactly}
-use Rattle.examples.specs.Said.{passed_of, nmt_stated, dll_stated, replied_of, error_stated, tick_stated}
-use Rattle.examples.proofs.Exact.{exact_flag, exact_state, exact_by, exact_and, exact_is, no}
+use Rattle.examples.specs.Said.{passed_of, nmt_stated, dll_stated, tick_stated}
+use Rattle.examples.proofs.Exact.{exact_state, exact_by, exact_and, exact_is, no}
 
 pub clash : ◌≡◌ {A = ℕ} 0 1 → ⊥
 clash z = omega arith
@@ -117,33 +117,13 @@ nmt_refused n t whole = never (λ e. clash (cc))
 pub never_taken : (n : ℕ) → Exactly false (refused n ≡ taken)
 never_taken n = never (λ e. clash (cc))
 
-pub dll_same : (es : List DllError) (t : DllErrors) {r : Bool} → Exactly r (es ≡ reported t) → Exactly r (dll_answer es ≡ dll_stated t)
-dll_same es t x = exact_by x (ap dll_answer) (λ h. cc)
+-- of a DLL event and of a tick, compared by `==`
+pub dll_same :
+    (a : Result DllErrors Refusal) (t : DllErrors) (ne : Refusal → Refusal → Bool) (r : Bool) → r ≡ result_eq ((some-errors.ghosts).eq) ne a (Ok t) → Exactly r (dll_said a ≡ dll_stated t)
+dll_same (Ok es) t ne r e = exact_by (exact_reported es t r e) (ap dll_answer) (λ h. cc)
+dll_same (Err n) t ne r e = exact_is e (never (λ h. clash (cc)))
 
-pub dll_refused : (n : ℕ) (t : DllErrors) → Exactly false (refused n ≡ dll_stated t)
-dll_refused n t = never (λ e. clash (cc))
-
-pub tick_same : (es : List DllError) (t : DllErrors) {r : Bool} → Exactly r (es ≡ reported t) → Exactly r (tick_answer es ≡ tick_stated t)
-tick_same es t x = exact_by x (ap tick_answer) (λ h. cc)
-
-pub tick_refused : (n : ℕ) (t : DllErrors) → Exactly false (refused n ≡ tick_stated t)
-tick_refused n t = never (λ e. clash (cc))
-
-exact_action : (x y : NmtAction) (r : Bool) → r ≡ (an-action.ghosts).eq x y → Exactly r (x ≡ y)
-exact_action x y r e = search rules
-
--- what an error was answered
-pub error_same :
-    (x : ErrorTaken) (crosses : Bool) (r : Bool) → r ≡ (a-reply.ghosts).eq x (replied_of crosses) → Exactly r (error_answer x.action x.signal (reported x.logged) ≡ error_stated crosses)
-error_same x true r e =
-    exact_is e
-    (exact_by (exact_and (exact_action x.action action.ResetCommunication _ refl) (exact_and (exact_flag x.signal true) (exact_reported x.logged (errors.One error.LossOfSoc) _ refl)))
-    (λ h. λ i. error_answer (h.0 i) (h.1.0 i) (h.1.1 i)) (λ h. (cc, (cc, cc))))
-error_same x false r e =
-    exact_is e
-    (exact_by (exact_and (exact_action x.action action.None _ refl) (exact_and (exact_flag x.signal false) (exact_reported x.logged errors.None _ refl)))
-    (λ h. λ i. error_answer (h.0 i) (h.1.0 i) (h.1.1 i)) (λ h. (cc, (cc, cc))))
-
-pub error_refused : (n : ℕ) (crosses : Bool) → Exactly false (refused n ≡ error_stated crosses)
-error_refused n true = never (λ e. clash (cc))
-error_refused n false = never (λ e. clash (cc))
+pub tick_same :
+    (a : Result DllErrors Refusal) (t : DllErrors) (ne : Refusal → Refusal → Bool) (r : Bool) → r ≡ result_eq ((some-errors.ghosts).eq) ne a (Ok t) → Exactly r (tick_said a ≡ tick_stated t)
+tick_same (Ok es) t ne r e = exact_by (exact_reported es t r e) (ap tick_answer) (λ h. cc)
+tick_same (Err n) t ne r e = exact_is e (never (λ h. clash (cc)))

@@ -1,6 +1,5 @@
 -- One entry, a crossing's, and no other: of an entry by its parts, of a list by its first two.
 -- Assumes nothing.
-use Prim.Native.Nat.{ℕ}
 use mathlib.Core.Path.{◌≡◌, refl, sym, ap}
 use mathlib.Core.Bool.{Bool, true, false, not, ◌&&◌}
 use mathlib.Core.List.{List, [], ◌∷◌}
@@ -12,6 +11,7 @@ use Rattle.entries.specs.contracts.status_response.EntryTypePartialEq.TheImpl as
 use Rattle.entries.specs.contracts.status_response.ErrorEntryPartialEq.TheImpl as an-entry
 use Rattle.entries.specs.declared.status_response.EntryType.{EntryType}
 use Rattle.entries.specs.declared.status_response.ErrorEntry.{ErrorEntry}
+use Rattle.std.specs.Option.{option_eq}
 use Rattle.std.specs.declared.option.Option.{Option}
 use Rattle.std.specs.declared.option.Option.TheVariants.{Some, None}
 use Rattle.examples.specs.Same.{Exactly}
@@ -31,11 +31,9 @@ exact_entry x y r e =
     (λ h. λ i. record { entry_type = h.0 i; error_code = h.1.0 i; timestamp = h.1.1.0 i; additional_information = h.1.1.1 i })
     (λ e. (ap (λ z. z.entry_type) e, (ap (λ z. z.error_code) e, (ap (λ z. z.timestamp) e, ap (λ z. z.additional_information) e)))))
 
-pub exact_found : (x y : ErrorEntry) (r : Bool) → r ≡ (an-entry.ghosts).eq x y → Exactly r (◌≡◌ {A = Option ErrorEntry} (Some x) (Some y))
-exact_found x y r e = exact_by (exact_entry x y r e) (ap Some) (λ h. cc)
-
-pub not_found : (x : ErrorEntry) → Exactly false (None ≡ Some x)
-not_found x = never (λ e. clash (cc))
+pub exact_found : (x : Option ErrorEntry) (y : ErrorEntry) (r : Bool) → r ≡ option_eq ((an-entry.ghosts).eq) x (Some y) → Exactly r (x ≡ Some y)
+exact_found (Some x) y r e = exact_by (exact_entry x y r e) (ap Some) (λ h. cc)
+exact_found None y r e = exact_is e (never (λ h. clash (cc)))
 
 pub none_exactly : (x : Option ErrorEntry) (r : Bool) → is_some x ≡ not r → Exactly r (x ≡ None)
 none_exactly None true e = always refl

@@ -13,7 +13,7 @@ use types::frame::error::types::{DllError, DllErrors, NmtAction};
 use types::nmt::states::NmtState;
 use types::refusals::Refusal;
 
-// The five states of a whole reset, or none.
+// The five states of a whole reset, or none. No `==`: what is stated is a list, and each case of the match is one length of it.
 fn entered_are(entered: EnteredStates, whole: bool) -> bool
     ensures { Exactly result (entered_states entered ≡ (passed_of whole).states) }
 {
@@ -33,7 +33,7 @@ fn entered_are(entered: EnteredStates, whole: bool) -> bool
     }
 }
 
-// The three ranges of a whole reset, or none.
+// The three ranges of a whole reset, or none. A match for the same reason.
 fn restored_are(restored: RestoredRanges, whole: bool) -> bool
     ensures { Exactly result (restored_ranges restored ≡ (passed_of whole).ranges) }
 {
@@ -76,10 +76,7 @@ pub fn says(answer: Result<DllErrors, Refusal>, stated: DllErrors) -> bool
     ensures dll { Exactly result (dll_said answer ≡ dll_stated stated) }
     ensures tick { Exactly result (tick_said answer ≡ tick_stated stated) }
 {
-    match answer {
-        Ok(errors) => errors == stated,
-        Err(_) => false,
-    }
+    answer == Ok(stated)
 }
 
 // The answer to a loss that crosses, or to one that does not.
@@ -104,17 +101,11 @@ fn reply(crosses: bool) -> ErrorTaken
 pub fn error_says(answer: Result<ErrorTaken, Refusal>, crosses: bool) -> bool
     ensures { Exactly result (error_said answer ≡ error_stated crosses) }
 {
-    match answer {
-        Ok(taken) => taken == reply(crosses),
-        Err(_) => false,
-    }
+    answer == Ok(reply(crosses))
 }
 
 pub fn is_taken(answer: Result<(), Refusal>) -> bool
     ensures { Exactly result (said answer ≡ taken) }
 {
-    match answer {
-        Ok(()) => true,
-        Err(_) => false,
-    }
+    answer == Ok(())
 }

@@ -1,4 +1,5 @@
-// A call, and whether it came as stated: its answer, and the head after it.
+// A call, and whether it came as stated: its answer, and the head after it. One function for each call: a generic one would be given the
+// call, the test of its answer and its contract by each caller, and be longer.
 ghost use Rattle.std.specs.Prelude.{ℕ, ◌≡◌, List};
 ghost use Rattle.counters.specs.Counters.{incremented};
 ghost use Rattle.head.specs.Words.{errors_of};

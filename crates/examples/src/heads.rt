@@ -48,6 +48,7 @@ pub fn values(
     }
 }
 
+// Written out, as in chart and transitions: each program has numbers of its own.
 fn machine(current_state: NmtState, enabled: bool, ready: bool) -> CnNmtStateMachine
     ensures { result ≡ machine current_state enabled ready }
 {

@@ -33,6 +33,7 @@ fn main(rt: HostRuntime) -> io::Result<()> {
     let bench = &mut bench;
     let mut after = [0; 60];
     let after = &mut after;
+    // One by one: a list of closures would need dyn values.
     say(
         out,
         1,

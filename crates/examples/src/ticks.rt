@@ -16,6 +16,7 @@ use types::common::NetTime;
 use types::frame::error::types::{DllError, DllErrors};
 use watched::record::NodeRecord;
 
+// This and the next two differ in numbers only, but each is proved against its own entry of the table.
 // .. deadline 10,500, tick 10,500: deadline 11,100.
 pub fn early(bench: &mut Bench, after: &mut Head) -> bool
     ensures { Shown table.early bench.new.head bench.new.queue bench.new.history (run (nodes_of bench.new.nodes) 0) result }
