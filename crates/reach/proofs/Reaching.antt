@@ -38,7 +38,7 @@ use Rattle.reach.specs.Positions.{Position, position_at, position, Steps, none, 
 event_small : (e : NmtEvent) → event_number e - 18 ≡ 0
 event_small = everywhere NmtEvents (λ e. event_number e - 18) (λ e. 0) refl refl
 
--- a test at one of a list; std's `list_any` tells the place of one, and asked here is that it is among them
+-- a test at one of a list; the library's any of a list tells the place of one, and asked here is that it is among them
 abbrev any : {A : Type 0} → (A → Bool) → List A → Bool
 any f [] = false
 any f (x ∷ xs) = either (f x) (any f xs)
