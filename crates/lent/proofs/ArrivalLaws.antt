@@ -40,7 +40,7 @@ use Rattle.lent.specs.declared.run.Setting.TheVariants.{Heard}
 use Rattle.lent.specs.declared.arrivals.Carrying.{Carrying}
 use Rattle.lent.specs.declared.arrivals.Closing.{Closing}
 use Rattle.lent.specs.Runs.{passes, surveyed}
-use Rattle.lent.specs.Arrivals.{for_partner, carrying_of, carry_next, carried_all, closing_of, moved_down, close_next, closed_all, Adds, Removes}
+use Rattle.lent.specs.Arrivals.{for_partner, carrying_of, carried_all, closing_of, moved_down, close_next, closed_all, Adds, Removes}
 use Rattle.lent.proofs.SeenLaws.{seen_lent, seen_formed, seen_places, seen_below, seen_first, seen_watched, seen_moment, settled_heard}
 
 -- the walk that adds
