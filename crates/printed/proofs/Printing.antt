@@ -1,19 +1,15 @@
 -- Each way to lay a byte, a character of a form, a row of a table.
 -- Assumes nothing.
-use Prim.Native.Nat.{ℕ, zero, suc, ◌+◌, ◌-◌, ◌≤◌, ◌<◌}
-use mathlib.Core.Path.{◌≡◌, refl, sym, ap, ◌∙◌}
-use mathlib.Core.Bool.{true, false}
+use Prim.Native.Nat.{ℕ, ◌+◌, ◌≤◌, ◌<◌}
+use mathlib.Core.Path.{◌≡◌, refl, sym}
 use mathlib.Core.List.{List, [], ◌∷◌, ◌++◌}
 use native.Mathlib.Numerals.{add-one}
-use native.Mathlib.Omega.{arith}
-use lib.ListN.{length, get_or, take, drop, drop_of_length-le}
-use lib.Seq.{drop-cons, drop-drop}
-use Rattle.std.proofs.lemmas.List.{take_rest}
-use Rattle.forms.specs.Find.{index_of, slice}
+use lib.ListN.{length, get_or, drop, drop_of_length-le}
+use lib.Seq.{drop-cons}
 use Rattle.forms.specs.Hex.{hex_digits}
 use Rattle.printed.specs.declared.Page.{Page}
 use Rattle.printed.specs.Marks.{numbers_in, hides, number_in}
-use Rattle.printed.specs.Printed.{put_in, laid, shown_text, form_text, is_row, form_by, row_text, digits_text, bytes_text}
+use Rattle.printed.specs.Printed.{put_in, laid, shown_text, form_text, digits_text, bytes_text}
 
 -- one text behind another
 pub laid_then : (t u : List ℕ) (b : Page) → laid (t ++ u) b ≡ laid u (laid t b)
@@ -76,48 +72,3 @@ module _ (t ns : List ℕ) (b : Page) (next hidden i : ℕ) where
   pub form_ends : length t ≤ i → b ≡ laid (form_text (drop i t) ns next hidden) b
   unfolding form_text
   form_ends h = rw (drop_of_length-le t {i = i} h) (laid_none b)
-
--- what is left of a table gives the same as the whole
-pub record Left (rows : List ℕ) (key from : ℕ) : Type 0 where
-  pub turns : ℕ
-  pub enough : length rows ≤ from + turns
-  pub same : form_by turns (drop from rows) key ≡ form_by (length rows) rows key
-
-none_by : (k key : ℕ) → [] ≡ form_by k [] key
-unfolding form_by
-none_by zero key = refl
-none_by (suc k) key = refl
-
-pub row_none :
-    (rows ns : List ℕ) (b b' : Page) (key from : ℕ) → b' ≡ b → Left rows key from → length rows ≤ from → b' ≡ laid (row_text rows key ns) b
-unfolding row_text form_text
-row_none rows ns b b' key from e l h =
-    let none : [] ≡ form_by (length rows) rows key = rw (drop_of_length-le rows {i = from} h) (none_by l.turns key) ∙ l.same in
-    rw (← none) (e ∙ laid_none b)
-
-module _ (rows : List ℕ) (key from k t : ℕ) (inside : from < length rows) (turn : t ≡ suc k) (end : ℕ) (found : end ≡ from + 1 + index_of 59 (slice (from + 1) (length rows) rows)) where
-  ends : end ≡ from + 1 + index_of 59 (drop (from + 1) rows)
-  ends = rw (take_rest rows (from + 1)) at found
-
-  size : index_of 59 (drop (from + 1) rows) ≡ end - (from + 1)
-  size = omega (arith, ends)
-
-  behind : end + 1 ≡ from + 1 + (end - (from + 1) + 1)
-  behind = omega (arith, ends)
-
-  pub row_same : is_row (get_or rows from 0) key ≡ true → take (end - (from + 1)) (drop (from + 1) rows) ≡ form_by t (drop from rows) key
-  unfolding form_by
-  row_same h = rw (turn, front rows from inside, size, h)
-
-  pub row_next : is_row (get_or rows from 0) key ≡ false → form_by k (drop (end + 1) rows) key ≡ form_by t (drop from rows) key
-  unfolding form_by
-  row_next h = rw (turn, front rows from inside, size, h, drop-drop) (ap (λ (n : ℕ). form_by k (drop n rows) key) behind)
-
-pub row_said :
-    (rows ns : List ℕ) (b b₁ b' : Page) (form : List ℕ) (key : ℕ) →
-    b₁ ≡ b →
-    form ≡ form_by (length rows) rows key →
-    b' ≡ laid (form_text form ns 0 0) b₁ →
-    b' ≡ laid (row_text rows key ns) b
-unfolding row_text
-row_said rows ns b b₁ b' form key s f e = rw (← f, ← s) e

@@ -1,9 +1,8 @@
 -- What is printed, and how it gathers on a page.
 -- Assumes nothing.
-use Rattle.std.specs.Prelude.{ℕ, zero, suc, ◌+◌, ◌%◌, Bool, true, List, [], ◌∷◌, ◌++◌, eqb, length, set, take, drop}
+use Rattle.std.specs.Prelude.{ℕ, ◌+◌, ◌%◌, Bool, true, List, [], ◌∷◌, ◌++◌, eqb, set}
 use Rattle.std.specs.Fmt.{decimal}
 use Rattle.types.specs.Pick.{pick}
-use Rattle.forms.specs.Find.{index_of}
 use Rattle.forms.specs.Hex.{hex_digits, hex_form}
 use Rattle.printed.specs.declared.Page.{Page}
 use Rattle.printed.specs.Marks.{numbers_in, hides, number_in}
@@ -52,15 +51,13 @@ form_text (m ∷ ms) ns next hidden =
 abbrev pub is_row : ℕ → ℕ → Bool
 is_row row key = pick (eqb row key) true (eqb row 42)
 
--- By a table, whose rows are a key and a form with `;` behind it: the form of the first row of the key, or none. Each row has a character at least, so
--- that as many turns as there are characters pass all of them.
-unfoldable pub form_by : ℕ → List ℕ → ℕ → List ℕ
-form_by zero rows key = []
-form_by (suc k) [] key = []
-form_by (suc k) (row ∷ cs) key = pick (is_row row key) (take (index_of 59 cs) cs) (form_by k (drop (index_of 59 cs + 1) cs) key)
+-- by a table, whose rows are a key and a form: the form of the first row of the key, or none
+abbrev pub form_by : List (ℕ × List ℕ) → ℕ → List ℕ
+form_by [] key = []
+form_by (row ∷ rows) key = pick (is_row row.0 key) row.1 (form_by rows key)
 
-unfoldable pub row_text : List ℕ → ℕ → List ℕ → List ℕ
-row_text rows key ns = form_text (form_by (length rows) rows key) ns 0 0
+abbrev pub row_text : List (ℕ × List ℕ) → ℕ → List ℕ → List ℕ
+row_text rows key ns = form_text (form_by rows key) ns 0 0
 
 -- bytes in hexadecimal, two digits each
 unfoldable pub digits_text : List ℕ → List ℕ

@@ -2,14 +2,13 @@
 // where the next one goes. That the gathered bytes then reach standard output no contract can say: they are handed to a `forms::output::Output`.
 #![tactic(auto)]
 
-ghost use Rattle.std.specs.Prelude.{◌≡◌, replicate};
+ghost use Rattle.std.specs.Prelude.{◌≡◌, replicate, map};
 ghost use Rattle.std.specs.Fmt.{decimal};
 ghost use Rattle.forms.specs.Hex.{hex_digits};
 ghost use Rattle.printed.specs.Printed.{page, begun, put_in, laid, is_silent, mark_text, shown_text, form_text, is_row, row_text, bytes_text};
 
 mod marks;
 
-use forms::find::find;
 use forms::hex;
 use forms::output::Output;
 use marks::{hiding, number_at, numbers_in};
@@ -131,18 +130,16 @@ impl Buffer {
         }
     }
 
-    // The form of a key in a table, whose rows are a key and a form; * stands for every key.
-    pub fn say_by(&mut self, rows: &[u8], key: u8, numbers: &[u64])
-        ensures { self.new.page ≡ laid (row_text rows.now key numbers.now) self.old.page }
+    // The form of a key in a table; * stands for every key.
+    #[tactic(auto, unfolding(crate::specs::Printed::form_text))]
+    pub fn say_by(&mut self, mut rows: &[(u8, &[u8])], key: u8, numbers: &[u64])
+        ensures { self.new.page ≡ laid (row_text (map (λ row. (row.0, row.1.now)) rows.entry.now) key numbers.now) self.old.page }
     {
-        let mut from = 0;
-        while from < rows.len() {
-            let form = from + 1;
-            let end = find(rows, form, rows.len(), b';');
-            if is_row(rows[from], key) {
-                return self.say_form(&rows[form..end], numbers);
+        while let [row, rest @ ..] = rows {
+            if is_row(row.0, key) {
+                return self.say_form(row.1, numbers);
             }
-            from = end + 1;
+            rows = rest;
         }
     }
 

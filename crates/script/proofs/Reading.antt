@@ -1,54 +1,14 @@
 -- Each turn of the walks over a table, over digits and over entries, and each way in which a value is named.
 -- Assumes nothing.
-use Prim.Native.Nat.{ℕ, zero, suc, ◌+◌, ◌-◌, ◌*◌, ◌≤◌, ◌<◌}
-use mathlib.Core.Path.{◌≡◌, refl, ap}
+use Prim.Native.Nat.{ℕ, suc, ◌+◌, ◌-◌, ◌*◌, ◌≤◌, ◌<◌}
+use mathlib.Core.Path.{◌≡◌}
 use mathlib.Core.Bool.{Bool, true, false}
-use mathlib.Core.List.{List, [], ◌∷◌}
-use native.Mathlib.Numerals.{add-one, unary_clauses}
-use native.Mathlib.Omega.{arith}
-use lib.ListN.{length, get_or, set, take, drop, drop_of_length-le}
-use lib.Seq.{drop-cons, drop-drop}
-use Rattle.std.proofs.lemmas.List.{take_rest}
+use mathlib.Core.List.{List}
+use native.Mathlib.Numerals.{unary_clauses}
+use lib.ListN.{get_or, set}
 use borrow.Author.Tests.{lt-ltb, le-ltb, eq-eqb, ne_eqb}
-use Rattle.forms.specs.Find.{index_of, slice}
 use Rattle.patterns.specs.Patterns.{digit_of, unreadable, kept, Matched, matched, match_at}
-use Rattle.std.specs.Prelude.{Some, None}
-use Rattle.script.specs.Script.{codes, says, key_by, got, bytes_at, entries_at, value, values}
-
--- what is left of a table gives the same as the whole
-pub record Left (rows line g₀ g : List ℕ) (from : ℕ) : Type 0 where
-  pub turns : ℕ
-  pub enough : length rows ≤ from + turns
-  pub same : (bs : List ℕ) → key_by turns (drop from rows) line g bs ≡ key_by (length rows) rows line g₀ bs
-
-key_none : (k : ℕ) (line g bs : List ℕ) → says None g bs ≡ key_by k [] line g bs
-unfolding key_by
-key_none zero line g bs = refl
-key_none (suc k) line g bs = refl
-
-pub key_ends : (k : ℕ) (rows line g : List ℕ) (from : ℕ) → length rows ≤ from → (bs : List ℕ) → says None g bs ≡ key_by k (drop from rows) line g bs
-key_ends k rows line g from h bs = rw (drop_of_length-le rows {i = from} h) (key_none k line g bs)
-
-module _ (rows line g : List ℕ) (from k t : ℕ) (inside : from < length rows) (turn : t ≡ suc k) (end : ℕ) (found : end ≡ from + 1 + index_of 59 (slice (from + 1) (length rows) rows)) (r : ℕ) (g' : List ℕ) (m : matched r g' ≡ match_at (take (end - (from + 1)) (drop (from + 1) rows)) line 0 g 0) (bs : List ℕ) where
-  front : drop from rows ≡ get_or rows from 0 ∷ drop (from + 1) rows
-  front = rw add-one (drop-cons rows from 0 inside)
-
-  ends : end ≡ from + 1 + index_of 59 (drop (from + 1) rows)
-  ends = rw (take_rest rows (from + 1)) at found
-
-  size : index_of 59 (drop (from + 1) rows) ≡ end - (from + 1)
-  size = omega (arith, ends)
-
-  behind : end + 1 ≡ from + 1 + (end - (from + 1) + 1)
-  behind = omega (arith, ends)
-
-  pub key_same : r ≡ length line → says (Some (get_or rows from 0)) g' bs ≡ key_by t (drop from rows) line g bs
-  unfolding key_by
-  key_same h = rw (turn, front, size, ← m, eq-eqb r (length line) h)
-
-  pub key_next : (r ≡ length line → ⊥) → key_by k (drop (end + 1) rows) line g' bs ≡ key_by t (drop from rows) line g bs
-  unfolding key_by
-  key_next h = rw (turn, front, size, ← m, ne_eqb r (length line) h, drop-drop) (ap (λ (n : ℕ). key_by k (drop n rows) line g' bs) behind)
+use Rattle.script.specs.Script.{codes, got, bytes_at, entries_at, value, values}
 
 module _ (line : List ℕ) (k : ℕ) (at : ℕ) (bs : List ℕ) (first : ℕ) where
   -- the first turn

@@ -1,10 +1,9 @@
 -- What a line of a call script says, in the words of CALLS: its key, and the numbers and bytes that it gives.
 -- Assumes nothing.
-use Rattle.std.specs.Prelude.{ℕ, zero, suc, ◌+◌, ◌-◌, ◌*◌, ◌/◌, Bool, true, false, Option, Some, None, List, [], ◌∷◌, eqb, leb, ltb, length, get_or, set, take, drop}
+use Rattle.std.specs.Prelude.{ℕ, zero, suc, ◌+◌, ◌-◌, ◌*◌, ◌/◌, Bool, true, false, Option, Some, None, List, [], ◌∷◌, eqb, leb, ltb, length, get_or, set, take}
 use Prim.Native.Char.{code}
 use Prim.Native.String.{String, [] as []ˢ, ◌∷◌ as ◌∷ˢ◌}
 use Rattle.types.specs.Pick.{pick}
-use Rattle.forms.specs.Find.{index_of}
 use Rattle.patterns.specs.Patterns.{digit_of, unreadable, kept, Matched, matched, match_at}
 
 -- the codes of a text's characters
@@ -21,22 +20,43 @@ pub record Says : Type 0 where
 abbrev pub says : Option ℕ → List ℕ → List ℕ → Says
 says key g bs = record { key = key; given = g; bytes = bs }
 
--- By a table, whose rows are a key and a pattern with `;` behind it: the first pattern that the whole line matches. Each row has a
--- character at least, so that as many turns as there are characters pass all of them.
-unfoldable pub key_by : ℕ → List ℕ → List ℕ → List ℕ → List ℕ → Says
-key_by zero rows line g bs = says None g bs
-key_by (suc k) [] line g bs = says None g bs
-key_by (suc k) (key ∷ cs) line g bs =
-    let m = match_at (take (index_of 59 cs) cs) line 0 g 0 in
-    pick (eqb m.end (length line)) (says (Some key) m.given bs) (key_by k (drop (index_of 59 cs + 1) cs) line m.given bs)
+-- by a table, whose rows are a key and a pattern: the first pattern that the whole line matches
+abbrev pub key_by : List (ℕ × List ℕ) → List ℕ → List ℕ → List ℕ → Says
+key_by [] line g bs = says None g bs
+key_by (row ∷ rows) line g bs =
+    let m = match_at row.1 line 0 g 0 in pick (eqb m.end (length line)) (says (Some row.0) m.given bs) (key_by rows line m.given bs)
 
--- the lines that are read whole by a pattern; the last one is the empty line
-abbrev pub table : List ℕ
+-- the lines that are read whole by a pattern, with the codes of their keys' letters; the last one is the empty line
+abbrev pub table : List (ℕ × List ℕ)
 table =
-    codes "nnmt L;Wwatch B L L;ddll L F;pshow;ttick L;ccycle;aarm L;eerror L X Y;hheard B L;ohandout;wwithdraw;Uunwatch;Llend P L;jadd B L;xremove B;bbitmap;Sstart B W W L B O O W W W W;Tstart B W W L B O O W W W W W W W W W W W;kcommand L;sstate L;ientrywrite L F F M H H W W L;qkind L;grange L L;mmargin L; "
+    (110, codes "nmt L") ∷
+    (87, codes "watch B L L") ∷
+    (100, codes "dll L F") ∷
+    (112, codes "show") ∷
+    (116, codes "tick L") ∷
+    (99, codes "cycle") ∷
+    (97, codes "arm L") ∷
+    (101, codes "error L X Y") ∷
+    (104, codes "heard B L") ∷
+    (111, codes "handout") ∷
+    (119, codes "withdraw") ∷
+    (85, codes "unwatch") ∷
+    (76, codes "lend P L") ∷
+    (106, codes "add B L") ∷
+    (120, codes "remove B") ∷
+    (98, codes "bitmap") ∷
+    (83, codes "start B W W L B O O W W W W") ∷
+    (84, codes "start B W W L B O O W W W W W W W W W W W") ∷
+    (107, codes "command L") ∷
+    (115, codes "state L") ∷
+    (105, codes "entrywrite L F F M H H W W L") ∷
+    (113, codes "kind L") ∷
+    (103, codes "range L L") ∷
+    (109, codes "margin L") ∷
+    (32, codes "") ∷ []
 
 unfoldable pub table_says : List ℕ → List ℕ → List ℕ → Says
-table_says line g bs = key_by (length table) table line g bs
+table_says line g bs = key_by table line g bs
 
 -- whether all could be read, and the bytes then
 pub record Got : Type 0 where

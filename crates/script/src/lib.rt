@@ -1,8 +1,8 @@
 // What a line of a call script says (docs/CALLS.md): its key, and the numbers and bytes that it gives. The key of a comment is a space, that of a load l, of
-// a desk D, of the reading of an entry r, and the others stand in the table in `read_table`.
+// a desk D, of the reading of an entry r, and the others stand in `TABLE`.
 #![tactic(auto)]
 
-ghost use Rattle.std.specs.Prelude.{◌≡◌, List, ℕ, ◌≤◌, length, take};
+ghost use Rattle.std.specs.Prelude.{◌≡◌, List, ℕ, ◌≤◌, length, take, map};
 ghost use Rattle.script.specs.Script.{says, key_by, table_says, desk_says, entry_says, line_says, text_says};
 
 mod digits;
@@ -10,7 +10,6 @@ pub mod lines;
 mod load;
 
 use digits::read_bytes;
-use forms::find::find;
 use lines::Line;
 use load::read_load;
 use patterns::{Given, UNREADABLE, match_at};
@@ -18,19 +17,44 @@ use patterns::{Given, UNREADABLE, match_at};
 // The bytes of as many entries as a load may have, 300.
 pub type EntryBuffer = [u8; 6000];
 
-// Reads a line by a table, whose rows are a key and a pattern.
-fn read_by(rows: &[u8], line: &[u8], given: &mut Given) -> Option<u8>
-    ensures { (bs : List ℕ) → says result given.new bs ≡ key_by (length rows.now) rows.now line.now given.old bs }
+// The keys of the lines that a pattern reads whole; the last one is that of the empty line.
+const TABLE: [(u8, &[u8]); 25] = [
+    (b'n', b"nmt L"),
+    (b'W', b"watch B L L"),
+    (b'd', b"dll L F"),
+    (b'p', b"show"),
+    (b't', b"tick L"),
+    (b'c', b"cycle"),
+    (b'a', b"arm L"),
+    (b'e', b"error L X Y"),
+    (b'h', b"heard B L"),
+    (b'o', b"handout"),
+    (b'w', b"withdraw"),
+    (b'U', b"unwatch"),
+    (b'L', b"lend P L"),
+    (b'j', b"add B L"),
+    (b'x', b"remove B"),
+    (b'b', b"bitmap"),
+    (b'S', b"start B W W L B O O W W W W"),
+    (b'T', b"start B W W L B O O W W W W W W W W W W W"),
+    (b'k', b"command L"),
+    (b's', b"state L"),
+    (b'i', b"entrywrite L F F M H H W W L"),
+    (b'q', b"kind L"),
+    (b'g', b"range L L"),
+    (b'm', b"margin L"),
+    (b' ', b""),
+];
+
+// Reads a line by a table, whose rows are a key and a pattern: the first pattern that the whole line matches.
+fn read_by(mut rows: &[(u8, &[u8])], line: &[u8], given: &mut Given) -> Option<u8>
+    ensures { (bs : List ℕ) → says result given.new bs ≡ key_by (map (λ row. (row.0, row.1.now)) rows.entry.now) line.now given.old bs }
 {
-    let mut from = 0;
-    while from < rows.len() {
-        let key = rows[from];
-        let pattern = from + 1;
-        let end = find(rows, pattern, rows.len(), b';');
-        if match_at(&rows[pattern..end], line, 0, given, 0) == line.len() {
-            return Some(key);
+    while let [row, rest @ ..] = rows {
+        if match_at(row.1, line, 0, given, 0) == line.len() {
+            return Some(row.0);
         }
-        from = end + 1;
+        rows = rest;
     }
     None
 }
@@ -38,12 +62,7 @@ fn read_by(rows: &[u8], line: &[u8], given: &mut Given) -> Option<u8>
 fn read_table(line: &[u8], given: &mut Given) -> Option<u8>
     ensures { (bs : List ℕ) → says result given.new bs ≡ table_says line.now given.old bs }
 {
-    read_by(
-        b"nnmt L;Wwatch B L L;ddll L F;pshow;ttick L;ccycle;aarm L;eerror L X Y;hheard B L;ohandout;wwithdraw;\
-        Uunwatch;Llend P L;jadd B L;xremove B;bbitmap;Sstart B W W L B O O W W W W;Tstart B W W L B O O W W W W W W W W W W W;kcommand L;sstate L;ientrywrite L F F M H H W W L;qkind L;grange L L;mmargin L; ",
-        line,
-        given,
-    )
+    read_by(&TABLE, line, given)
 }
 
 // Reads the bytes that stand from a place to the line's end, at most 100 of them; how many they are becomes the first number. No bytes

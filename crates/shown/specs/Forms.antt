@@ -8,9 +8,21 @@ abbrev pub codes : String → List ℕ
 codes []ˢ = []
 codes (c ∷ˢ s) = code c ∷ codes s
 
--- of answers (CALLS, Output): a row for each key, with `;` behind it
-abbrev pub answers_form : List ℕ
-answers_form = codes "!(refused #)\n;c---(taken (cleared #))\n;n----(taken{ (errors}[ (entered[ %][ %][ %][ %][ %]) (restore[ (@ @)][ (@ @)][ (@ @)]][ (#[ %][ #])][ (#[ %][ #])]))\n;d---------------(taken (errors[ (#[ %][ #])][ (#[ %][ #])]))\n;t---------------(taken (logged[ (#[ %][ #])][ (#[ %][ #])]))\n;e--(taken (action #) (signal #)----------- (logged[ (#[ %][ #])][ (#[ %][ #])]))\n;s----(taken %)\n;k----(taken %)\n;q----(taken #)\n;g----(taken [lost-][kept-][open-])\n;m----(taken [#][~#])\n;*(taken)\n"
+-- of answers (CALLS, Output): a row for each key, with the code of its letter; `*` stands for every key
+abbrev pub answers_form : List (ℕ × List ℕ)
+answers_form =
+    (33, codes "(refused #)\n") ∷
+    (99, codes "---(taken (cleared #))\n") ∷
+    (110, codes "----(taken{ (errors}[ (entered[ %][ %][ %][ %][ %]) (restore[ (@ @)][ (@ @)][ (@ @)]][ (#[ %][ #])][ (#[ %][ #])]))\n") ∷
+    (100, codes "---------------(taken (errors[ (#[ %][ #])][ (#[ %][ #])]))\n") ∷
+    (116, codes "---------------(taken (logged[ (#[ %][ #])][ (#[ %][ #])]))\n") ∷
+    (101, codes "--(taken (action #) (signal #)----------- (logged[ (#[ %][ #])][ (#[ %][ #])]))\n") ∷
+    (115, codes "----(taken %)\n") ∷
+    (107, codes "----(taken %)\n") ∷
+    (113, codes "----(taken #)\n") ∷
+    (103, codes "----(taken [lost-][kept-][open-])\n") ∷
+    (109, codes "----(taken [#][~#])\n") ∷
+    (42, codes "(taken)\n") ∷ []
 
 -- of `show`, up to the queue
 abbrev pub parts_form : List ℕ

@@ -1,24 +1,38 @@
 // The two long forms; `printed` says how their characters go with numbers.
-ghost use Rattle.std.specs.Prelude.{◌≡◌};
+ghost use Rattle.std.specs.Prelude.{◌≡◌, map};
 ghost use Rattle.shown.specs.Forms.{answers_form, parts_form};
 
-// The forms of answers, each behind a key; the last one is that of every other key. An NMT event that is a reset enters states; of
+// The forms of answers by their keys; the last one is that of every other key. An NMT event that is a reset enters states; of
 // another one the errors are printed.
-pub fn answers() -> [u8; 478]
-    ensures { result ≡ answers_form }
+pub fn answers() -> [(u8, &'static [u8]); 12]
+    ensures { map (λ row. (row.0, row.1.now)) result ≡ answers_form }
 {
-    *b"!(refused #)\n;\
-        c---(taken (cleared #))\n;\
-        n----(taken{ (errors}[ (entered[ %][ %][ %][ %][ %]) (restore[ (@ @)][ (@ @)][ (@ @)]][ (#[ %][ #])][ (#[ %][ #])]))\n;\
-        d---------------(taken (errors[ (#[ %][ #])][ (#[ %][ #])]))\n;\
-        t---------------(taken (logged[ (#[ %][ #])][ (#[ %][ #])]))\n;\
-        e--(taken (action #) (signal #)----------- (logged[ (#[ %][ #])][ (#[ %][ #])]))\n;\
-        s----(taken %)\n;\
-        k----(taken %)\n;\
-        q----(taken #)\n;\
-        g----(taken [lost-][kept-][open-])\n;\
-        m----(taken [#][~#])\n;\
-        *(taken)\n"
+    [
+        (b'!', b"(refused #)\n"),
+        (b'c', b"---(taken (cleared #))\n"),
+        (
+            b'n',
+            b"----(taken{ (errors}[ (entered[ %][ %][ %][ %][ %]) (restore[ (@ @)][ (@ @)][ (@ @)]][ (#[ %][ #])][ (#[ %][ #])]))\n",
+        ),
+        (
+            b'd',
+            b"---------------(taken (errors[ (#[ %][ #])][ (#[ %][ #])]))\n",
+        ),
+        (
+            b't',
+            b"---------------(taken (logged[ (#[ %][ #])][ (#[ %][ #])]))\n",
+        ),
+        (
+            b'e',
+            b"--(taken (action #) (signal #)----------- (logged[ (#[ %][ #])][ (#[ %][ #])]))\n",
+        ),
+        (b's', b"----(taken %)\n"),
+        (b'k', b"----(taken %)\n"),
+        (b'q', b"----(taken #)\n"),
+        (b'g', b"----(taken [lost-][kept-][open-])\n"),
+        (b'm', b"----(taken [#][~#])\n"),
+        (b'*', b"(taken)\n"),
+    ]
 }
 
 // The machines, the counters, the watch over the cycle, the dictionary and the capacity of the queue.

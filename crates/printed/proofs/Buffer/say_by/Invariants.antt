@@ -1,13 +1,12 @@
--- `printed::Buffer::say_by` meets its contract: the rows one behind another. The loop's invariant: what is left of them gives the same form as the whole.
--- Assumes nothing.
-use Prim.Native.Nat.{◌-◌}
-use mathlib.Core.Path.{◌≡◌}
-use lib.ListN.{length}
-use Rattle.printed.proofs.Printing.{Left}
+-- What is left of the rows gives the same form as the whole, and nothing is laid yet.
+use Rattle.std.proofs.Common.{◌≡◌, length, map}
+use Rattle.printed.specs.Printed.{form_by}
 use Rattle.printed.proofs.Buffer.say_by.Given as goal
 
-abbrev pub invariant-loop-from : goal.invariant-loop-from
-invariant-loop-from l = Left l.rows l.key l.from × (l.self.page ≡ l.initial.self.page)
+abbrev pub invariant-loop-rows : goal.invariant-loop-rows
+invariant-loop-rows l =
+    (form_by (map (λ row. (row.0, row.1.now)) l.rows) l.key ≡ form_by (map (λ row. (row.0, row.1.now)) l.initial.rows) l.key)
+    × (l.self.page ≡ l.initial.self.page)
 
-abbrev pub decreases-loop-from : goal.decreases-loop-from
-decreases-loop-from l = length l.rows - l.from
+abbrev pub decreases-loop-rows : goal.decreases-loop-rows
+decreases-loop-rows l = length l.rows

@@ -1,5 +1,5 @@
 -- What is left of the part, gathered from here, is the whole.
-use Rattle.std.proofs.Common.{◌≡◌, ℕ, drop}
+use Rattle.std.proofs.Common.{◌≡◌, drop}
 use Rattle.script.specs.Lines.{gather_from}
 use Rattle.script.proofs.lines.Line.gather.Given as goal
 
