@@ -36,7 +36,7 @@ pub fn looked(node: NodeRecord, time: u64) -> u64
     node.last_heard
 }
 
-// All nodes, and the soonest moment at which one would be late then.
+// All nodes, and the soonest moment at which one would be late then. It writes them, so they are no Formed, which is lent to be read.
 pub fn look_all(nodes: &mut NodeWords, count: usize, time: u64) -> u64
     requires { well_formed (watched_of (nodes_of nodes.old) count) ≡ true }
     ensures { (nodes.new ≡ looked_words time count nodes.old)

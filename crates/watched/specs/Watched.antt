@@ -13,7 +13,7 @@ latest = 4611686018427387903
 abbrev pub in_time : ℕ → Bool
 in_time t = leb t latest
 
--- each item of a list passes a test, some item does
+-- each item of a list passes a test, some item does: by `both` and `either`, the words of the tests here, which std's are not by computation
 abbrev pub all_of : {A : Type 0} → (A → Bool) → List A → Bool
 all_of p [] = true
 all_of p (x ∷ xs) = both (p x) (all_of p xs)

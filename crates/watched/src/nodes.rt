@@ -215,7 +215,7 @@ pub fn find(nodes: &NodeWords, count: usize, node: u64, time: u64) -> Option<(us
 }
 
 // Whether some of well formed nodes does not rest, so that a tick is to look at them, and then whether its time is before no last-heard time (number 6);
-// where all rest, the soonest moment.
+// where all rest, the soonest moment. Three cases that a caller tells apart in one match; a Result of the last two would be a match within a match.
 #[derive(Clone, Copy)]
 pub enum Seen {
     Unformed,
