@@ -3,13 +3,13 @@
 use Rattle.std.specs.Prelude.{ℕ, ◌≡◌, Bool, true, List}
 use Rattle.types.specs.Pick.{pick}
 use Rattle.types.specs.Errors.{reported}
-use Rattle.types.specs.Refusals.{refusal_number}
 use Rattle.types.specs.declared.frame.error.types.DllErrors.{DllErrors}
-use Rattle.node.specs.Plain.{Call, Answer, refused, tick_answer}
+use Rattle.node.specs.Plain.{Call, Answer, tick_answer}
 use Rattle.watched.specs.Watched.{all_of, well_formed, Run, run, watching, well_lent}
 use Rattle.node.specs.Steps.{earliest}
 use Rattle.node.specs.Tick.{checks_heartbeats}
 use Rattle.node.specs.Run.{step}
+use Rattle.node.specs.InPlace.{answered}
 use Rattle.node.specs.Refines.{plain, left, rings, joins_all, Refines}
 use Rattle.tick.specs.Ticks.{Loses}
 use Rattle.head.specs.Words.{nmt_of, head_of}
@@ -40,9 +40,11 @@ roused_of c t vs =
     seen.Unformed
 
 -- what a tick answers
+abbrev pub tick_says : DllErrors → Answer
+tick_says es = tick_answer (reported es)
+
 abbrev pub tick_said : Result DllErrors Refusal → Answer
-tick_said (Ok es) = tick_answer (reported es)
-tick_said (Err r) = refused (refusal_number r)
+tick_said = answered tick_says
 
 -- by a declined tick no word is written
 abbrev pub tick_leaves : Result DllErrors Refusal → List ℕ → List ℕ → List ℕ
