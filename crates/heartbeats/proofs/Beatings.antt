@@ -3,6 +3,7 @@
 -- Assumes nothing.
 use Rattle.std.proofs.Common.{◌≡◌, ℕ, suc, ◌+◌, ◌-◌, ◌*◌, ◌<◌, ◌≤◌, Bool, true, false, eqb, ltb, leb, List, [], ◌∷◌, ◌++◌, map, length, get_or, take, drop, set, sym, refl, ap, ◌∙◌, subst, ap₂, add-one, arith, take-append-drop, length-take-le, get_or-take, ltb-true, le-ltb, lt-ltb, eq-eqb, ne_eqb, eqb-true, leb-true}
 use mathlib.Core.Bool.{false≢true}
+use Prim.Native.Nat.{min}
 use borrow.Author.Tests.{eqb-false}
 use Rattle.types.specs.Pick.{pick, both, either}
 use Rattle.types.specs.Types.{node}
@@ -26,7 +27,9 @@ use Rattle.node.specs.declared.calls.ErrorTaken.{ErrorTaken}
 use Rattle.node.proofs.Refining.{effect_written}
 use Rattle.node.proofs.Moments.{now_fits}
 use Rattle.types.proofs.Tests.{both_first, both_second}
+use Rattle.watched.specs.Climb.{sum_of, three_before}
 use Rattle.watched.proofs.Limits.{all_at}
+use Rattle.watched.proofs.Walk.{sooner_by_lem}
 use Rattle.watched.proofs.Watching.{places, few, node_at_lem, rests_heard, heard_written}
 use Rattle.heartbeats.specs.declared.dealt.Dealt.{Dealt}
 use Rattle.heartbeats.specs.PartWords.{signal_words, looked_time, look_words, looked_words, finished_words, ends_by, beat_words, beat_all_words}
@@ -113,6 +116,13 @@ module _ (t : ℕ) (ns₀ ns : List ℕ) (k i : ℕ) (formed : well_formed (watc
         g ∙ ap (λ (l : List WatchedNode). soonest s (map (looked t) l)) (from_here (nodes_of ns₀) k (places ns₀) below i no_node inside)
         ∙ ap (λ (v : WatchedNode). soonest (sooner_by s v) (map (looked t) (drop (i + 1) (take k (nodes_of ns₀))))) (ap (looked t) w ∙ sym is_looked)
         ∙ ap (λ (z : ℕ). soonest z (map (looked t) (drop (i + 1) (take k (nodes_of ns₀))))) (sym f)
+
+joined : (a x : ℕ) → min (sum_of a 3) (sum_of x 3) ≡ sum_of (min a x) 3
+joined a x = omega arith
+
+-- the walk carries what is three before
+pub sooner_joined : (a : ℕ) (w : WatchedNode) → sooner_by (sum_of a 3) w ≡ sum_of (min a (three_before w)) 3
+sooner_joined a w = sooner_by_lem (sum_of a 3) w (omega arith) ∙ joined a (three_before w)
 
 module _ (t : ℕ) (ns : List ℕ) (k : ℕ) (formed : well_formed (watched_of (nodes_of ns) k) ≡ true) where
   pub sooner_begins : soonest never (map (looked t) (watched_of (nodes_of ns) k)) ≡ soonest never (map (looked t) (drop 0 (take k (nodes_of ns))))

@@ -43,14 +43,14 @@ pub fn look_all(nodes: &mut NodeWords, count: usize, time: u64) -> u64
         × (nodes_of nodes.new ≡ looked_first time count (nodes_of nodes.old))
         × (result ≡ soonest never (map (looked time) (watched_of (nodes_of nodes.old) count))) }
 {
-    let mut soonest = NEVER;
+    let mut early = NEVER;
     for i in 0..count {
         let mut node = NodeRecord::at(nodes, i);
         node.last_heard = looked(node, time);
         nodes[3 * i + 2] = node.last_heard;
-        soonest = node.sooner(soonest);
+        early = early.min(node.three_before());
     }
-    soonest
+    early.saturating_add(3)
 }
 
 // The error of a late node: neither counter 1 nor an entry follows from it.

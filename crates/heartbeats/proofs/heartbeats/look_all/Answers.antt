@@ -1,11 +1,14 @@
 -- `heartbeats::heartbeats::look_all` meets its contract.
 -- Assumes nothing.
-use Rattle.std.proofs.Common.{◌≡◌, ◌<◌, ℕ, refl, ap, ◌∙◌, arith}
+use Rattle.std.proofs.Common.{◌≡◌, ◌<◌, ℕ, refl, sym, ap, ◌∙◌, arith}
+use Prim.Native.Nat.{min}
+use Rattle.watched.specs.Climb.{sum_of, three_before}
+use Rattle.watched.specs.Watched.{heard_now}
 use Rattle.watched.specs.Nodes.{node_of, nodes_of}
 use Rattle.watched.proofs.Watching.{few}
 use Rattle.heartbeats.specs.Parts.{looked_first}
 use Rattle.heartbeats.specs.PartWords.{looked_words}
-use Rattle.heartbeats.proofs.Beatings.{looks_begin, look_words_lem, look_nodes, look_sooner, sooner_begins, sooner_ends}
+use Rattle.heartbeats.proofs.Beatings.{looks_begin, look_words_lem, look_nodes, look_sooner, sooner_begins, sooner_joined, sooner_ends}
 use Rattle.heartbeats.proofs.heartbeats.look_all.Goals as goal
 
 pub loop-i-init : goal.loop-i-init
@@ -18,11 +21,13 @@ loop-i-preserved c =
     let l = c.loop-i in
     let a = c.args in
     let h : l.i < 32 = omega (arith, c.loop-i-test.true, l.invariant.3) in
-    let w = node_of c.at-node.result in (
+    let w = node_of c.at-node.result in
+    let e : c.min-early.result ≡ min l.early (three_before (heard_now c.looked.result w)) = c.min-early.ensures ∙ ap (min l.early) c.three_before.ensures in (
       look_words_lem a.time a.nodes.now l.nodes l.i h (omega arith) w c.at-node.ensures c.looked.result c.looked.ensures l.invariant.0,
       look_nodes a.time a.nodes.now l.nodes l.i h (omega arith) w c.at-node.ensures c.looked.result c.looked.ensures l.invariant.1,
       look_sooner a.time a.nodes.now l.nodes a.count l.i c.requires c.loop-i-test.true l.invariant.1 w c.at-node.ensures c.looked.result c.looked.ensures
-          _ l.soonest l.invariant.2 c.sooner-soonest.result c.sooner-soonest.ensures,
+          _ (sum_of l.early 3) l.invariant.2 (sum_of c.min-early.result 3)
+          (ap (λ (n : ℕ). sum_of n 3) e ∙ sym (sooner_joined l.early (heard_now c.looked.result w))),
       l.invariant.3,
     )
 
@@ -30,8 +35,9 @@ pub returns : goal.returns
 returns c =
     let l = c.loop-i in
     let a = c.args in
+    let s : c.saturating_add.result ≡ sum_of l.early 3 = omega (arith, c.saturating_add.ensures) in
     let e : l.i ≡ a.count = omega arith in (
       l.invariant.0 ∙ ap (λ (k : ℕ). looked_words a.time k a.nodes.now) e,
       l.invariant.1 ∙ ap (λ (k : ℕ). looked_first a.time k (nodes_of a.nodes.now)) e,
-      sooner_ends a.time a.nodes.now a.count c.requires l.i _ l.soonest l.invariant.2 c.loop-i-test.false,
+      s ∙ sooner_ends a.time a.nodes.now a.count c.requires l.i _ (sum_of l.early 3) l.invariant.2 c.loop-i-test.false,
     )

@@ -1,7 +1,8 @@
--- `heartbeats::heartbeats::look_all` meets its contract. The invariant: the first i nodes are looked at, as words and as nodes, and the soonest moment is theirs.
+-- `heartbeats::heartbeats::look_all` meets its contract. The invariant: the first i nodes are looked at, as words and as nodes, and three behind the number carried is the soonest moment of theirs.
 -- Assumes nothing.
 use Rattle.std.proofs.Common.{◌≡◌, ◌≤◌, map, take, drop}
 use Rattle.watched.specs.Watched.{watched_of}
+use Rattle.watched.specs.Climb.{sum_of}
 use Rattle.watched.specs.Nodes.{nodes_of, never, soonest}
 use Rattle.node.specs.Tick.{looked}
 use Rattle.heartbeats.specs.Parts.{looked_first}
@@ -12,5 +13,5 @@ abbrev pub invariant-loop-i : goal.invariant-loop-i
 invariant-loop-i l =
     (l.nodes ≡ looked_words l.time l.i l.initial.nodes)
     × (nodes_of l.nodes ≡ looked_first l.time l.i (nodes_of l.initial.nodes))
-    × (soonest never (map (looked l.time) (watched_of (nodes_of l.initial.nodes) l.count)) ≡ soonest l.soonest (map (looked l.time) (drop l.i (take l.count (nodes_of l.initial.nodes)))))
+    × (soonest never (map (looked l.time) (watched_of (nodes_of l.initial.nodes) l.count)) ≡ soonest (sum_of l.early 3) (map (looked l.time) (drop l.i (take l.count (nodes_of l.initial.nodes)))))
     × (l.count ≤ 32)
