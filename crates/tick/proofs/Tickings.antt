@@ -13,7 +13,6 @@ use Rattle.types.proofs.Tests.{both_second}
 use Rattle.std.specs.declared.result.Result.{Result}
 use Rattle.std.specs.declared.option.Option.{Option}
 use Rattle.std.specs.declared.result.Result.TheVariants.{Ok, Err}
-use Rattle.std.specs.declared.option.Option.TheVariants.{Some, None}
 use Rattle.types.specs.declared.frame.error.types.DllErrors.{DllErrors}
 use Rattle.types.specs.declared.refusals.Refusal.{Refusal}
 use Rattle.head.specs.Head.{Head, head_with_earliest}
@@ -32,11 +31,11 @@ use Rattle.heartbeats.specs.Parts.{looked_first}
 use Rattle.watched.proofs.Lists.{each_nodes}
 use Rattle.tick.proofs.TickRefines.{tick_idle, tick_ended, tick_goes_on, TickLeft, tick_unformed, tick_late, tick_before, tick_accepted}
 use Rattle.head.specs.Words.{nmt_of, soc_of, head_of}
-use Rattle.watched.specs.Nodes.{nodes_of, rests, not_before, never, soonest, nodes_tried, seen_of}
+use Rattle.watched.specs.Nodes.{nodes_of, rests, not_before, never, soonest}
 use Rattle.types.specs.declared.nmt.states.NmtState.{NmtState}
 use Rattle.watched.specs.declared.nodes.Seen.{Seen}
 use Rattle.watched.specs.declared.nodes.Seen.TheVariants as seen
-use Rattle.watched.proofs.Watching.{places, few, lent_words, lent_inside, tried_unformed, tried_formed, seen_unformed, seen_roused, seen_resting}
+use Rattle.watched.proofs.Watching.{places, few, lent_words, lent_inside, seen_unformed, seen_roused, seen_resting}
 use Rattle.heartbeats.specs.declared.dealt.Dealt.{Dealt}
 use Rattle.heartbeats.specs.PartWords.{beat_all_words, looked_words}
 use Rattle.tick.specs.TickWords.{rest_words, tick_words}
@@ -178,23 +177,6 @@ module _ (ws q m : List ℕ) (t s : ℕ) where
       run_accepted ws q m r t a b (still_times ws q m t (watching r) h) d ws₁ q' m' (still_phases ws q m t (watching r) h d ws₁ q' m' k) long r
       (still_choice ws q m t (watching r) h (changing (map (looked t)) r) r (λ z. sym (rest_run t r (lent_inside r a) z)))
       x (y ∙ ap moment_of e ∙ moment_of_lem (watching r) (all_fit (watching r) f)) ws' w
-
--- what the first look answers, by whether heartbeats are checked
-module _ (c : Bool) (t : ℕ) (vs : List WatchedNode) where
-  abbrev roused_by : Bool → Bool → ℕ → Seen
-  roused_by c f s = pick f (pick (is_still c t vs) (seen.Resting s) (seen.Roused (all_of (not_before t) vs))) seen.Unformed
-
-  pub looks_roused : c ≡ true → (a : Seen) → a ≡ seen_of t vs → a ≡ roused_of c t vs
-  looks_roused e a g = g ∙ ap (λ (c : Bool). roused_by c (well_formed vs) (soonest never vs)) (sym e)
-
-  module _ (e : c ≡ false) (a : Option ℕ) (g : a ≡ nodes_tried vs) where
-    pub tried_rests : (x : ℕ) → a ≡ Some x → seen.Resting x ≡ roused_of c t vs
-    tried_rests x h =
-        let y = tried_formed (well_formed vs) (soonest never vs) a g x h in
-        sym (λ i. roused_by (e i) (y.0 i) (sym y.1 i))
-
-    pub tried_none : a ≡ None → seen.Unformed ≡ roused_of c t vs
-    tried_none h = sym (ap (λ (f : Bool). roused_by c f (soonest never vs)) (tried_unformed (well_formed vs) (soonest never vs) a g h))
 
 -- the nodes in words
 module _ (ws q m ns : List ℕ) (k t : ℕ) where

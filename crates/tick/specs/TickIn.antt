@@ -46,11 +46,12 @@ tick_says es = tick_answer (reported es)
 abbrev pub tick_said : Result DllErrors Refusal → Answer
 tick_said = answered tick_says
 
--- by a declined tick no word is written
+-- by a declined tick no word is written; `unless_refused` says so of calls that answer nothing
 abbrev pub tick_leaves : Result DllErrors Refusal → List ℕ → List ℕ → List ℕ
 tick_leaves (Ok es) ws ws' = ws'
 tick_leaves (Err r) ws ws' = ws
 
+-- The lists stand one by one, as the contracts that cite it name them: a record would be made in each of those, and taken apart in each proof.
 -- Of a tick at t on the words ws, the memory q and m and the run r, which answered a and left ws', q', m' and r': head, answer and run are the plain
 -- head's; every byte of both memories with the places of both rings, and every word of the head, is known.
 pub record TickedOn (ws q m : List ℕ) (r : Run) (t : ℕ) (a : Result DllErrors Refusal) (ws' q' m' : List ℕ) (r' : Run) : Type 0 where

@@ -1,4 +1,6 @@
 // The tick (node/cn/tick.rs), after its SDO step: the heartbeats, then what a passed deadline leads to.
+// Head, queue and history are lent one by one: of an array behind a struct's reference the check knows no length, and each method of a struct of the three
+// would state beside its promise that the references stay the same.
 ghost use Rattle.std.specs.Prelude.{◌≡◌, true};
 ghost use Rattle.watched.specs.Watched.{all_of, well_formed, watched_of};
 ghost use Rattle.node.specs.Tick.{checks_heartbeats, tick_taken};

@@ -1,41 +1,13 @@
 -- `tick::deadline::next_deadline` meets its contract: every sum fits.
 -- Assumes nothing.
-use native.Mathlib.Omega.{arith}
 use mathlib.Core.Path.{ap, ◌∙◌}
-use native.Mathlib.Nat.{div-le_self}
 use Rattle.head.specs.declared.state.Dictionary.{Dictionary}
 use Rattle.head.specs.declared.state.SocWatch.{SocWatch}
 use Prim.Native.Nat.{◌/◌, min}
 use Rattle.node.specs.Steps.{cycle_of, tolerance_of}
-use Rattle.node.proofs.Watch.{ahead}
 use Rattle.tick.proofs.DeadlineLaws.{next_is}
 use Rattle.head.specs.Words.{head_of}
 use Rattle.tick.proofs.deadline.next_deadline.Goals as goal
-
-pub nonzero_div-result : goal.nonzero_div-result
-unfolding head_of
-nonzero_div-result c =
-    omega (arith, c.requires, c.cycle-cycle_us.ensures.0, ap cycle_of c.od_of-od.ensures)
-
-pub overflow_add-result : goal.overflow_add-result
-unfolding head_of
-overflow_add-result c =
-    omega (arith, div-le_self c.time_since-elapsed.result c.cycle-cycle_us.result, c.time_since-elapsed.ensures, c.args.time.in_time)
-
-pub overflow_mul-result : goal.overflow_mul-result
-unfolding head_of
-overflow_mul-result c =
-    omega (arith, ahead c.time_since-elapsed.result c.cycle-cycle_us.result, c.time_since-elapsed.ensures, c.cycle-cycle_us.ensures.1, c.args.time.in_time)
-
-pub overflow_add-result-2 : goal.overflow_add-result-2
-unfolding head_of
-overflow_add-result-2 c =
-    omega (arith, ahead c.time_since-elapsed.result c.cycle-cycle_us.result, c.time_since-elapsed.ensures, c.cycle-cycle_us.ensures.1, c.last_soc-last.ensures, c.args.time.in_time)
-
-pub overflow_add-result-3 : goal.overflow_add-result-3
-unfolding head_of
-overflow_add-result-3 c =
-    omega (arith, ahead c.time_since-elapsed.result c.cycle-cycle_us.result, c.time_since-elapsed.ensures, c.cycle-cycle_us.ensures.1, c.last_soc-last.ensures, c.tolerance_us.ensures.1, c.args.time.in_time)
 
 pub returns : goal.returns
 unfolding head_of
