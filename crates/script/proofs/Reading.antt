@@ -1,14 +1,23 @@
 -- Each turn of the walks over a table, over digits and over entries, and each way in which a value is named.
 -- Assumes nothing.
 use Prim.Native.Nat.{ℕ, suc, ◌+◌, ◌-◌, ◌*◌, ◌≤◌, ◌<◌}
-use mathlib.Core.Path.{◌≡◌}
+use mathlib.Core.Path.{◌≡◌, subst}
 use mathlib.Core.Bool.{Bool, true, false}
 use mathlib.Core.List.{List}
 use native.Mathlib.Numerals.{unary_clauses}
 use lib.ListN.{get_or, set}
 use borrow.Author.Tests.{lt-ltb, le-ltb, eq-eqb, ne_eqb}
+use Rattle.std.specs.Prelude.{Option, Some, None, MatchOption}
 use Rattle.patterns.specs.Patterns.{digit_of, unreadable, kept, Matched, matched, match_at}
 use Rattle.script.specs.Script.{codes, got, bytes_at, entries_at, value, values}
+
+-- a character that is no digit, and one that is
+module _ {n : ℕ} {x : Option ℕ} (m : MatchOption x (15 < n) (λ d. (d ≡ n) × (d ≤ 15))) where
+  pub no_digit : x ≡ None → 15 < n
+  no_digit e = subst (λ (x : Option ℕ). MatchOption x (15 < n) (λ d. (d ≡ n) × (d ≤ 15))) e m
+
+  pub a_digit : {d : ℕ} → x ≡ Some d → (d ≡ n) × (d ≤ 15)
+  a_digit e = subst (λ (x : Option ℕ). MatchOption x (15 < n) (λ d. (d ≡ n) × (d ≤ 15))) e m
 
 module _ (line : List ℕ) (k : ℕ) (at : ℕ) (bs : List ℕ) (first : ℕ) where
   -- the first turn

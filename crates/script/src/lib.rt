@@ -87,10 +87,8 @@ fn read_desk(line: &[u8], at: usize, given: &mut Given, bytes: &mut EntryBuffer)
     if 100 < count {
         return None;
     }
-    if read_bytes(line, at, count, bytes, 0) {
-        return Some(b'D');
-    }
-    None
+    read_bytes(line, at, count, bytes, 0)?;
+    Some(b'D')
 }
 
 // Reads the 20 bytes of an entry.
@@ -103,10 +101,8 @@ fn read_entry(line: &[u8], at: usize, bytes: &mut EntryBuffer) -> Option<u8>
     if line.len() - at != 40 {
         return None;
     }
-    if read_bytes(line, at, 20, bytes, 0) {
-        return Some(b'r');
-    }
-    None
+    read_bytes(line, at, 20, bytes, 0)?;
+    Some(b'r')
 }
 
 // Reads a line that is no comment. Each of the first three is read in its own way, so they are no rows of the table.

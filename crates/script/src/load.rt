@@ -48,10 +48,8 @@ fn read_history(line: &[u8], at: usize, given: &mut Given, bytes: &mut EntryBuff
         return None;
     }
     given[7] = 20 * count as u64;
-    if read_entries(line, at, count, bytes) {
-        return Some(b'l');
-    }
-    None
+    read_entries(line, at, count, bytes)?;
+    Some(b'l')
 }
 
 pub(crate) fn read_load(

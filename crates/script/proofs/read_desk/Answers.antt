@@ -1,8 +1,10 @@
 -- `script::read_desk` meets its contract: by the tests.
 -- Assumes nothing.
 use Prim.Native.Nat.{◌-◌, ◌/◌}
-use mathlib.Core.Path.{refl}
+use mathlib.Core.Path.{◌≡◌, refl, ap}
 use lib.ListN.{length}
+use Rattle.std.specs.Prelude.{None, is_some}
+use borrow.Author.Rules.{rules}
 use Rattle.script.proofs.Saying.{desk_past, desk_other, desk_none, desk_part, desk_long, desk_fails, desk_taken}
 use Rattle.script.proofs.read_desk.Goals as goal
 
@@ -26,10 +28,12 @@ pub returns-then-count-gt100 : goal.returns-then-count-gt100
 returns-then-count-gt100 c =
     let a = c.args in desk_long a.line.now a.at a.given.now a.bytes.now c.if-line-at.false ((length a.line.now - a.at) / 2) refl c.if-count-eq0.false c.if-at-count.false c.if-count-gt100.true
 
-pub returns-then-read_bytes : goal.returns-then-read_bytes
-returns-then-read_bytes c =
-    let a = c.args in desk_taken a.line.now a.at a.given.now a.bytes.now c.if-line-at.false ((length a.line.now - a.at) / 2) refl c.if-count-eq0.false c.if-at-count.false c.if-count-gt100.false c.read_bytes.result _ c.read_bytes.ensures c.if-read_bytes.true
+pub returns-in_err-read_bytes : goal.returns-in_err-read_bytes
+returns-in_err-read_bytes c =
+    let a = c.args in
+    let r : c.from_residual.result ≡ None = search rules in
+    rw r (desk_fails a.line.now a.at a.given.now a.bytes.now c.if-line-at.false ((length a.line.now - a.at) / 2) refl c.if-count-eq0.false c.if-at-count.false c.if-count-gt100.false (is_some c.read_bytes.result) _ c.read_bytes.ensures (ap is_some c.in_err-read_bytes.was))
 
 pub returns : goal.returns
 returns c =
-    let a = c.args in desk_fails a.line.now a.at a.given.now a.bytes.now c.if-line-at.false ((length a.line.now - a.at) / 2) refl c.if-count-eq0.false c.if-at-count.false c.if-count-gt100.false c.read_bytes.result _ c.read_bytes.ensures c.if-read_bytes.false
+    let a = c.args in desk_taken a.line.now a.at a.given.now a.bytes.now c.if-line-at.false ((length a.line.now - a.at) / 2) refl c.if-count-eq0.false c.if-at-count.false c.if-count-gt100.false (is_some c.read_bytes.result) _ c.read_bytes.ensures (ap is_some c.in_ok-read_bytes.was)
