@@ -2,7 +2,7 @@
 // itself. The place behind what was matched is UNREADABLE where it does not match, and so is every place from there on.
 #![tactic(auto)]
 
-ghost use Rattle.std.specs.Prelude.{◌≡◌, ◌≤◌, ◌<◌, length};
+ghost use Rattle.std.specs.Prelude.{◌≡◌, ◌≤◌, ◌<◌, length, MatchOption};
 ghost use Rattle.patterns.specs.Patterns.{digit_of, radix, grown, digits_at, is_hex, number_at, numbers_in, carries_byte, byte_or_any, largest_of, is_missing, matched, read_number, match_one, match_at};
 
 use answers::NOTHING;
@@ -23,15 +23,15 @@ struct Number {
     end: usize,
 }
 
-// The value of a hexadecimal digit of either case; 16 of any other character, which ends the digits of either base.
-pub fn digit_of(c: u8) -> u8
-    ensures { (result ≡ digit_of c) × (result ≤ 16) }
+// The value of a hexadecimal digit of either case.
+pub fn digit_of(c: u8) -> Option<u8>
+    ensures { MatchOption result (15 < digit_of c) (λ d. (d ≡ digit_of c) × (d ≤ 15)) }
 {
     match c {
-        b'0'..=b'9' => c - b'0',
-        b'A'..=b'F' => c - b'A' + 10,
-        b'a'..=b'f' => c - b'a' + 10,
-        _ => 16,
+        b'0'..=b'9' => Some(c - b'0'),
+        b'A'..=b'F' => Some(c - b'A' + 10),
+        b'a'..=b'f' => Some(c - b'a' + 10),
+        _ => None,
     }
 }
 
@@ -61,7 +61,9 @@ fn digits(line: &[u8], from: usize, base: u8) -> Number
         end: UNREADABLE,
     };
     for at in from..line.len() {
-        let digit = digit_of(line[at]);
+        let Some(digit) = digit_of(line[at]) else {
+            return number;
+        };
         if base <= digit {
             return number;
         }

@@ -1,18 +1,9 @@
 // Bytes that stand in a line as two hexadecimal digits each.
-ghost use Rattle.std.specs.Prelude.{◌≡◌, ◌+◌, ◌*◌, ◌≤◌, ◌<◌, length, is_some, MatchOption};
-ghost use Rattle.patterns.specs.Patterns.{digit_of};
+ghost use Rattle.std.specs.Prelude.{◌≡◌, ◌+◌, ◌*◌, ◌≤◌, length, is_some};
 ghost use Rattle.script.specs.Script.{got, bytes_at, entries_at};
 
 use crate::EntryBuffer;
 use patterns::digit_of;
-
-// The value of a hexadecimal digit.
-fn digit(c: u8) -> Option<u8>
-    ensures { MatchOption result (15 < digit_of c) (λ d. (d ≡ digit_of c) × (d ≤ 15)) }
-{
-    let digit = digit_of(c);
-    (digit < 16).then_some(digit)
-}
 
 // Reads as many bytes as are asked for, two digits each from a place on, which become those from `first` on; None where one is no digit.
 pub(crate) fn read_bytes(
@@ -26,8 +17,8 @@ pub(crate) fn read_bytes(
     ensures { got (is_some result) bytes.new ≡ bytes_at count line.now at bytes.old first }
 {
     for i in 0..count {
-        let high = digit(line[at + 2 * i])?;
-        let low = digit(line[at + 2 * i + 1])?;
+        let high = digit_of(line[at + 2 * i])?;
+        let low = digit_of(line[at + 2 * i + 1])?;
         bytes[first + i] = 16 * high + low;
     }
     Some(())

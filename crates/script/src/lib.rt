@@ -17,7 +17,8 @@ use patterns::{Given, UNREADABLE, match_at};
 // The bytes of as many entries as a load may have, 300.
 pub type EntryBuffer = [u8; 6000];
 
-// The keys of the lines that a pattern reads whole; the last one is that of the empty line.
+// The keys of the lines that a pattern reads whole; the last one is that of the empty line. A key is its letter, no enum: the functions that
+// take one answer for every letter, and an enum would ask more of their callers.
 const TABLE: [(u8, &[u8]); 25] = [
     (b'n', b"nmt L"),
     (b'W', b"watch B L L"),

@@ -4,6 +4,7 @@ use Prim.Native.Nat.{ℕ, ◌+◌, ◌≤◌, ◌<◌}
 use mathlib.Core.Path.{◌≡◌, refl, ◌∙◌}
 use mathlib.Core.List.{List, ◌∷◌}
 use native.Mathlib.Numerals.{add-one}
+use native.Mathlib.Omega.{arith}
 use lib.ListN.{length, get_or, drop, drop_of_length-le}
 use lib.Seq.{drop-cons}
 use borrow.Author.Tests.{le-leb, lt-leb, eq-eqb, ne_eqb}
@@ -37,21 +38,27 @@ pub loop-at-init : goal.loop-at-init
 loop-at-init c =
     refl
 
+pub returns-in_default : goal.returns-in_default
+returns-in_default c =
+    let l = c.loop-at in
+    let none : 15 < digit_of (get_or c.args.line.now l.at 0) = c.in_default.ensures in
+    stops _ _ l.number l.at c.loop-at-test.true _ refl (omega (arith, c.requires, none)) ∙ l.invariant
+
 pub returns-then-base-digit : goal.returns-then-base-digit
 returns-then-base-digit c =
     let l = c.loop-at in
-    stops _ _ l.number l.at c.loop-at-test.true _ c.digit_of-digit.ensures.0 c.if-base-digit.true ∙ l.invariant
+    stops _ _ l.number l.at c.loop-at-test.true _ c.in-Some.ensures.0 c.if-base-digit.true ∙ l.invariant
 
 pub returns-then-number : goal.returns-then-number
 returns-then-number c =
     let l = c.loop-at in
-    fails _ _ l.number l.at c.loop-at-test.true _ c.digit_of-digit.ensures.0 c.if-base-digit.false _ c.grown-number.ensures c.if-number.true
+    fails _ _ l.number l.at c.loop-at-test.true _ c.in-Some.ensures.0 c.if-base-digit.false _ c.grown-number.ensures c.if-number.true
     ∙ l.invariant
 
 pub loop-at-preserved : goal.loop-at-preserved
 loop-at-preserved c =
     let l = c.loop-at in
-    goes _ _ l.number l.at c.loop-at-test.true _ c.digit_of-digit.ensures.0 c.if-base-digit.false _ c.grown-number.ensures c.if-number.false
+    goes _ _ l.number l.at c.loop-at-test.true _ c.in-Some.ensures.0 c.if-base-digit.false _ c.grown-number.ensures c.if-number.false
     ∙ l.invariant
 
 pub returns : goal.returns

@@ -17,22 +17,22 @@ returns-in_err-high c =
     let l = c.loop-i in
     let a = c.args in
     let r : c.from_residual.result ≡ None = search rules in
-    rw r (bytes_high a.line.now (a.count - l.i) (a.at + 2 * l.i) l.bytes (a.first + l.i) (a.count - (l.i + 1)) (omega (arith, c.loop-i-test.true)) _ _ refl refl (no_digit c.digit.ensures c.in_err-high.was) ∙ l.invariant.0)
+    rw r (bytes_high a.line.now (a.count - l.i) (a.at + 2 * l.i) l.bytes (a.first + l.i) (a.count - (l.i + 1)) (omega (arith, c.loop-i-test.true)) _ _ refl refl (no_digit c.digit_of.ensures c.in_err-high.was) ∙ l.invariant.0)
 
 pub returns-in_err-low : goal.returns-in_err-low
 returns-in_err-low c =
     let l = c.loop-i in
     let a = c.args in
     let r : c.from_residual-in_err-low.result ≡ None = search rules in
-    let high = a_digit c.digit.ensures c.in_ok-high.was in
-    rw r (bytes_low a.line.now (a.count - l.i) (a.at + 2 * l.i) l.bytes (a.first + l.i) (a.count - (l.i + 1)) (omega (arith, c.loop-i-test.true)) _ _ high.0 refl high.1 (no_digit c.digit-in-loop-i.ensures c.in_err-low.was) ∙ l.invariant.0)
+    let high = a_digit c.digit_of.ensures c.in_ok-high.was in
+    rw r (bytes_low a.line.now (a.count - l.i) (a.at + 2 * l.i) l.bytes (a.first + l.i) (a.count - (l.i + 1)) (omega (arith, c.loop-i-test.true)) _ _ high.0 refl high.1 (no_digit c.digit_of-in-loop-i.ensures c.in_err-low.was) ∙ l.invariant.0)
 
 pub loop-i-preserved : goal.loop-i-preserved
 loop-i-preserved c =
     let l = c.loop-i in
     let a = c.args in
-    let high = a_digit c.digit.ensures c.in_ok-high.was in
-    let low = a_digit c.digit-in-loop-i.ensures c.in_ok-low.was in (
+    let high = a_digit c.digit_of.ensures c.in_ok-high.was in
+    let low = a_digit c.digit_of-in-loop-i.ensures c.in_ok-low.was in (
       bytes_goes a.line.now (a.count - l.i) (a.at + 2 * l.i) l.bytes (a.first + l.i) (a.count - (l.i + 1)) (omega (arith, c.loop-i-test.true)) _ _ high.0 low.0 high.1 low.1 _ _ (omega arith) (omega arith) ∙ l.invariant.0,
       search rules,
       search rules,
