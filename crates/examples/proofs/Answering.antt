@@ -19,9 +19,8 @@ use Rattle.std.specs.Result.{result_eq}
 use Rattle.std.specs.declared.result.Result.{Result}
 use Rattle.std.specs.declared.result.Result.TheVariants.{Ok, Err}
 use Rattle.types.specs.declared.refusals.Refusal.{Refusal}
-use Rattle.nmt.specs.Resets.{Passed, range}
-use Rattle.nmt.specs.declared.state_machine.IndexRange.{IndexRange}
-use Rattle.node.specs.Plain.{refused, taken, nmt_answer, dll_answer, tick_answer}
+use Rattle.nmt.specs.Resets.{Passed}
+use Rattle.node.specs.Plain.{refused, nmt_answer, dll_answer, tick_answer}
 use Rattle.node.specs.InPlace.{dll_said}
 use Rattle.tick.specs.TickIn.{tick_said}
 use Rattle.examples.specs.Same.{Exactly}
@@ -88,24 +87,6 @@ five_entered a b c d e true =
     (λ h. λ i. h.0.0.0.0 i ∷ h.0.0.0.1 i ∷ h.0.0.1 i ∷ h.0.1 i ∷ h.1 i ∷ [])
     (λ h. ((((cc, cc), cc), cc), cc))
 
-pub none_restored : (whole : Bool) → Exactly (not whole) ([] ≡ (passed_of whole).ranges)
-none_restored true = never (λ e. clash (cc))
-none_restored false = always refl
-
-pub one_restored : (a : IndexRange) (whole : Bool) → Exactly false (a ∷ [] ≡ (passed_of whole).ranges)
-one_restored a true = never (λ e. clash (cc))
-one_restored a false = never (λ e. clash (cc))
-
-pub three_restored :
-    (a b c : IndexRange) (whole : Bool) {x y z : Bool} →
-    Exactly x (a ≡ range 0x2000 0x5FFF) →
-    Exactly y (b ≡ range 0x6000 0x9FFF) →
-    Exactly z (c ≡ range 0x1000 0x1FFF) →
-    Exactly (whole && x && y && z) (a ∷ b ∷ c ∷ [] ≡ (passed_of whole).ranges)
-three_restored a b c false x y z = never (λ h. clash (cc))
-three_restored a b c true x y z =
-    exact_by (exact_and (exact_and x y) z) (λ h. λ i. h.0.0 i ∷ h.0.1 i ∷ h.1 i ∷ []) (λ h. ((cc, cc), cc))
-
 -- the answers
 pub nmt_same : (es : List DllError) (p : Passed) (t : DllErrors) (whole : Bool) {r s : Bool} → Exactly r (es ≡ reported t) → Exactly s (p ≡ passed_of whole) → Exactly (r && s) (nmt_answer es p ≡ nmt_stated t whole)
 nmt_same es p t whole x y =
@@ -113,9 +94,6 @@ nmt_same es p t whole x y =
 
 pub nmt_refused : (n : ℕ) (t : DllErrors) (whole : Bool) → Exactly false (refused n ≡ nmt_stated t whole)
 nmt_refused n t whole = never (λ e. clash (cc))
-
-pub never_taken : (n : ℕ) → Exactly false (refused n ≡ taken)
-never_taken n = never (λ e. clash (cc))
 
 -- of a DLL event and of a tick, compared by `==`
 pub dll_same :
