@@ -1,18 +1,10 @@
 // Where a byte stands in a text.
-ghost use Rattle.std.specs.Prelude.{◌≡◌, ◌+◌, ◌≤◌, length};
-ghost use Rattle.forms.specs.Find.{index_of, slice};
+ghost use Rattle.std.specs.Prelude.{◌≡◌};
+ghost use Rattle.forms.specs.Find.{index_of};
 
-// The first place of a byte from a place on and below another; that other one, where there is none.
-pub fn find(text: &[u8], from: usize, to: usize, byte: u8) -> usize
-    requires ordered { from ≤ to }
-    requires inside { to ≤ length text.now }
-    ensures place { result ≡ from + index_of byte (slice from to text.now) }
-    ensures within { result ≤ to }
+// The first place of a byte.
+pub fn find(text: &[u8], byte: u8) -> Option<usize>
+    ensures { result ≡ index_of byte text.now }
 {
-    for at in from..to {
-        if text[at] == byte {
-            return at;
-        }
-    }
-    to
+    text.iter().position(|&other| other == byte)
 }

@@ -50,9 +50,7 @@ impl<W: Write> Output<W> {
         ensures failed { IsErr self.old.outcome → self.new ≡ self.old }
         ensures written { IsOk self.new.outcome → Appends (W.contents self.old.to) (W.contents self.new.to) (decimal n) }
     {
-        if self.outcome.is_ok() {
-            self.outcome = write!(self.to, "{n}");
-        }
+        write!(self, "{n}");
     }
 
     // Whether all was written.

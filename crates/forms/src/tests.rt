@@ -49,6 +49,7 @@ fn nothing_behind_a_failure(rt: HostRuntime) {
 
 #[test]
 fn first_semicolon(rt: HostRuntime) {
-    assert_eq!(rt; find(b"a;b;c", 2, 5, b';'), 3);
-    assert_eq!(rt; find(b"a;b;c", 4, 5, b';'), 5);
+    let text = b"a;b;c".as_slice();
+    assert_eq!(rt; find(&text[2..5], b';'), Some(1));
+    assert_eq!(rt; find(&text[4..5], b';'), None);
 }
