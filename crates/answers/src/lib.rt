@@ -88,10 +88,7 @@ impl From<DllError> for Carried {
 fn said_of(number: Option<u8>) -> u64
     ensures { result ≡ said_of number }
 {
-    match number {
-        Some(n) => u64::from(n),
-        None => NOTHING,
-    }
+    number.map_or(NOTHING, u64::from)
 }
 
 // Of a call that was taken, before anything else is written.

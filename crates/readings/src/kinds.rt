@@ -9,10 +9,9 @@ use types::frame::error::kinds::DllErrorKind;
 fn kind(code: u64) -> Option<u8>
     ensures { result ≡ of_code (kind_behind code) }
 {
-    match DllErrorKind::from_error_code(code) {
-        Ok(kind) => Some(kind.place()),
-        Err(_) => None,
-    }
+    DllErrorKind::from_error_code(code)
+        .ok()
+        .map(DllErrorKind::place)
 }
 
 // A line for a code that names a kind, and how many codes name none.

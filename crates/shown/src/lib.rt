@@ -158,31 +158,19 @@ fn entry_numbers(entry: ErrorEntry) -> [u64; 8]
 pub fn entry(bytes: &[u8]) -> [u64; 8]
     ensures { result ≡ reply_shown (read_reply bytes.now 0) }
 {
-    match read_at(bytes, 0) {
-        Ok(entry) => entry_numbers(entry),
-        Err(_) => [0; 8],
-    }
-}
-
-fn bytes_of(entry: Option<ErrorEntry>) -> Option<[u8; 20]>
-    ensures { result ≡ bytes_shown entry }
-{
-    match entry {
-        Some(entry) => Some(entry.serialize()),
-        None => None,
-    }
+    read_at(bytes, 0).map_or([0; 8], entry_numbers)
 }
 
 // The bytes of the entry that waits at a place, the oldest at 0.
 pub fn waiting_at(head: &Head, queue: &[u8; 640], place: usize) -> Option<[u8; 20]>
     ensures { result ≡ bytes_shown (nth (waiting queue.now (queue_of head.now)) place) }
 {
-    bytes_of(queue_of(head).get(queue, place))
+    queue_of(head).get(queue, place).map(ErrorEntry::serialize)
 }
 
 // The bytes of the history's entry at a place, the newest at 0.
 pub fn past_at(head: &Head, past: &[u8; 5080], place: usize) -> Option<[u8; 20]>
     ensures { result ≡ bytes_shown (nth (history past.now (history_of head.now)) place) }
 {
-    bytes_of(history_of(head).get(past, place))
+    history_of(head).get(past, place).map(ErrorEntry::serialize)
 }
