@@ -1,6 +1,6 @@
 -- A number in decimal as the kit's `io::decimal` spells it, by the fewest digits, is what the library's `decimal` says, which is how `itoa` spells it here.
 -- Assumes nothing.
-use Rattle.std.proofs.Common.{◌≡◌, ℕ, zero, suc, ◌+◌, ◌-◌, ◌*◌, ◌/◌, ◌%◌, ◌^◌, ◌<◌, ◌≤◌, Bool, true, false, eqb, ltb, List, [], ◌∷◌, ◌++◌, length, sym, refl, ap, ◌∙◌, append_assoc, append-nil, pow-suc, arith, le-ltb, lt-ltb, ltb-true, ltb-false, eq-eqb, ne_eqb}
+use Rattle.std.proofs.Common.{◌≡◌, ℕ, zero, suc, ◌+◌, ◌-◌, ◌*◌, ◌/◌, ◌%◌, ◌^◌, ◌<◌, ◌≤◌, Bool, true, false, ltb, List, [], ◌∷◌, ◌++◌, sym, refl, ◌∙◌, append_assoc, append-nil, pow-suc, arith, lt-ltb, ltb-true, ltb-false, eq-eqb, ne_eqb}
 use native.Mathlib.Nat.{pow-le-pow_right, one-le-pow}
 use Rattle.io.specs.Digits.{last_digits, IsDigitCount}
 use Rattle.std.specs.Fmt.{decimal, digits, digits_onto}

@@ -131,15 +131,11 @@ impl Buffer {
     }
 
     // The form of a key in a table; * stands for every key.
-    #[tactic(auto, unfolding(crate::specs::Printed::form_text))]
-    pub fn say_by(&mut self, mut rows: &[(u8, &[u8])], key: u8, numbers: &[u64])
-        ensures { self.new.page ≡ laid (row_text (map (λ row. (row.0, row.1.now)) rows.entry.now) key numbers.now) self.old.page }
+    pub fn say_by(&mut self, rows: &[(u8, &[u8])], key: u8, numbers: &[u64])
+        ensures { self.new.page ≡ laid (row_text (map (λ row. (row.0, row.1.now)) rows.now) key numbers.now) self.old.page }
     {
-        while let [row, rest @ ..] = rows {
-            if is_row(row.0, key) {
-                return self.say_form(row.1, numbers);
-            }
-            rows = rest;
+        if let Some(row) = rows.iter().find(|row| is_row(row.0, key)) {
+            self.say_form(row.1, numbers);
         }
     }
 
