@@ -22,6 +22,7 @@ use head::state::Head;
 use node::calls::{arm, dll_event, handle_error, nmt_event, on_cycle_complete, withdraw};
 use node::range::{soc_margin, soc_range};
 use patterns::{Given, KEPT};
+use start::start::Setup;
 use types::frame::error::kinds::DllErrorKind;
 use types::nmt::events::NmtStateCommand;
 use types::nmt::flags::FeatureFlags;
@@ -41,18 +42,15 @@ pub fn start(
 )
     ensures { Starts head.old nodes.old count named given answer.new head.new nodes.new }
 {
-    let said = start::start::start(
-        head,
-        nodes,
-        count,
-        byte(given[0]),
-        FeatureFlags::from_bits_truncate(word(given[1])),
-        word(given[2]),
-        given[3],
-        dictionary(given),
-        thresholds(named, given),
-    );
-    answers::answer(said, answer)
+    let setup = Setup {
+        node: byte(given[0]),
+        feature_flags: FeatureFlags::from_bits_truncate(word(given[1])),
+        basic_ethernet_timeout: word(given[2]),
+        queue_capacity: given[3],
+        od: dictionary(given),
+        thresholds: thresholds(named, given),
+    };
+    answers::answer(start::start::start(head, nodes, count, setup), answer)
 }
 
 // A call that needs the head alone, by its key, the byte that its line begins with.

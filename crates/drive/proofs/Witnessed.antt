@@ -44,20 +44,20 @@ module _ (κs : _) (a : _) (o : Result (Unit {0}) Refusal) (x : _) (e : drive-re
   -- what start was given
   abbrev pub given : Start
   given =
-      start_of a.1.1.1.1.1.0 a.1.1.1.1.1.1.0 a.1.1.1.1.1.1.1.0 a.1.1.1.1.1.1.1.1.0 a.1.1.1.1.1.1.1.1.1.0 a.1.1.1.1.1.1.1.1.1.1.0
-      (run (nodes_of a.1.0.now) a.1.1.0)
+      let s = a.1.1.1.1.1.0 in
+      start_of s.node s.feature_flags s.basic_ethernet_timeout s.queue_capacity s.od s.thresholds (run (nodes_of a.1.0.now) a.1.1.0)
 
   abbrev pub before : Lent
-  before = lent a.0.now a.1.0.now a.1.1.1.0.now a.1.1.1.1.0.now a.1.1.1.1.1.1.1.1.1.1.1.1.1.0.now
+  before = lent a.0.now a.1.0.now a.1.1.1.0.now a.1.1.1.1.0.now a.1.1.1.1.1.1.1.1.0.now
 
   abbrev pub after : Lent
-  after = lent x.0.now x.1.0.now x.1.1.1.0.now x.1.1.1.1.0.now x.1.1.1.1.1.1.1.1.1.1.1.1.1.0.now
+  after = lent x.0.now x.1.0.now x.1.1.1.0.now x.1.1.1.1.0.now x.1.1.1.1.1.1.1.1.0.now
 
   -- what `drive` says of its arguments where it answers r
   abbrev Says : Result (Unit {0}) Refusal → Type 0
   Says r =
-      Replayed a.1.1.0 a.1.1.1.1.1.0 a.1.1.1.1.1.1.0 a.1.1.1.1.1.1.1.0 a.1.1.1.1.1.1.1.1.0
-      a.1.1.1.1.1.1.1.1.1.0 a.1.1.1.1.1.1.1.1.1.1.0 a.1.1.1.1.1.1.1.1.1.1.1.0.now a.1.1.1.1.1.1.1.1.1.1.1.1.0.now r before after
+      let s = a.1.1.1.1.1.0 in
+      Replayed a.1.1.0 s.node s.feature_flags s.basic_ethernet_timeout s.queue_capacity s.od s.thresholds a.1.1.1.1.1.1.0.now a.1.1.1.1.1.1.1.0.now r before after
 
   -- THE WITNESS: the rows of the script that ran, and the claim of the calls that they were
   pub record Witnessed : Type 0 where

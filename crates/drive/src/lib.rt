@@ -8,16 +8,14 @@ ghost use Rattle.watched.specs.Watched.{run};
 ghost use Rattle.watched.specs.Nodes.{nodes_of};
 ghost use Rattle.drive.specs.Script.{byte_of, word_of, byte_update, counter_update, object_update, values_of, tag_of, part_of, call_of, lent_by, row_at, number_in, Turned, Plays, lent, PlayedAll, Replayed};
 
-use counters::counters::Thresholds;
-use head::state::{Dictionary, Head};
+use head::state::Head;
 use node::calls::{arm, dll_event, hand_out, handle_error, nmt_event, on_cycle_complete, withdraw};
 use node::heard::heard;
 use node::load::{DictionaryUpdate, load};
 use node::range::{soc_margin, soc_range};
 use partners::{add, remove};
-use start::start::start;
+use start::start::{Setup, start};
 use tick::tick::process_tick;
-use types::nmt::flags::FeatureFlags;
 use types::refusals::Refusal;
 use watched::nodes::NodeWords;
 
@@ -336,31 +334,16 @@ pub fn drive(
     count: usize,
     queue: &mut [u8; 640],
     history: &mut [u8; 5080],
-    node: u8,
-    feature_flags: FeatureFlags,
-    basic_ethernet_timeout: u32,
-    queue_capacity: u64,
-    od: Dictionary,
-    thresholds: Thresholds,
+    setup: Setup,
     script: &[u64],
     bytes: &[u8],
     out: &mut [u64],
 ) -> Result<(), Refusal>
-    ensures { Replayed count node feature_flags basic_ethernet_timeout queue_capacity od thresholds script.now bytes.now result
+    ensures { Replayed count setup.node setup.feature_flags setup.basic_ethernet_timeout setup.queue_capacity setup.od setup.thresholds script.now bytes.now result
         (lent head.old nodes.old queue.old history.old out.old)
         (lent head.new nodes.new queue.new history.new out.new) }
 {
-    start(
-        head,
-        nodes,
-        count,
-        node,
-        feature_flags,
-        basic_ethernet_timeout,
-        queue_capacity,
-        od,
-        thresholds,
-    )?;
+    start(head, nodes, count, setup)?;
     play_all(head, nodes, count, queue, history, script, bytes, out);
     Ok(())
 }

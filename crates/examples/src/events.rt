@@ -9,7 +9,7 @@ use crate::comes::{cycle_comes, dll_comes, error_comes, nmt_comes, raises_to, wi
 use crate::heads::{counting, resting, values};
 use counters::counters::Thresholds;
 use head::state::Head;
-use start::start::start;
+use start::start::{Setup, start};
 use types::frame::error::types::{DllError, DllErrors};
 use types::nmt::flags::FeatureFlags;
 use types::nmt::states::NmtState;
@@ -20,9 +20,15 @@ pub fn sw_reset(head: &mut Head, after: &mut Head, nodes: &mut NodeWords) -> boo
     ensures { (q m : List ℕ) → Shown table.sw_reset head.new q m no_run result }
 {
     resting(after, NmtState::NmtNotActive, false, false);
-    let od = values(0, 0, 0, 0, 0);
-    let thresholds = Thresholds::same_for_all(15);
-    let answer = start(head, nodes, 0, 1, FeatureFlags(0), 5, 1, od, thresholds);
+    let setup = Setup {
+        node: 1,
+        feature_flags: FeatureFlags(0),
+        basic_ethernet_timeout: 5,
+        queue_capacity: 1,
+        od: values(0, 0, 0, 0, 0),
+        thresholds: Thresholds::same_for_all(15),
+    };
+    let answer = start(head, nodes, 0, setup);
     let started = is_taken(answer);
     started & nmt_comes(head, 5, DllErrors::None, true, after)
 }

@@ -8,12 +8,10 @@ ghost use Rattle.start.specs.Started.{StartedOn};
 ghost use Rattle.lent.specs.Judged.{done_by, Hears, Starts};
 
 use crate::run::{Setting, Settling, Surveyed, for_heard, for_start, passes, settle, survey};
-use counters::counters::Thresholds;
 use head::parts::set_earliest;
-use head::state::{Dictionary, Head};
+use head::state::Head;
 use node::heard::{moment, try_heard};
-use start::start::begin;
-use types::nmt::flags::FeatureFlags;
+use start::start::{Setup, begin};
 use types::refusals::Refusal;
 use watched::nodes::WatchedNode;
 
@@ -91,27 +89,13 @@ pub fn heard(
 pub fn start_by(
     head: &mut Head,
     number: usize,
-    node: u8,
-    feature_flags: FeatureFlags,
-    basic_ethernet_timeout: u32,
-    queue_capacity: u64,
-    od: Dictionary,
-    thresholds: Thresholds,
+    setup: Setup,
     seen: Surveyed,
 ) -> (Result<(), Refusal>, Settling)
-    ensures { Starts head.old number node feature_flags basic_ethernet_timeout queue_capacity od thresholds seen result head.new }
+    ensures { Starts head.old number setup.node setup.feature_flags setup.basic_ethernet_timeout setup.queue_capacity setup.od setup.thresholds seen result head.new }
 {
     let formed = passes(seen);
-    let answer = begin(
-        head,
-        node,
-        feature_flags,
-        basic_ethernet_timeout,
-        queue_capacity,
-        od,
-        thresholds,
-        formed,
-    );
+    let answer = begin(head, setup, formed);
     set_if_taken(answer, number, Setting::Unheard)
 }
 
@@ -120,27 +104,12 @@ pub fn start(
     head: &mut Head,
     nodes: &mut [WatchedNode],
     number: usize,
-    node: u8,
-    feature_flags: FeatureFlags,
-    basic_ethernet_timeout: u32,
-    queue_capacity: u64,
-    od: Dictionary,
-    thresholds: Thresholds,
+    setup: Setup,
 ) -> Result<(), Refusal>
-    ensures { StartedOn head.old (run nodes.old number) node feature_flags basic_ethernet_timeout queue_capacity od thresholds result head.new (run nodes.new number) }
+    ensures { StartedOn head.old (run nodes.old number) setup.node setup.feature_flags setup.basic_ethernet_timeout setup.queue_capacity setup.od setup.thresholds result head.new (run nodes.new number) }
 {
     let seen = survey(nodes, number, for_start());
-    let (answer, settling) = start_by(
-        head,
-        number,
-        node,
-        feature_flags,
-        basic_ethernet_timeout,
-        queue_capacity,
-        od,
-        thresholds,
-        seen,
-    );
+    let (answer, settling) = start_by(head, number, setup, seen);
     settle(nodes, settling);
     answer
 }

@@ -14,35 +14,31 @@ use types::refusals::Refusal;
 use types::types::NodeId;
 use watched::nodes::{NodeWords, well_formed};
 
-// What a fresh head is made from, tried.
-#[derive(Clone, Copy)]
-struct Setup {
-    node_id: NodeId,
-    feature_flags: FeatureFlags,
-    basic_ethernet_timeout: u32,
-    queue_capacity: u8,
-    od: Dictionary,
-    thresholds: Thresholds,
+// What a fresh head is made from.
+#[derive(Clone, Copy, PartialEq, Eq)]
+pub struct Setup {
+    pub node: u8,
+    pub feature_flags: FeatureFlags,
+    pub basic_ethernet_timeout: u32,
+    pub queue_capacity: u64,
+    pub od: Dictionary,
+    pub thresholds: Thresholds,
 }
 
 impl Setup {
-    // The words of a fresh head: whatever stood there before is gone.
-    fn fresh(self, head: &mut Head)
-        ensures { (head_of head.new ≡ fresh_head self.node_id self.feature_flags self.basic_ethernet_timeout self.queue_capacity self.od self.thresholds)
-            × (head.new ≡ fresh_words self.node_id self.feature_flags self.basic_ethernet_timeout self.queue_capacity self.od self.thresholds) }
+    // The words of a fresh head, of a node number and a capacity that were tried: whatever stood there before is gone.
+    fn fresh(self, head: &mut Head, node_id: NodeId, capacity: u8)
+        ensures { (head_of head.new ≡ fresh_head node_id self.feature_flags self.basic_ethernet_timeout capacity self.od self.thresholds)
+            × (head.new ≡ fresh_words node_id self.feature_flags self.basic_ethernet_timeout capacity self.od self.thresholds) }
     {
-        let nmt = CnNmtStateMachine::new(
-            self.node_id,
-            self.feature_flags,
-            self.basic_ethernet_timeout,
-        );
+        let nmt = CnNmtStateMachine::new(node_id, self.feature_flags, self.basic_ethernet_timeout);
         let errors = CnErrorCounters::new(self.thresholds);
         clear(head);
         set_nmt(head, nmt);
         set_identity(head, nmt);
         set_thresholds(head, errors);
         set_od(head, self.od);
-        set_capacity(head, self.queue_capacity);
+        set_capacity(head, capacity);
     }
 }
 
@@ -57,38 +53,21 @@ fn unheard(nodes: &mut NodeWords, count: usize)
 }
 
 // Numbers 1, 2, 3 and 14, then the fresh head. Of the watched nodes it is told whether they pass number 3, whatever form they have.
-pub fn begin(
-    head: &mut Head,
-    node: u8,
-    feature_flags: FeatureFlags,
-    basic_ethernet_timeout: u32,
-    queue_capacity: u64,
-    od: Dictionary,
-    thresholds: Thresholds,
-    formed: bool,
-) -> Result<(), Refusal>
-    ensures { BeginsBy head.old node feature_flags basic_ethernet_timeout queue_capacity od thresholds formed result head.new }
+pub fn begin(head: &mut Head, setup: Setup, formed: bool) -> Result<(), Refusal>
+    ensures { BeginsBy head.old setup.node setup.feature_flags setup.basic_ethernet_timeout setup.queue_capacity setup.od setup.thresholds formed result head.new }
 {
-    let node_id = NodeId::try_from(node)?;
-    if 32 < queue_capacity {
+    let node_id = NodeId::try_from(setup.node)?;
+    if 32 < setup.queue_capacity {
         return Err(Refusal::QueueCapacity);
     }
-    let limited = thresholds.is_within_limit();
+    let limited = setup.thresholds.is_within_limit();
     if !formed {
         return Err(Refusal::WatchedNodes);
     }
     if !limited {
         return Err(Refusal::ThresholdLimit);
     }
-    let setup = Setup {
-        node_id,
-        feature_flags,
-        basic_ethernet_timeout,
-        queue_capacity: queue_capacity as u8,
-        od,
-        thresholds,
-    };
-    setup.fresh(head);
+    setup.fresh(head, node_id, setup.queue_capacity as u8);
     Ok(())
 }
 
@@ -97,26 +76,12 @@ pub fn start(
     head: &mut Head,
     nodes: &mut NodeWords,
     count: usize,
-    node: u8,
-    feature_flags: FeatureFlags,
-    basic_ethernet_timeout: u32,
-    queue_capacity: u64,
-    od: Dictionary,
-    thresholds: Thresholds,
+    setup: Setup,
 ) -> Result<(), Refusal>
-    ensures { StartedIn head.old nodes.old count node feature_flags basic_ethernet_timeout queue_capacity od thresholds result head.new nodes.new }
+    ensures { StartedIn head.old nodes.old count setup.node setup.feature_flags setup.basic_ethernet_timeout setup.queue_capacity setup.od setup.thresholds result head.new nodes.new }
 {
     let formed = well_formed(nodes, count);
-    begin(
-        head,
-        node,
-        feature_flags,
-        basic_ethernet_timeout,
-        queue_capacity,
-        od,
-        thresholds,
-        formed,
-    )?;
+    begin(head, setup, formed)?;
     unheard(nodes, count);
     Ok(())
 }

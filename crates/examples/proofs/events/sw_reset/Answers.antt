@@ -7,6 +7,6 @@ use Rattle.examples.proofs.events.sw_reset.Goals as goal
 pub returns : goal.returns
 returns c =
     λ q m.
-    let b = begun _ _ _ _ _ _ _ c.values-od.ensures c.same_for_all-thresholds.ensures c.start-answer.ensures in
+    let b = begun _ _ _ _ _ _ _ c.values.ensures c.same_for_all.ensures c.start-answer.ensures in
     let n = next (b.1 q m) (c.nmt_comes.ensures q m) refl refl c.resting.ensures in
     record { head = n.0.whole; lent = n.0.lent; same = also (c.is_taken-started.ensures.holds b.0) n.0.same }
