@@ -1,7 +1,7 @@
 -- Add and remove over a lent run, over plain variables: what the two walks leave is what the form in words leaves, and what the calls answer.
 -- Assumes nothing.
 use Prim.Native.Nat.{ℕ, zero, suc, ◌+◌, ◌-◌, ◌<◌, ◌≤◌}
-use mathlib.Core.Path.{◌≡◌, refl, sym, ap, ap₂, subst, ◌∙◌}
+use mathlib.Core.Path.{◌≡◌, refl, sym, ap, ap₂, ◌∙◌}
 use mathlib.Core.Bool.{Bool, true, false, false≢true}
 use mathlib.Core.List.{List, [], ◌∷◌, ◌++◌}
 use native.Mathlib.Omega.{arith}
@@ -19,12 +19,13 @@ use Rattle.watched.specs.declared.nodes.WatchedNode.{WatchedNode}
 use Rattle.watched.specs.Watched.{all_of, fits, well_formed, no_node, watched_node, is_watched, heard_at, place_of, watched_of, Run, run, watching, well_lent}
 use Rattle.watched.specs.Nodes.{rising, never, soonest}
 use Rattle.watched.proofs.Lists.{rising_all, watched_nowhere}
+use Rattle.std.specs.Prelude.{is_some}
 use Rattle.std.specs.declared.option.Option.{Option}
-use Rattle.std.specs.declared.option.Option.TheVariants.{None}
+use Rattle.std.specs.declared.option.Option.TheVariants.{Some, None}
 use Rattle.std.specs.declared.result.Result.{Result}
 use Rattle.std.specs.declared.result.Result.TheVariants.{Ok, Err}
 use Rattle.node.specs.Steps.{earliest, removed}
-use Rattle.node.specs.InPlace.{unless_refused, moment_of}
+use Rattle.node.specs.InPlace.{moment_of}
 use Rattle.node.proofs.Moments.{all_fit, heard_fits, moment_of_lem}
 use Rattle.partners.specs.Partners.{add_answer, remove_answer, AddedOn, RemovedOn}
 use Rattle.partners.specs.Walks.{carried, closed}
@@ -33,22 +34,16 @@ use Rattle.partners.proofs.Left.{add_left, remove_left}
 use Rattle.partners.proofs.Adding as Adding
 use Rattle.partners.proofs.Removing as Removing
 use Rattle.lentlaws.specs.Scan.{scanned, carried_back, scanned_back}
-use Rattle.lentlaws.proofs.ScanLaws.{scanned_back_idle}
-use Rattle.lent.specs.declared.run.Surveyed.{Surveyed}
+use Rattle.lent.specs.declared.run.Findings.{Findings}
 use Rattle.lent.specs.declared.run.Setting.{Setting}
 use Rattle.lent.specs.declared.run.Setting.TheVariants.{Heard}
 use Rattle.lent.specs.declared.arrivals.Carrying.{Carrying}
 use Rattle.lent.specs.declared.arrivals.Closing.{Closing}
-use Rattle.lent.specs.Runs.{passes, surveyed}
-use Rattle.lent.specs.Arrivals.{for_partner, carrying_of, carried_all, closing_of, moved_down, close_next, closed_all, Adds, Removes}
-use Rattle.lent.proofs.SeenLaws.{seen_lent, seen_formed, seen_places, seen_below, seen_first, seen_watched, seen_moment, settled_heard}
+use Rattle.lent.specs.Runs.{for_heard, surveyed}
+use Rattle.lent.specs.Arrivals.{carrying_of, carried_all, closing_of, moved_down, close_next, closed_all}
+use Rattle.lent.proofs.SeenLaws.{seen_lent, seen_well, seen_formed, seen_places, seen_below, seen_first, seen_watched, seen_moment, settled_heard}
 
 -- the walk that adds
-pub carry_off : (vs : List WatchedNode) → carried_all None vs ≡ vs
-unfolding scanned
-carry_off [] = refl
-carry_off (w ∷ ws) = ap (λ (l : List WatchedNode). w ∷ l) (carry_off ws)
-
 pub carry_on : (k : ℕ) (v : WatchedNode) (vs : List WatchedNode) → carried_all (carrying_of k v) vs ≡ carried k v vs
 unfolding scanned
 carry_on k v [] = refl
@@ -57,39 +52,32 @@ carry_on (suc k) v (w ∷ ws) =
     ap (λ (b : Bool). (next b).0 ∷ carried_all (next b).1 ws) (lt-ltb 0 (suc k) (omega arith))
     ∙ by (ltb v.node w.node) (suc k - 1) (omega arith) (carry_on k w ws) (carry_on k v ws)
   where
-    next : Bool → WatchedNode × Option Carrying
+    next : Bool → WatchedNode × Carrying
     next b =
         pick b (pick (ltb v.node w.node) (v, carrying_of (suc k - 1) w) (w, carrying_of (suc k - 1) v))
         (v, carrying_of (suc k) no_node)
 
     by :
         (b : Bool) (j : ℕ) → j ≡ k → carried_all (carrying_of k w) ws ≡ carried k w ws → carried_all (carrying_of k v) ws ≡ carried k v ws →
-        (pick {A = WatchedNode × Option Carrying} b (v, carrying_of j w) (w, carrying_of j v)).0
-        ∷ carried_all (pick {A = WatchedNode × Option Carrying} b (v, carrying_of j w) (w, carrying_of j v)).1 ws
+        (pick {A = WatchedNode × Carrying} b (v, carrying_of j w) (w, carrying_of j v)).0
+        ∷ carried_all (pick {A = WatchedNode × Carrying} b (v, carrying_of j w) (w, carrying_of j v)).1 ws
         ≡ pick b (v ∷ carried k w ws) (w ∷ carried k v ws)
     by true j e x y = ap (λ (l : List WatchedNode). v ∷ l) (ap (λ (j : ℕ). carried_all (carrying_of j w) ws) e ∙ x)
     by false j e x y = ap (λ (l : List WatchedNode). w ∷ l) (ap (λ (j : ℕ). carried_all (carrying_of j v) ws) e ∙ y)
 
 -- the walk that removes
 module _ (k n : ℕ) (x : WatchedNode) where
-  pub close_off : (vs : List WatchedNode) → closed_all None vs ≡ vs
-  close_off vs =
-      scanned_back_idle (λ c x. (close_next c x).0) (λ c x. (close_next c x).1) (λ (c : Option Closing). c ≡ None)
-      (λ c w e. ap (λ (c : Option Closing). (close_next c w).1) e)
-      (λ c w e. ap (λ (c : Option Closing). (close_next c w).0) e)
-      None vs refl
-
   -- what is carried to a place: how many are up to it, and what stood behind it
   behind : (L : ℕ) (ws : List WatchedNode) → carried_back (λ c x. (close_next c x).1) (closing_of L k n x) ws ≡ closing_of (L - length ws) k n (get_or ws 0 x)
   unfolding carried_back
   behind L [] = let e : L ≡ L - 0 = omega arith in ap (λ (l : ℕ). closing_of l k n x) e
   behind L (w ∷ ws) =
       let e : L - length ws - 1 ≡ L - suc (length ws) = omega arith in
-      ap (λ (c : Option Closing). (close_next c w).1) (behind L ws) ∙ ap (λ (l : ℕ). closing_of l k n w) e
+      ap (λ (c : Closing). (close_next c w).1) (behind L ws) ∙ ap (λ (l : ℕ). closing_of l k n w) e
 
   step : (L : ℕ) (w : WatchedNode) (ws : List WatchedNode) → closed_all (closing_of L k n x) (w ∷ ws) ≡ moved_down (L - length ws) k n (get_or ws 0 x) w ∷ closed_all (closing_of L k n x) ws
   unfolding scanned_back
-  step L w ws = ap (λ (c : Option Closing). (close_next c w).0 ∷ closed_all (closing_of L k n x) ws) (behind L ws)
+  step L w ws = ap (λ (c : Closing). (close_next c w).0 ∷ closed_all (closing_of L k n x) ws) (behind L ws)
 
   -- at the j-th place, where m of those ahead are watched
   module _ (L j m : ℕ) (w : WatchedNode) (ws : List WatchedNode) (here : L ≡ j + suc (length ws)) (ahead : j + suc m ≡ k) where
@@ -192,110 +180,96 @@ module _ (k n : ℕ) (x : WatchedNode) where
           ∙ ap₂ (λ (v : WatchedNode) (vs : List WatchedNode). v ∷ vs) (stays L j m w ws a b (omega (arith, i)) u) (more p g i)
           ∙ ap (λ (j : ℕ). w ∷ (take p ws ++ closed j (drop p ws))) y
 
--- the calls, by what their tests say
-module _ (ws : List ℕ) (long : length ws ≡ 60) (k n : ℕ) (s : Surveyed) (f : Bool) (p : f ≡ passes s) (c : Result (Unit {0}) Refusal) (ws' : List ℕ) (w : ws' ≡ unless_refused c ws (earliest_written ws (moment_of s.found.soonest))) where
+-- the calls, by what was found of the run and what their tests say
+module _ (ws : List ℕ) (vs : List WatchedNode) (k n : ℕ) (f : Findings) (asks : f ≡ for_heard n 0) (o : Option Findings) (sees : o ≡ surveyed k f vs) where
+  z : o ≡ surveyed k (for_heard n 0) vs
+  z = sees ∙ ap (λ (f : Findings). surveyed k f vs) asks
+
   abbrev y : Setting
   y = Heard n 0
 
-  -- what stays of a declined call, and what is written by one that is taken
-  unwritten : (x : Refusal) → c ≡ Err x → ws' ≡ ws
-  unwritten x g = w ∙ ap (λ (c : Result (Unit {0}) Refusal). unless_refused c ws (earliest_written ws (moment_of s.found.soonest))) g
+  abbrev r : Run
+  r = run vs k
 
-  written : c ≡ (Ok tt) → ws' ≡ earliest_written ws (moment_of s.found.soonest)
-  written g = w ∙ ap (λ (c : Result (Unit {0}) Refusal). unless_refused c ws (earliest_written ws (moment_of s.found.soonest))) g
+  lent : is_some o ≡ well_lent r
+  lent = seen_lent k n 0 y (new_counter 0) vs o z
 
-  module _ (vs : List WatchedNode) (z : s ≡ surveyed k (for_partner n) vs) where
-    abbrev r : Run
-    r = run vs k
+  -- add, of a run that number 3 declines
+  pub add_unformed : o ≡ None → (t : ℕ) (v : Bool) → v ≡ is_node n → (c : Result (Unit {0}) Refusal) → c ≡ add_answer v false t false k → AddedOn ws r n t c ws r
+  add_unformed p t v a c e = Adding.add_unformed ws r n t v a (sym lent ∙ ap (λ (o : Option Findings). is_some o) p) false k c e
 
-    lent : f ≡ well_lent r
-    lent = p ∙ seen_lent k n 0 y (new_counter 0) vs s z
+  -- a removal of one
+  pub remove_unformed : o ≡ None → (c : Result (Unit {0}) Refusal) → c ≡ remove_answer false false → RemovedOn ws r n c ws r
+  remove_unformed p c e = Removing.remove_unformed ws r n (sym lent ∙ ap (λ (o : Option Findings). is_some o) p) false c e
 
-    module _ (pass : f ≡ true) where
-      passed : passes s ≡ true
-      passed = sym p ∙ pass
+  module _ (s : Findings) (p : o ≡ Some s) where
+    passed : true ≡ well_lent r
+    passed = sym (seen_well k n 0 y (new_counter 0) vs o z s p)
 
-      all : length vs ≡ 32
-      all = seen_places k n 0 y (new_counter 0) vs s z passed
+    all : length vs ≡ 32
+    all = seen_places k n 0 y (new_counter 0) vs o z s p
 
-      formed : well_formed (watched_of vs k) ≡ true
-      formed = seen_formed k n 0 y (new_counter 0) vs s z passed
+    below : k ≤ 32
+    below = seen_below k n 0 y (new_counter 0) vs o z s p
 
-      well : rising 0 (watched_of vs k) ≡ true
-      unfolding well_formed
-      well = rising_all (watched_of vs k) ∙ both_second (leb (length (watched_of vs k)) 32) _ formed
+    formed : well_formed (watched_of vs k) ≡ true
+    formed = seen_formed k n 0 y (new_counter 0) vs o z s p
 
-      among : s.found.watched ≡ is_watched n (watched_of vs k)
-      among = seen_watched k n 0 y (new_counter 0) vs s z passed
+    well : rising 0 (watched_of vs k) ≡ true
+    unfolding well_formed
+    well = rising_all (watched_of vs k) ∙ both_second (leb (length (watched_of vs k)) 32) _ formed
 
-      moment : moment_of s.found.soonest ≡ moment_of (soonest never (heard_at n 0 (watched_of vs k)))
-      moment =
-          let g : all_of fits (heard_at n 0 (watched_of vs k)) ≡ true = heard_fits n 0 (watched_of vs k) refl (all_fit (watched_of vs k) formed) in
-          seen_moment k n 0 y (new_counter 0) vs s z passed (heard_at n 0 (watched_of vs k)) (settled_heard n 0 (watched_of vs k) formed) g
-          ∙ sym (moment_of_lem (heard_at n 0 (watched_of vs k)) g)
+    among : s.watched ≡ is_watched n (watched_of vs k)
+    among = seen_watched k n 0 y (new_counter 0) vs o z s p
 
-      -- its place, where it is watched
-      there : is_watched n (watched_of vs k) ≡ true → place_of n (watched_of vs k) < k
-      there h = by (ltb (place_of n (watched_of vs k)) k) refl
-        where
-          by : (b : Bool) → ltb (place_of n (watched_of vs k)) k ≡ b → place_of n (watched_of vs k) < k
-          by true e = ltb-true (place_of n (watched_of vs k)) k e
-          by false e =
-              absurd (false≢true
-              (sym (watched_nowhere vs k all (seen_below k n 0 y (new_counter 0) vs s z passed) n 0 (place_of n (watched_of vs k)) refl (ltb-false (place_of n (watched_of vs k)) k e)) ∙ h))
+    moment : moment_of s.soonest ≡ moment_of (soonest never (heard_at n 0 (watched_of vs k)))
+    moment =
+        let g : all_of fits (heard_at n 0 (watched_of vs k)) ≡ true = heard_fits n 0 (watched_of vs k) refl (all_fit (watched_of vs k) formed) in
+        seen_moment k n 0 y (new_counter 0) vs o z s p (heard_at n 0 (watched_of vs k)) (settled_heard n 0 (watched_of vs k) formed) g
+        ∙ sym (moment_of_lem (heard_at n 0 (watched_of vs k)) g)
 
-  -- add
-  module _ (o : ℕ) (v : Bool) (a : v ≡ is_node n) (e : c ≡ add_answer v f o s.found.watched k) where
-    pub add_room : c ≡ (Ok tt) → k < 32
-    add_room g = ltb-true k 32 (Adding.add_passed v f o s.found.watched k (sym g ∙ e)).4
-
-    pub add_declined : (x : Refusal) → c ≡ Err x → Adds ws k n o s (Err x, None) ws' k
-    add_declined x g vs z =
-        subst (λ (l : List WatchedNode). AddedOn ws (run vs k) n o (Err x) ws' (run l k)) (sym (carry_off vs))
-        (subst (λ (l : List ℕ). AddedOn ws (run vs k) n o (Err x) l (run vs k)) (sym (unwritten x g)) (by f refl))
+    -- its place, where it is watched
+    there : is_watched n (watched_of vs k) ≡ true → place_of n (watched_of vs k) < k
+    there h = by (ltb (place_of n (watched_of vs k)) k) refl
       where
-        by : (b : Bool) → f ≡ b → AddedOn ws (run vs k) n o (Err x) ws (run vs k)
-        by true h = Adding.add_declined ws (run vs k) n o v a f s.found.watched (lent vs z) (among vs z h) x (sym g ∙ e)
-        by false h =
-            Adding.add_unformed ws (run vs k) n o v a (sym (lent vs z) ∙ h) s.found.watched k (Err x)
-            (sym g ∙ e ∙ ap (λ (f : Bool). add_answer v f o s.found.watched k) h)
+        by : (b : Bool) → ltb (place_of n (watched_of vs k)) k ≡ b → place_of n (watched_of vs k) < k
+        by true e = ltb-true (place_of n (watched_of vs k)) k e
+        by false e = absurd (false≢true (sym (watched_nowhere vs k all below n 0 (place_of n (watched_of vs k)) refl (ltb-false (place_of n (watched_of vs k)) k e)) ∙ h))
 
-    pub add_taken : c ≡ (Ok tt) → Adds ws k n o s (Ok tt, carrying_of k (watched_node n o 0)) ws' (k + 1)
-    add_taken g vs z =
-        let q = Adding.add_passed v f o s.found.watched k (sym g ∙ e) in
-        let h : f ≡ true = q.1 in
-        let none : is_watched n (watched_of vs k) ≡ false = sym (among vs z h) ∙ q.3 in
-        let left = add_left vs k n (all vs z h) (formed vs z h) o (add_room g) (carried_all (carrying_of k (watched_node n o 0)) vs) (carry_on k (watched_node n o 0) vs) in
-        Adding.add_taken ws (run vs k) n o v a f s.found.watched (lent vs z) (among vs z h) (sym g ∙ e) long _ left (moment_of s.found.soonest)
-        (moment vs z h ∙ added_moment (run vs k) n (sym (lent vs z) ∙ h) o none ∙ ap (λ (r : Run). earliest (watching r)) (sym left)) ws' (written g)
+    -- add
+    module _ (t : ℕ) (v : Bool) (a : v ≡ is_node n) (c : Result (Unit {0}) Refusal) (e : c ≡ add_answer v true t s.watched k) where
+      pub add_room : c ≡ (Ok tt) → k < 32
+      add_room g = ltb-true k 32 (Adding.add_passed v true t s.watched k (sym g ∙ e)).4
 
-  -- removal
-  module _ (e : c ≡ remove_answer f s.found.watched) where
-    pub remove_declined :
-        (x : Refusal) → c ≡ Err x → Removes ws k n s (Err x, None) ws' k
-    remove_declined x g vs z =
-        subst (λ (l : List WatchedNode). RemovedOn ws (run vs k) n (Err x) ws' (run l k)) (sym (close_off 0 n no_node vs))
-        (subst (λ (l : List ℕ). RemovedOn ws (run vs k) n (Err x) l (run vs k)) (sym (unwritten x g)) (by f refl))
-      where
-        by : (b : Bool) → f ≡ b → RemovedOn ws (run vs k) n (Err x) ws (run vs k)
-        by true h = Removing.remove_declined ws (run vs k) n f s.found.watched (lent vs z) (among vs z h) x (sym g ∙ e)
-        by false h =
-            Removing.remove_unformed ws (run vs k) n (sym (lent vs z) ∙ h) s.found.watched (Err x)
-            (sym g ∙ e ∙ ap (λ (f : Bool). remove_answer f s.found.watched) h)
+      pub add_declined : (x : Refusal) → c ≡ Err x → AddedOn ws r n t (Err x) ws r
+      add_declined x g = Adding.add_declined ws r n t v a true s.watched passed among x (sym g ∙ e)
 
-    pub remove_taken :
-        c ≡ (Ok tt) → (u : WatchedNode) (k' : ℕ) → k' ≡ k - 1 → Removes ws k n s (Ok tt, closing_of 32 k n u) ws' k'
-    remove_taken g u k' less vs z =
-        let q = Removing.remove_passed f s.found.watched (sym g ∙ e) in
-        let h : f ≡ true = q.0 in
-        let first : watched_of vs k ≡ take k vs = seen_first k n 0 y (new_counter 0) vs s z (passed vs z h) in
-        let below : k ≤ 32 = seen_below k n 0 y (new_counter 0) vs s z (passed vs z h) in
-        let rises : rising 0 (take k vs) ≡ true = ap (rising 0) (sym first) ∙ well vs z h in
-        let inside : place_of n (watched_of vs k) < k = there vs z h (sym (among vs z h) ∙ q.1) in
-        let shut =
-        close_on k n u 32 0 k 0 (place_of n (watched_of vs k)) vs (omega (arith, all vs z h)) (omega arith) (omega (arith, below, all vs z h)) rises (ap (place_of n) first) inside in
-        let left : run (closed_all (closing_of 32 k n u) vs) k' ≡ removed n (run vs k) =
-        ap (run (closed_all (closing_of 32 k n u) vs)) less
-        ∙ remove_left vs k n (all vs z h) (formed vs z h) (place_of n (watched_of vs k)) refl inside (closed_all (closing_of 32 k n u) vs) shut in
-        Removing.remove_taken ws (run vs k) n f s.found.watched (lent vs z) (among vs z h) (sym g ∙ e) long _ left (moment_of s.found.soonest)
-        (moment vs z h ∙ removed_moment (run vs k) n (sym (lent vs z) ∙ h) ∙ ap (λ (r : Run). earliest (watching r)) (sym left)) ws' (written g)
+      pub add_taken :
+          c ≡ (Ok tt) → length ws ≡ 60 → (vs' : List WatchedNode) → vs' ≡ carried_all (carrying_of k (watched_node n t 0)) vs →
+          (m : Option ℕ) → m ≡ moment_of s.soonest → (ws' : List ℕ) → ws' ≡ earliest_written ws m → AddedOn ws r n t (Ok tt) ws' (run vs' (k + 1))
+      add_taken g long vs' d m h ws' u =
+          let none : is_watched n (watched_of vs k) ≡ false = sym among ∙ (Adding.add_passed v true t s.watched k (sym g ∙ e)).3 in
+          let left = add_left vs k n all formed t (add_room g) vs' (d ∙ carry_on k (watched_node n t 0) vs) in
+          Adding.add_taken ws r n t v a true s.watched passed among (sym g ∙ e) long _ left m
+          (h ∙ moment ∙ added_moment r n (sym passed) t none ∙ ap (λ (r : Run). earliest (watching r)) (sym left)) ws' u
+
+    -- removal
+    module _ (c : Result (Unit {0}) Refusal) (e : c ≡ remove_answer true s.watched) where
+      pub remove_declined : (x : Refusal) → c ≡ Err x → RemovedOn ws r n (Err x) ws r
+      remove_declined x g = Removing.remove_declined ws r n true s.watched passed among x (sym g ∙ e)
+
+      pub remove_inside : c ≡ (Ok tt) → place_of n (watched_of vs k) < k
+      remove_inside g = there (sym among ∙ (Removing.remove_passed true s.watched (sym g ∙ e)).1)
+
+      pub remove_taken :
+          c ≡ (Ok tt) → length ws ≡ 60 → (u : WatchedNode) (vs' : List WatchedNode) → vs' ≡ closed_all (closing_of 32 k n u) vs → (k' : ℕ) → k' ≡ k - 1 →
+          (m : Option ℕ) → m ≡ moment_of s.soonest → (ws' : List ℕ) → ws' ≡ earliest_written ws m → RemovedOn ws r n (Ok tt) ws' (run vs' k')
+      remove_taken g long u vs' d k' less m h ws' w =
+          let first : watched_of vs k ≡ take k vs = seen_first k n 0 y (new_counter 0) vs o z s p in
+          let rises : rising 0 (take k vs) ≡ true = ap (rising 0) (sym first) ∙ well in
+          let inside : place_of n (watched_of vs k) < k = remove_inside g in
+          let shut = close_on k n u 32 0 k 0 (place_of n (watched_of vs k)) vs (omega (arith, all)) (omega arith) (omega (arith, below, all)) rises (ap (place_of n) first) inside in
+          let left : run vs' k' ≡ removed n r =
+          ap (run vs') less ∙ remove_left vs k n all formed (place_of n (watched_of vs k)) refl inside vs' (d ∙ shut) in
+          Removing.remove_taken ws r n true s.watched passed among (sym g ∙ e) long _ left m
+          (h ∙ moment ∙ removed_moment r n (sym passed) ∙ ap (λ (r : Run). earliest (watching r)) (sym left)) ws' w

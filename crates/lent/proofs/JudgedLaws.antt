@@ -1,9 +1,9 @@
--- The calls that are lent a run, judged by what was found of it, over plain variables: their refusals, and what they leave. What a call
+-- The calls that are lent a run, by what was found of it, over plain variables: their refusals, and what they leave. What a call
 -- makes of a run is by the laws that the form in words uses too.
 -- Assumes nothing.
 use Prim.Native.Nat.{ℕ}
 use mathlib.Core.Path.{◌≡◌, refl, sym, ap, ap₂, subst, ◌∙◌}
-use mathlib.Core.Bool.{Bool, true, false}
+use mathlib.Core.Bool.{Bool, true, false, not, true≢false}
 use mathlib.Core.List.{List, ◌++◌, map}
 use lib.ListN.{length, take, drop, take-append-drop}
 use Rattle.types.specs.Pick.{pick}
@@ -13,7 +13,9 @@ use Rattle.types.specs.declared.nmt.flags.FeatureFlags.{FeatureFlags}
 use Rattle.counters.specs.Counters.{new_counter}
 use Rattle.counters.specs.declared.counters.Thresholds.{Thresholds}
 use Rattle.std.specs.declared.result.Result.{Result}
+use Rattle.std.specs.Prelude.{is_some}
 use Rattle.std.specs.declared.option.Option.{Option}
+use Rattle.std.specs.declared.option.Option.TheVariants.{Some, None}
 use Rattle.std.specs.declared.result.Result.TheVariants.{Ok, Err}
 use Rattle.head.specs.declared.state.Dictionary.{Dictionary}
 use Rattle.head.specs.Words.{nmt_of, head_of}
@@ -26,7 +28,7 @@ use Rattle.node.specs.Steps.{earliest}
 use Rattle.node.specs.Tick.{checks_heartbeats, looked, tick_taken}
 use Rattle.watched.specs.Nodes.{not_before}
 use Rattle.node.specs.Refines.{plain}
-use Rattle.node.specs.InPlace.{unless_refused, moment_of}
+use Rattle.node.specs.InPlace.{moment_of}
 use Rattle.node.specs.Heard.{heard_answer, HeardOn}
 use Rattle.node.proofs.Moments.{all_fit, heard_fits}
 use Rattle.node.proofs.OnRuns.{run_declined}
@@ -39,102 +41,97 @@ use Rattle.tick.specs.TickWords.{tick_words}
 use Rattle.tick.specs.TickIn.{TickedOn}
 use Rattle.tick.proofs.Tickings.{run_unformed, run_late, run_before, run_accepted}
 use Rattle.lent.specs.declared.run.Findings.{Findings}
-use Rattle.lent.specs.declared.run.Surveyed.{Surveyed}
 use Rattle.lent.specs.declared.run.Setting.{Setting}
 use Rattle.lent.specs.declared.run.Setting.TheVariants.{Nothing, Unheard, Heard, Looked}
-use Rattle.types.specs.declared.frame.error.types.DllErrors.{DllErrors}
-use Rattle.lent.specs.declared.run.Settling.{Settling}
-use Rattle.lent.specs.Runs.{for_heard, for_tick, passes, beats_at, beats_all, tick_sets, settled, settling_of, settled_all, surveyed}
-use Rattle.lent.specs.Judged.{settles_nothing, done_by, Hears, Starts, TicksBy, tick_done}
-use Rattle.lent.proofs.SeenLaws.{seen_lent, seen_formed, seen_places, seen_below, seen_first, seen_found, seen_watched, seen_after, seen_moment, set_first, set_none, settled_none, settled_heard}
+use Rattle.lent.specs.Runs.{asked_for, for_heard, for_tick, beats_at, beats_all, tick_sets, settled, settling_of, settled_all, surveyed}
+use Rattle.lent.proofs.SeenLaws.{seen_lent, seen_well, seen_formed, seen_places, seen_below, seen_first, seen_found, seen_watched, seen_after, seen_moment, set_first, settled_none, settled_heard}
 
 -- a run as it is left
 left_as : {k : ℕ} (l l' : List WatchedNode) → l ≡ l' → run l k ≡ run l' k
 left_as {k} l l' e = ap (λ (l : List WatchedNode). run l k) e
 
--- heard, by what its tests say
-module _ (ws : List ℕ) (long : length ws ≡ 60) (k n t : ℕ) (s : Surveyed) (f : Bool) (p : f ≡ passes s) (a : Result (Unit {0}) Refusal) (e : a ≡ heard_answer f t s.found.watched) (ws' : List ℕ) (w : ws' ≡ unless_refused a ws (earliest_written ws (moment_of s.found.soonest))) where
-  module _ (vs : List WatchedNode) (z : s ≡ surveyed k (for_heard n t) vs) where
-    abbrev r : Run
-    r = run vs k
+-- heard, by what was found of the run and what its tests say
+module _ (ws : List ℕ) (vs : List WatchedNode) (k n t : ℕ) (f : Findings) (asks : f ≡ for_heard n t) (o : Option Findings) (sees : o ≡ surveyed k f vs) where
+  z : o ≡ surveyed k (for_heard n t) vs
+  z = sees ∙ ap (λ (f : Findings). surveyed k f vs) asks
 
-    abbrev y : Setting
-    y = Heard n t
+  abbrev r : Run
+  r = run vs k
 
-    lent : passes s ≡ well_lent r
-    lent = seen_lent k n 0 y (new_counter 0) vs s z
+  abbrev y : Setting
+  y = Heard n t
 
-    -- declined: no word is written, and no place
-    none : (x : Refusal) → a ≡ Err x → HeardOn ws r n t (Err x) ws r → HeardOn ws r n t (Err x) ws' (run (settled_all settles_nothing vs) k)
-    none x g h =
-        subst (λ (l : List WatchedNode). HeardOn ws r n t (Err x) ws' (run l k)) (sym (set_none vs))
-        (subst (λ (l : List ℕ). HeardOn ws r n t (Err x) l r) (sym (w ∙ ap (λ (a : Result (Unit {0}) Refusal). unless_refused a ws (earliest_written ws (moment_of s.found.soonest))) g)) h)
+  pub heard_unformed : o ≡ None → HeardOn ws r n t (Err WatchedNodes) ws r
+  heard_unformed p =
+      let f : well_lent r ≡ false = sym (seen_lent k n 0 y (new_counter 0) vs o z) ∙ ap (λ (o : Option Findings). is_some o) p in
+      run_declined ws (heard n t r) r WatchedNodes (λ p. rw f)
 
-    module _ (pass : f ≡ true) where
-      passed : passes s ≡ true
-      passed = sym p ∙ pass
+  module _ (s : Findings) (p : o ≡ Some s) (a : Result (Unit {0}) Refusal) (e : a ≡ heard_answer true t s.watched) where
+    passed : true ≡ well_lent r
+    passed = sym (seen_well k n 0 y (new_counter 0) vs o z s p)
 
-      among : s.found.watched ≡ is_watched n (watched_of vs k)
-      among = seen_watched k n 0 y (new_counter 0) vs s z passed
+    among : s.watched ≡ is_watched n (watched_of vs k)
+    among = seen_watched k n 0 y (new_counter 0) vs o z s p
 
-      formed : well_formed (watched_of vs k) ≡ true
-      formed = seen_formed k n 0 y (new_counter 0) vs s z passed
+    pub heard_refused : (x : Refusal) → a ≡ Err x → HeardOn ws r n t (Err x) ws r
+    heard_refused x g = heard_declined ws r n t true s.watched passed among x (sym g ∙ e)
 
-      taken : a ≡ (Ok tt) → HeardOn ws r n t (Ok tt) ws' (run (settled_all (settling_of k y) vs) k)
-      taken g =
-          let q : f ≡ well_lent r = p ∙ lent in
-          let i : in_time t ≡ true = (taken_passed ws r n t f s.found.watched q among (sym g ∙ e)).1 in
-          let set : map (settled y) (watched_of vs k) ≡ heard_at n t (watched_of vs k) = settled_heard n t (watched_of vs k) formed in
-          let same : take k vs ≡ watched_of vs k = sym (seen_first k n 0 y (new_counter 0) vs s z passed) in
-          let left : settled_all (settling_of k y) vs ≡ first (heard_at n t) k vs =
-          set_first k y (settling_of k y) vs refl refl
-          ∙ ap (λ (l : List WatchedNode). l ++ drop k vs) (ap (map (settled y)) same ∙ set ∙ ap (heard_at n t) (sym same)) in
-          let watched : watched_of (settled_all (settling_of k y) vs) k ≡ heard_at n t (watched_of vs k) =
-          ap (λ (l : List WatchedNode). watched_of l k) left
-          ∙ heard_nodes vs k (seen_places k n 0 y (new_counter 0) vs s z passed) (seen_below k n 0 y (new_counter 0) vs s z passed) n t in
-          let moment : moment_of s.found.soonest ≡ earliest (watched_of (settled_all (settling_of k y) vs) k) =
-          seen_moment k n 0 y (new_counter 0) vs s z passed (heard_at n t (watched_of vs k)) set (heard_fits n t (watched_of vs k) i (all_fit (watched_of vs k) formed))
-          ∙ ap earliest (sym watched) in
-          heard_taken ws r n t f s.found.watched q among (sym g ∙ e) long _ (left_as _ _ left) (moment_of s.found.soonest) moment ws'
-          (w ∙ ap (λ (a : Result (Unit {0}) Refusal). unless_refused a ws (earliest_written ws (moment_of s.found.soonest))) g)
+    pub heard_done :
+        a ≡ (Ok tt) → length ws ≡ 60 → (vs' : List WatchedNode) → vs' ≡ settled_all (settling_of k y) vs → (m : Option ℕ) → m ≡ moment_of s.soonest →
+        (ws' : List ℕ) → ws' ≡ earliest_written ws m → HeardOn ws r n t (Ok tt) ws' (run vs' k)
+    heard_done g long vs' d m h ws' w =
+        let formed = seen_formed k n 0 y (new_counter 0) vs o z s p in
+        let i : in_time t ≡ true = (taken_passed ws r n t true s.watched passed among (sym g ∙ e)).1 in
+        let set : map (settled y) (watched_of vs k) ≡ heard_at n t (watched_of vs k) = settled_heard n t (watched_of vs k) formed in
+        let same : take k vs ≡ watched_of vs k = sym (seen_first k n 0 y (new_counter 0) vs o z s p) in
+        let left : vs' ≡ first (heard_at n t) k vs =
+        d ∙ set_first k y (settling_of k y) vs refl refl
+        ∙ ap (λ (l : List WatchedNode). l ++ drop k vs) (ap (map (settled y)) same ∙ set ∙ ap (heard_at n t) (sym same)) in
+        let watched : watched_of vs' k ≡ heard_at n t (watched_of vs k) =
+        ap (λ (l : List WatchedNode). watched_of l k) left
+        ∙ heard_nodes vs k (seen_places k n 0 y (new_counter 0) vs o z s p) (seen_below k n 0 y (new_counter 0) vs o z s p) n t in
+        let moment : m ≡ earliest (watched_of vs' k) =
+        h ∙ seen_moment k n 0 y (new_counter 0) vs o z s p (heard_at n t (watched_of vs k)) set (heard_fits n t (watched_of vs k) i (all_fit (watched_of vs k) formed))
+        ∙ ap earliest (sym watched) in
+        heard_taken ws r n t true s.watched passed among (sym g ∙ e) long _ (left_as _ _ left) m moment ws' w
 
-    abbrev Leaves : Result (Unit {0}) Refusal × Settling → Type 0
-    Leaves d = HeardOn ws r n t d.0 ws' (run (settled_all d.1 vs) k)
+-- start, by whether number 3 does not stand
+module _ (ws : List ℕ) (vs : List WatchedNode) (k n : ℕ) (f : FeatureFlags) (t c : ℕ) (q : Dictionary) (ts : Thresholds) (g : Findings) (asks : g ≡ asked_for Unheard) (o : Option Findings) (sees : o ≡ surveyed k g vs)
+    (formed : Bool) (p : formed ≡ is_some o) (a : Result (Unit {0}) Refusal) (ws' : List ℕ) (b : BeginsBy ws n f t c q ts formed a ws') where
+  unheard_asked : o ≡ surveyed k (asked_for Unheard) vs
+  unheard_asked = sees ∙ ap (λ (f : Findings). surveyed k f vs) asks
 
-    heard_left : Leaves (done_by a k y)
-    heard_left = by f refl a refl
-      where
-        by : (b : Bool) → f ≡ b → (c : Result (Unit {0}) Refusal) → a ≡ c → Leaves (done_by c k y)
-        by true x (Ok _) g = taken x g
-        by true x (Err u) g = none u g (heard_declined ws r n t f s.found.watched (p ∙ lent) (among x) u (sym g ∙ e))
-        by false x c g =
-            let h : c ≡ Err WatchedNodes = sym g ∙ e ∙ ap (λ (f : Bool). heard_answer f t s.found.watched) x in
-            subst (λ (c : Result (Unit {0}) Refusal). Leaves (done_by c k y)) (sym h)
-            (none WatchedNodes (g ∙ h) (run_declined ws (heard n t r) r WatchedNodes (λ p₀. rw (sym lent ∙ sym p ∙ x))))
+  begun : (vs' : List WatchedNode) → run vs' k ≡ start_left a (run vs k) → StartedOn ws (run vs k) n f t c q ts a ws' (run vs' k)
+  begun vs' d = b.on (run vs k) (p ∙ seen_lent k 0 0 Unheard (new_counter 0) vs o unheard_asked) (run vs' k) d
 
-  pub heard_done : (r : Result (Unit {0}) Refusal × Settling) → r ≡ done_by a k (Heard n t) → Hears ws k n t s r ws'
-  heard_done r d vs z = subst (Leaves vs z) (sym d) (heard_left vs z)
+  pub start_done : a ≡ (Ok tt) → (vs' : List WatchedNode) → vs' ≡ settled_all (settling_of k Unheard) vs → StartedOn ws (run vs k) n f t c q ts (Ok tt) ws' (run vs' k)
+  start_done g vs' d =
+      subst (λ (a : Result (Unit {0}) Refusal). StartedOn ws (run vs k) n f t c q ts a ws' (run vs' k)) g
+      (begun vs' (left_as _ _ (d ∙ set_first k Unheard (settling_of k Unheard) vs refl refl) ∙ ap (λ (a : Result (Unit {0}) Refusal). start_left a (run vs k)) (sym g)))
 
--- start, by what its tests say
-module _ (ws : List ℕ) (k n : ℕ) (f : FeatureFlags) (t c : ℕ) (o : Dictionary) (ts : Thresholds) (s : Surveyed) (formed : Bool) (p : formed ≡ passes s) (a : Result (Unit {0}) Refusal) (ws' : List ℕ) (b : BeginsBy ws n f t c o ts formed a ws') where
-  unheard_by : (vs : List WatchedNode) (b : Result (Unit {0}) Refusal) → run (settled_all (done_by b k Unheard).1 vs) k ≡ start_left b (run vs k)
-  unheard_by vs (Ok _) = left_as _ _ (set_first k Unheard (settling_of k Unheard) vs refl refl)
-  unheard_by vs (Err r) = left_as _ _ (set_none vs)
+  pub start_refused : (x : Refusal) → a ≡ Err x → StartedOn ws (run vs k) n f t c q ts (Err x) ws' (run vs k)
+  start_refused x g =
+      subst (λ (a : Result (Unit {0}) Refusal). StartedOn ws (run vs k) n f t c q ts a ws' (run vs k)) g
+      (begun vs (ap (λ (a : Result (Unit {0}) Refusal). start_left a (run vs k)) (sym g)))
 
-  done_answer : (a : Result (Unit {0}) Refusal) → (done_by a k Unheard).0 ≡ a
-  done_answer (Ok _) = refl
-  done_answer (Err r) = refl
+-- number 6, by whether heartbeats are checked
+not_heard : (c a : Bool) → c ≡ true → not a ≡ true → pick c a true ≡ false
+not_heard true false x y = refl
+not_heard true true x y = sym y
+not_heard false a x y = absurd (true≢false (sym x))
 
-  pub start_done : (r : Result (Unit {0}) Refusal × Settling) → r ≡ done_by a k Unheard → Starts ws k n f t c o ts s r ws'
-  start_done r d vs z =
-      rw d
-      (subst (λ (b : Result (Unit {0}) Refusal). StartedOn ws (run vs k) n f t c o ts b ws' (run (settled_all (done_by a k Unheard).1 vs) k)) (sym (done_answer a))
-      (b.on (run vs k) (p ∙ seen_lent k 0 0 Unheard (new_counter 0) vs s z) _ (unheard_by vs a)))
+pub all_heard : (c a : Bool) → c ≡ true → not a ≡ false → pick c a true ≡ true
+all_heard true true x y = refl
+all_heard true false x y = sym y
+all_heard false a x y = refl
+
+pub not_asked : (c a : Bool) → c ≡ false → pick c a true ≡ true
+not_asked c a x = ap (λ (c : Bool). pick c a true) x
 
 -- the tick: numbers 3, 5 and 6, and what is taken
-module _ (ws q m : List ℕ) (k t : ℕ) (s : Surveyed) (r : Result DllErrors Refusal × Settling) where
-  abbrev no_tick : Refusal → Result DllErrors Refusal × Settling
-  no_tick x = (Err x, settles_nothing)
+module _ (ws q m : List ℕ) (vs : List WatchedNode) (k t : ℕ) (g : Findings) (asks : g ≡ for_tick ws t) (o : Option Findings) (sees : o ≡ surveyed k g vs) where
+  e : o ≡ surveyed k (for_tick ws t) vs
+  e = sees ∙ ap (λ (f : Findings). surveyed k f vs) asks
 
   abbrev Y : Setting
   Y = tick_sets ws t
@@ -142,73 +139,68 @@ module _ (ws q m : List ℕ) (k t : ℕ) (s : Surveyed) (r : Result DllErrors Re
   abbrev C : Bool
   C = checks_heartbeats (nmt_of ws).current_state
 
-  tick_declined :
-      (x : Refusal) → r ≡ no_tick x → (vs : List WatchedNode) → TickedOn ws q m (run vs k) t (Err x) ws q m (run vs k) →
-      TickedOn ws q m (run vs k) t r.0 ws q m (run (settled_all r.1 vs) k)
-  tick_declined x d vs z = rw d (subst (λ (l : List WatchedNode). TickedOn ws q m (run vs k) t (Err x) ws q m (run l k)) (sym (set_none vs)) z)
+  pub tick_unformed : o ≡ None → TickedOn ws q m (run vs k) t (Err WatchedNodes) ws q m (run vs k)
+  tick_unformed p = run_unformed ws q m (run vs k) t (sym (seen_lent k 0 t Y (beats_at ws) vs o e) ∙ ap (λ (o : Option Findings). is_some o) p)
 
-  lent_as : (b : Bool) → passes s ≡ b → (vs : List WatchedNode) → s ≡ surveyed k (for_tick ws t) vs → well_lent (run vs k) ≡ b
-  lent_as b f vs e = sym (seen_lent k 0 t Y (beats_at ws) vs s e) ∙ f
+  module _ (s : Findings) (f : o ≡ Some s) where
+    well : well_lent (run vs k) ≡ true
+    well = seen_well k 0 t Y (beats_at ws) vs o e s f
 
-  pub tick_unformed : passes s ≡ false → r ≡ no_tick WatchedNodes → TicksBy ws q m k t s r ws q m
-  tick_unformed f d vs e = tick_declined WatchedNodes d vs (run_unformed ws q m (run vs k) t (lent_as false f vs e))
-
-  module _ (f : passes s ≡ true) where
-    pub tick_late : in_time t ≡ false → r ≡ no_tick TimeLimit → TicksBy ws q m k t s r ws q m
-    tick_late b d vs e = tick_declined TimeLimit d vs (run_late ws q m (run vs k) t (lent_as true f vs e) b)
+    pub tick_late : in_time t ≡ false → TickedOn ws q m (run vs k) t (Err TimeLimit) ws q m (run vs k)
+    tick_late b = run_late ws q m (run vs k) t well b
 
     module _ (b : in_time t ≡ true) (checks : Bool) (c : checks ≡ C) where
-      after_is :
-          (vs : List WatchedNode) → s ≡ surveyed k (for_tick ws t) vs → pick C (all_of (not_before t) (watched_of vs k)) true ≡ pick checks s.found.after true
-      after_is vs e =
+      after_is : pick C (all_of (not_before t) (watched_of vs k)) true ≡ pick checks s.after true
+      after_is =
           ap (λ (x : Bool). pick x (all_of (not_before t) (watched_of vs k)) true) (sym c)
-          ∙ ap (λ (x : Bool). pick checks x true) (sym (seen_after k 0 t Y (beats_at ws) vs s e f))
+          ∙ ap (λ (x : Bool). pick checks x true) (sym (seen_after k 0 t Y (beats_at ws) vs o e s f))
 
-      pub tick_before : pick checks s.found.after true ≡ false → r ≡ no_tick BeforeHeard → TicksBy ws q m k t s r ws q m
-      tick_before z d vs e = tick_declined BeforeHeard d vs (run_before ws q m (run vs k) t (lent_as true f vs e) b (after_is vs e ∙ z))
+      pub tick_before : checks ≡ true → not s.after ≡ true → TickedOn ws q m (run vs k) t (Err BeforeHeard) ws q m (run vs k)
+      tick_before x y = run_before ws q m (run vs k) t well b (after_is ∙ not_heard checks s.after x y)
 
       -- the run as the look leaves it, by whether heartbeats are checked
-      module _ (vs : List WatchedNode) (e : s ≡ surveyed k (for_tick ws t) vs) where
-        looks : (x : Bool) → first (map (settled (pick x (Looked t) Nothing))) k vs ≡ (pick x (changing (map (looked t)) (run vs k)) (run vs k)).places
-        looks true = refl
-        looks false = ap (λ (l : List WatchedNode). l ++ drop k vs) (settled_none (take k vs)) ∙ take-append-drop k vs
+      looks : (x : Bool) → first (map (settled (pick x (Looked t) Nothing))) k vs ≡ (pick x (changing (map (looked t)) (run vs k)) (run vs k)).places
+      looks true = refl
+      looks false = ap (λ (l : List WatchedNode). l ++ drop k vs) (settled_none (take k vs)) ∙ take-append-drop k vs
 
-        number_stays : (x : Bool) → k ≡ (pick x (changing (map (looked t)) (run vs k)) (run vs k)).number
-        number_stays true = refl
-        number_stays false = refl
+      number_stays : (x : Bool) → k ≡ (pick x (changing (map (looked t)) (run vs k)) (run vs k)).number
+      number_stays true = refl
+      number_stays false = refl
 
-        left : run (settled_all (settling_of k (pick checks (Looked t) Nothing)) vs) k ≡ pick C (changing (map (looked t)) (run vs k)) (run vs k)
+      nodes : (x : Bool) → map (settled (pick x (Looked t) Nothing)) (watched_of vs k) ≡ pick x (map (looked t) (watched_of vs k)) (watched_of vs k)
+      nodes true = refl
+      nodes false = settled_none (watched_of vs k)
+
+      formed : well_formed (watched_of vs k) ≡ true
+      formed = seen_formed k 0 t Y (beats_at ws) vs o e s f
+
+      fit : (x : Bool) → all_of fits (pick x (map (looked t) (watched_of vs k)) (watched_of vs k)) ≡ true
+      fit true = all_looked_fit t (watched_of vs k) b (all_fit (watched_of vs k) formed)
+      fit false = all_fit (watched_of vs k) formed
+
+      watched : (x : Bool) → watching (pick x (changing (map (looked t)) (run vs k)) (run vs k)) ≡ pick x (map (looked t) (watched_of vs k)) (watched_of vs k)
+      watched true = each_nodes vs k (seen_places k 0 t Y (beats_at ws) vs o e s f) (seen_below k 0 t Y (beats_at ws) vs o e s f) (looked t)
+      watched false = refl
+
+      module _ (vs' : List WatchedNode) (d : vs' ≡ settled_all (settling_of k (pick checks (Looked t) Nothing)) vs) where
+        left : run vs' k ≡ pick C (changing (map (looked t)) (run vs k)) (run vs k)
         left =
-            ap₂ run (set_first k (pick checks (Looked t) Nothing) _ vs refl refl ∙ looks checks) (number_stays checks)
+            ap₂ run (d ∙ set_first k (pick checks (Looked t) Nothing) _ vs refl refl ∙ looks checks) (number_stays checks)
             ∙ ap (λ (x : Bool). pick x (changing (map (looked t)) (run vs k)) (run vs k)) c
 
-        nodes : (x : Bool) → map (settled (pick x (Looked t) Nothing)) (watched_of vs k) ≡ pick x (map (looked t) (watched_of vs k)) (watched_of vs k)
-        nodes true = refl
-        nodes false = settled_none (watched_of vs k)
-
-        well : well_formed (watched_of vs k) ≡ true
-        well = seen_formed k 0 t Y (beats_at ws) vs s e f
-
-        fit : (x : Bool) → all_of fits (pick x (map (looked t) (watched_of vs k)) (watched_of vs k)) ≡ true
-        fit true = all_looked_fit t (watched_of vs k) b (all_fit (watched_of vs k) well)
-        fit false = all_fit (watched_of vs k) well
-
-        watched : (x : Bool) → watching (pick x (changing (map (looked t)) (run vs k)) (run vs k)) ≡ pick x (map (looked t) (watched_of vs k)) (watched_of vs k)
-        watched true = each_nodes vs k (seen_places k 0 t Y (beats_at ws) vs s e f) (seen_below k 0 t Y (beats_at ws) vs s e f) (looked t)
-        watched false = refl
-
-        moment : moment_of s.found.soonest ≡ earliest (watching (run (settled_all (settling_of k (pick checks (Looked t) Nothing)) vs) k))
+        moment : moment_of s.soonest ≡ earliest (watching (run vs' k))
         moment =
-            seen_moment k 0 t Y (beats_at ws) vs s e f (pick C (map (looked t) (watched_of vs k)) (watched_of vs k)) (nodes C) (fit C)
+            seen_moment k 0 t Y (beats_at ws) vs o e s f (pick C (map (looked t) (watched_of vs k)) (watched_of vs k)) (nodes C) (fit C)
             ∙ ap earliest (sym (ap watching left ∙ watched C))
 
-      pub tick_accepted :
-          pick checks s.found.after true ≡ true → (d : Dealt) (ws₁ q' m' : List ℕ) →
-          ((vs : List WatchedNode) → s.found.beats ≡ beats_all ws t vs → TicksIn ws q m (tick_taken (plain (head_of ws) q m) t vs) d ws₁ q' m' (tick_words ws q m t vs)) →
-          length ws₁ ≡ 60 → (x : Option ℕ) → x ≡ moment_of s.found.soonest → (ws' : List ℕ) → ws' ≡ earliest_written ws₁ x →
-          r ≡ tick_done d k checks t → TicksBy ws q m k t s r ws' q' m'
-      tick_accepted z d ws₁ q' m' w long x y ws' u g vs e =
-          rw g
-          (run_accepted ws q m (run vs k) t (lent_as true f vs e) b (after_is vs e ∙ z) d ws₁ q' m'
-          (w (watched_of vs k) (ap (λ (f : Findings). f.beats) (seen_found k 0 t Y (beats_at ws) vs s e f)))
-          long _ (left vs e) x (y ∙ moment vs e) ws' u)
+        pub tick_accepted :
+            pick checks s.after true ≡ true → (u : ℕ) → u ≡ t → (d : Dealt) (ws₁ q' m' : List ℕ) →
+            ((vs : List WatchedNode) → s.beats ≡ beats_all ws u vs → TicksIn ws q m (tick_taken (plain (head_of ws) q m) u vs) d ws₁ q' m' (tick_words ws q m u vs)) →
+            length ws₁ ≡ 60 → (x : Option ℕ) → x ≡ moment_of s.soonest → (ws' : List ℕ) → ws' ≡ earliest_written ws₁ x →
+            TickedOn ws q m (run vs k) t (Ok d.logged) ws' q' m' (run vs' k)
+        tick_accepted z u i d ws₁ q' m' w long x y ws' v =
+            let found = ap (λ (f : Findings). f.beats) (seen_found k 0 t Y (beats_at ws) vs o e s f) in
+            run_accepted ws q m (run vs k) t well b (after_is ∙ z) d ws₁ q' m'
+            (subst (λ (u : ℕ). s.beats ≡ beats_all ws u (watched_of vs k) → TicksIn ws q m (tick_taken (plain (head_of ws) q m) u (watched_of vs k)) d ws₁ q' m' (tick_words ws q m u (watched_of vs k)))
+            i (w (watched_of vs k)) found)
+            long _ left x (y ∙ moment) ws' v

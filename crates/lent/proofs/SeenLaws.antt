@@ -22,13 +22,12 @@ use Rattle.watched.proofs.Lists.{rising_all, watched_take, few}
 use Rattle.lentlaws.specs.Fold.{folded}
 use Rattle.lentlaws.specs.Scan.{scanned}
 use Rattle.lent.specs.declared.run.Findings.{Findings}
-use Rattle.lent.specs.declared.run.Surveyed.{Surveyed}
 use Rattle.lent.specs.declared.run.Settling.{Settling}
 use Rattle.lent.specs.declared.run.Setting.{Setting}
 use Rattle.lent.specs.declared.run.Setting.TheVariants.{Nothing, Heard}
 use Rattle.std.specs.declared.option.Option.{Option}
 use Rattle.std.specs.declared.option.Option.TheVariants.{Some, None}
-use Rattle.lent.specs.Runs.{tried_by, found_by, found_all, surveyed, sought_from, passes, settled, settling_of, set_next, settled_all}
+use Rattle.lent.specs.Runs.{tried_by, found_by, found_all, formed_of, surveyed, sought_from, settled, set_next, settled_all}
 
 both_true : (b : Bool) → both b true ≡ b
 both_true true = refl
@@ -91,21 +90,44 @@ unfolding folded
 soonest_all s [] = refl
 soonest_all s (w ∷ ws) = soonest_all (found_by s w) ws
 
+-- what is found where number 3 does not stand
+is_formed : (b : Bool) (f : Findings) → is_some (pick b (formed_of f) None) ≡ both b (is_some f.tried)
+is_formed false f = refl
+is_formed true f = by (is_some f.tried)
+  where
+    by : (b : Bool) → is_some (pick b (Some f) None) ≡ b
+    by true = refl
+    by false = refl
+
+abbrev some_or : Findings → Option Findings → Findings
+some_or f None = f
+some_or f (Some g) = g
+
+formed_same : (b : Bool) (f g : Findings) → pick b (formed_of f) None ≡ Some g → f ≡ g
+formed_same b f g e = by b (is_some f.tried) e
+  where
+    by : (b c : Bool) → pick b (pick c (Some f) None) None ≡ Some g → f ≡ g
+    by true true e = ap (some_or f) e
+    by true false e = ap (some_or f) e
+    by false c e = ap (some_or f) e
+
 -- from what was seen to what the run is
-module _ (k n t : ℕ) (y : Setting) (c : ThresholdCounter) (vs : List WatchedNode) (s : Surveyed) (e : s ≡ surveyed k (sought_from n t y c) vs) where
+module _ (k n t : ℕ) (y : Setting) (c : ThresholdCounter) (vs : List WatchedNode) (o : Option Findings) (e : o ≡ surveyed k (sought_from n t y c) vs) where
   abbrev places : Bool
   places = eqb (length vs) 32
 
   abbrev sought : Findings
   sought = sought_from n t y c
 
-  tests : passes s ≡ both (both places (leb k 32)) (rising 0 (take k vs))
-  tests = ap passes e ∙ ap (both (both places (leb k 32))) (formed_all sought (take k vs))
+  tests : is_some o ≡ both (both places (leb k 32)) (rising 0 (take k vs))
+  tests =
+      ap (λ (o : Option Findings). is_some o) e ∙ is_formed (both places (leb k 32)) (found_all sought (take k vs))
+      ∙ ap (both (both places (leb k 32))) (formed_all sought (take k vs))
 
   long : length (watched_of vs k) ≡ k
   long = listed_long (λ (i : ℕ). get_or vs i no_node) k
 
-  pub seen_lent : passes s ≡ well_lent (run vs k)
+  pub seen_lent : is_some o ≡ well_lent (run vs k)
   unfolding well_formed
   seen_lent = tests ∙ by places refl
     where
@@ -121,15 +143,15 @@ module _ (k n t : ℕ) (y : Setting) (c : ThresholdCounter) (vs : List WatchedNo
           within (eqb-true (length vs) 32 h) (leb k 32) refl
           ∙ ap (λ (n : ℕ). both (leb n 32) (both (ascending (watched_of vs k)) (all_of fits (watched_of vs k)))) (sym long)
 
-  module _ (p : passes s ≡ true) where
-    lent : well_lent (run vs k) ≡ true
-    lent = sym seen_lent ∙ p
+  module _ (s : Findings) (p : o ≡ Some s) where
+    pub seen_well : well_lent (run vs k) ≡ true
+    seen_well = sym seen_lent ∙ ap (λ (o : Option Findings). is_some o) p
 
     pub seen_formed : well_formed (watched_of vs k) ≡ true
-    seen_formed = both_snd places (well_formed (watched_of vs k)) lent
+    seen_formed = both_snd places (well_formed (watched_of vs k)) seen_well
 
     pub seen_places : length vs ≡ 32
-    seen_places = eqb-true (length vs) 32 (both_fst places (well_formed (watched_of vs k)) lent)
+    seen_places = eqb-true (length vs) 32 (both_fst places (well_formed (watched_of vs k)) seen_well)
 
     pub seen_below : k ≤ 32
     seen_below = few vs k true (sym seen_formed) refl
@@ -137,19 +159,18 @@ module _ (k n t : ℕ) (y : Setting) (c : ThresholdCounter) (vs : List WatchedNo
     pub seen_first : watched_of vs k ≡ take k vs
     seen_first = watched_take vs k (omega (arith, seen_places, seen_below))
 
-    pub seen_found : s.found ≡ found_all sought (watched_of vs k)
-    seen_found =
-        ap (λ (s : Surveyed). s.found) e ∙ ap (found_all sought) (sym seen_first)
+    pub seen_found : s ≡ found_all sought (watched_of vs k)
+    seen_found = sym (formed_same (both places (leb k 32)) (found_all sought (take k vs)) s (sym e ∙ p)) ∙ ap (found_all sought) (sym seen_first)
 
-    pub seen_watched : s.found.watched ≡ is_watched n (watched_of vs k)
+    pub seen_watched : s.watched ≡ is_watched n (watched_of vs k)
     seen_watched = ap (λ (f : Findings). f.watched) seen_found ∙ watched_all sought (watched_of vs k)
 
-    pub seen_after : s.found.after ≡ all_of (not_before t) (watched_of vs k)
+    pub seen_after : s.after ≡ all_of (not_before t) (watched_of vs k)
     seen_after = ap (λ (f : Findings). f.after) seen_found ∙ after_all sought (watched_of vs k)
 
     -- the soonest moment of the nodes as they are set
     pub seen_moment :
-        (l : List WatchedNode) → map (settled y) (watched_of vs k) ≡ l → all_of fits l ≡ true → moment_of s.found.soonest ≡ earliest l
+        (l : List WatchedNode) → map (settled y) (watched_of vs k) ≡ l → all_of fits l ≡ true → moment_of s.soonest ≡ earliest l
     seen_moment l g f =
         ap (λ (f : Findings). moment_of f.soonest) seen_found
         ∙ ap moment_of (soonest_all sought (watched_of vs k) ∙ ap (soonest never) g)
@@ -172,9 +193,6 @@ set_first (suc k) y a (w ∷ ws) e f =
     let z : a.left - 1 ≡ k = omega (arith, e) in
     (λ i. pick (lt-ltb 0 a.left (omega (arith, e)) i) (settled (f i) w) w ∷ settled_all (set_next a w).1 ws)
     ∙ ap (λ (l : List WatchedNode). settled y w ∷ l) (set_first k y (set_next a w).1 ws z f)
-
-pub set_none : (ws : List WatchedNode) → settled_all (settling_of 0 Nothing) ws ≡ ws
-set_none ws = set_idle (settling_of 0 Nothing) ws refl
 
 -- the nodes as a setting leaves them
 pub settled_none : (ws : List WatchedNode) → map (settled Nothing) ws ≡ ws

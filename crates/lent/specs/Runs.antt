@@ -1,6 +1,6 @@
 -- A walk over the places of a run: what it has found out after each, and what a walk sets.
 -- Assumes nothing.
-use Rattle.std.specs.Prelude.{ℕ, ◌-◌, Bool, true, false, List, length, take, eqb, ltb, leb, is_some}
+use Rattle.std.specs.Prelude.{ℕ, ◌-◌, true, false, List, length, take, eqb, ltb, leb, is_some}
 use Rattle.std.specs.declared.option.Option.{Option}
 use Rattle.std.specs.declared.option.Option.TheVariants.{Some, None}
 use Rattle.types.specs.Pick.{pick, both, either}
@@ -17,7 +17,6 @@ use Rattle.lentlaws.specs.Fold.{folded}
 use Rattle.lentlaws.specs.Scan.{scanned}
 use Rattle.lent.specs.declared.run.Beats.{Beats}
 use Rattle.lent.specs.declared.run.Findings.{Findings}
-use Rattle.lent.specs.declared.run.Surveyed.{Surveyed}
 use Rattle.lent.specs.declared.run.Settling.{Settling}
 use Rattle.lent.specs.declared.run.Setting.{Setting}
 use Rattle.lent.specs.declared.run.Setting.TheVariants.{Nothing, Unheard, Heard, Looked}
@@ -57,9 +56,13 @@ found_by s w =
 abbrev pub found_all : Findings → List WatchedNode → Findings
 found_all s vs = folded found_by s vs
 
--- a run of which k places are watched: "the places past that number are not tried"
-abbrev pub surveyed : ℕ → Findings → List WatchedNode → Surveyed
-surveyed k s vs = record { within = both (eqb (length vs) 32) (leb k 32); found = found_all s (take k vs) }
+-- A run of which k places are watched: "the places past that number are not tried". None where number 3 declines it: other than 32 places, a number above
+-- them, or nodes that are not well formed.
+abbrev pub formed_of : Findings → Option Findings
+formed_of f = pick (is_some f.tried) (Some f) None
+
+abbrev pub surveyed : ℕ → Findings → List WatchedNode → Option Findings
+surveyed k s vs = pick (both (eqb (length vs) 32) (leb k 32)) (formed_of (found_all s (take k vs))) None
 
 -- before the first node: what a call asks for
 abbrev pub sought_from : ℕ → ℕ → Setting → ThresholdCounter → Findings
@@ -75,8 +78,8 @@ sought_from n t y c =
       soonest = never;
     }
 
-abbrev pub for_start : Findings
-for_start = sought_from 0 0 Unheard (new_counter 0)
+abbrev pub asked_for : Setting → Findings
+asked_for y = sought_from 0 0 y (new_counter 0)
 
 abbrev pub for_heard : ℕ → ℕ → Findings
 for_heard n t = sought_from n 0 (Heard n t) (new_counter 0)
@@ -90,10 +93,6 @@ tick_sets ws t = pick (checks_heartbeats (nmt_of ws).current_state) (Looked t) N
 
 abbrev pub for_tick : List ℕ → ℕ → Findings
 for_tick ws t = sought_from 0 t (tick_sets ws t) (beats_at ws)
-
--- number 3 does not stand: 32 places, the number within them, and its nodes well formed
-abbrev pub passes : Surveyed → Bool
-passes s = both s.within (is_some s.found.tried)
 
 -- the walk back: so many places are set
 abbrev pub settling_of : ℕ → Setting → Settling

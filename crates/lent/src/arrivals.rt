@@ -3,13 +3,13 @@
 ghost use Rattle.std.specs.Prelude.{◌≡◌};
 ghost use Rattle.watched.specs.Watched.{no_node, run};
 ghost use Rattle.partners.specs.Partners.{AddedOn, RemovedOn};
-ghost use Rattle.lent.specs.Arrivals.{for_partner, carry_next, carried_all, moved_down, close_next, closed_all, Adds, Removes};
+ghost use Rattle.lent.specs.Arrivals.{carry_next, carried_all, moved_down, close_next, closed_all};
 
-use crate::calls::keep_moment;
-use crate::run::{Findings, Setting, Surveyed, ask, passes, survey};
-use counters::counters::ThresholdCounter;
+use crate::run::{for_heard, survey};
+use head::parts::set_earliest;
 use head::state::Head;
 use lentlaws::{scan, scan_back};
+use node::heard::moment;
 use partners::{is_known, try_add, try_remove};
 use types::refusals::Refusal;
 use watched::nodes::WatchedNode;
@@ -41,123 +41,61 @@ fn no_node() -> WatchedNode
     }
 }
 
-// Of a node: whether it is watched, and the soonest moment without it.
-pub fn for_partner(node: u8) -> Findings
-    ensures { result ≡ for_partner node }
-{
-    ask(node, 0, Setting::Heard(node, 0), ThresholdCounter::new(0))
-}
-
 // One place, and what is carried on: the record that is carried takes the place of one above it, or the first past the number, which is cleared from there on.
-pub fn carry_next(carrying: Option<Carrying>, w: WatchedNode) -> (WatchedNode, Option<Carrying>)
+pub fn carry_next(carrying: Carrying, w: WatchedNode) -> (WatchedNode, Carrying)
     ensures { result ≡ carry_next carrying w }
 {
-    let Some(Carrying { left, node }) = carrying else {
-        return (w, None);
-    };
+    let Carrying { left, node } = carrying;
     if left == 0 {
         let next = no_node();
-        return (node, Some(Carrying { left, node: next }));
+        return (node, Carrying { left, node: next });
     }
     let left = left - 1;
     if node.node < w.node {
-        return (node, Some(Carrying { left, node: w }));
+        return (node, Carrying { left, node: w });
     }
-    (w, Some(Carrying { left, node }))
+    (w, Carrying { left, node })
 }
 
 // All places, from the first.
-pub fn carry(nodes: &mut [WatchedNode], carrying: Option<Carrying>)
+pub fn carry(nodes: &mut [WatchedNode], carrying: Carrying)
     ensures { nodes.new ≡ carried_all carrying nodes.old }
 {
     scan(nodes, carrying, |carrying, w| carry_next(carrying, w))
 }
 
-// What one place becomes: below the node it stays, from there on it takes what stood behind it, and it is cleared where that is not watched.
-fn moved_down(
-    left: usize,
-    number: usize,
-    node: u8,
-    next: WatchedNode,
-    w: WatchedNode,
-) -> WatchedNode
-    ensures { result ≡ moved_down left number node next w }
-{
-    if number <= left {
-        return no_node();
+impl Closing {
+    // What a place becomes: below the node it stays, from there on it takes what stood behind it, and it is cleared where that is not watched.
+    fn moved_down(self, w: WatchedNode) -> WatchedNode
+        ensures { result ≡ moved_down self.left self.number self.node self.next w }
+    {
+        if self.number <= self.left {
+            return no_node();
+        }
+        if w.node < self.node {
+            return w;
+        }
+        self.next
     }
-    if w.node < node {
-        return w;
-    }
-    next
 }
 
 // One place, from the last, and what stands behind the next one.
-pub fn close_next(closing: Option<Closing>, w: WatchedNode) -> (WatchedNode, Option<Closing>)
+pub fn close_next(closing: Closing, w: WatchedNode) -> (WatchedNode, Closing)
     ensures { result ≡ close_next closing w }
 {
-    let Some(
-        Closing {
-            left,
-            number,
-            node,
-            next,
-        },
-    ) = closing
-    else {
-        return (w, None);
+    let next = Closing {
+        left: closing.left.saturating_sub(1),
+        next: w,
+        ..closing
     };
-    let set = moved_down(left, number, node, next, w);
-    let left = left.saturating_sub(1);
-    (
-        set,
-        Some(Closing {
-            left,
-            number,
-            node,
-            next: w,
-        }),
-    )
+    (closing.moved_down(w), next)
 }
 
 // All places, from the last.
-pub fn close(nodes: &mut [WatchedNode], closing: Option<Closing>)
+pub fn close(nodes: &mut [WatchedNode], closing: Closing)
     ensures { nodes.new ≡ closed_all closing nodes.old }
 {
     scan_back(nodes, closing, |closing, w| close_next(closing, w))
-}
-
-// An add, by what was found of the run.
-pub fn add_by(
-    head: &mut Head,
-    number: &mut usize,
-    node: u8,
-    timeout: u64,
-    seen: Surveyed,
-) -> (Result<(), Refusal>, Option<Carrying>)
-    ensures { Adds head.old number.old node timeout seen result head.new number.new }
-{
-    let count = *number;
-    let answer = try_add(
-        is_known(node),
-        passes(seen),
-        timeout,
-        seen.found.watched,
-        count,
-    );
-    keep_moment(head, answer, seen.found.soonest);
-    match answer {
-        Ok(()) => {
-            *number = count + 1;
-            let node = WatchedNode {
-                node,
-                timeout,
-                last_heard: 0,
-            };
-            (Ok(()), Some(Carrying { left: count, node }))
-        }
-        Err(refusal) => (Err(refusal), None),
-    }
 }
 
 // A node is watched from now on, with its timeout, and not yet heard.
@@ -170,40 +108,28 @@ pub fn add(
 ) -> Result<(), Refusal>
     ensures { AddedOn head.old (run nodes.old number.old) node timeout result head.new (run nodes.new number.new) }
 {
-    let seen = survey(nodes, *number, for_partner(node));
-    let (answer, carrying) = add_by(head, number, node, timeout, seen);
-    carry(nodes, carrying);
-    answer
-}
-
-// A removal, by what was found of the run.
-pub fn remove_by(
-    head: &mut Head,
-    number: &mut usize,
-    node: u8,
-    seen: Surveyed,
-) -> (Result<(), Refusal>, Option<Closing>)
-    ensures { Removes head.old number.old node seen result head.new number.new }
-{
     let count = *number;
-    let answer = try_remove(passes(seen), seen.found.watched);
-    keep_moment(head, answer, seen.found.soonest);
-    match answer {
-        Ok(()) => {
-            *number = count.saturating_sub(1);
-            let closing = Closing {
-                left: 32,
-                number: count,
-                node,
-                next: no_node(),
-            };
-            (Ok(()), Some(closing))
-        }
-        Err(refusal) => (Err(refusal), None),
-    }
+    let known = is_known(node);
+    let Some(found) = survey(nodes, count, for_heard(node, 0)) else {
+        return try_add(known, false, timeout, false, count);
+    };
+    try_add(known, true, timeout, found.watched, count)?;
+    let added = WatchedNode {
+        node,
+        timeout,
+        last_heard: 0,
+    };
+    let carrying = Carrying {
+        left: count,
+        node: added,
+    };
+    carry(nodes, carrying);
+    *number = count + 1;
+    set_earliest(head, moment(found.soonest));
+    Ok(())
 }
 
-// A node is watched no more.
+// A node is watched no more. The soonest moment with it not heard is that of the others.
 pub fn remove(
     head: &mut Head,
     number: &mut usize,
@@ -212,8 +138,19 @@ pub fn remove(
 ) -> Result<(), Refusal>
     ensures { RemovedOn head.old (run nodes.old number.old) node result head.new (run nodes.new number.new) }
 {
-    let seen = survey(nodes, *number, for_partner(node));
-    let (answer, closing) = remove_by(head, number, node, seen);
+    let count = *number;
+    let Some(found) = survey(nodes, count, for_heard(node, 0)) else {
+        return try_remove(false, false);
+    };
+    try_remove(true, found.watched)?;
+    let closing = Closing {
+        left: 32,
+        number: count,
+        node,
+        next: no_node(),
+    };
     close(nodes, closing);
-    answer
+    *number = count - 1;
+    set_earliest(head, moment(found.soonest));
+    Ok(())
 }

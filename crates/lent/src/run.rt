@@ -1,10 +1,9 @@
 // The watched nodes as a lent run of records, with the number watched beside it: what a walk over its places finds out, and what a walk sets.
-ghost use Rattle.std.specs.Prelude.{◌≡◌, eqb, ltb};
-ghost use Rattle.types.specs.Pick.{pick, both, either};
-ghost use Rattle.watched.specs.Watched.{fits};
-ghost use Rattle.watched.specs.Nodes.{not_before, sooner_by};
+ghost use Rattle.std.specs.Prelude.{◌≡◌};
+ghost use Rattle.types.specs.Pick.{pick};
+ghost use Rattle.watched.specs.Nodes.{sooner_by};
 ghost use Rattle.lentlaws.specs.Scan.{scanned};
-ghost use Rattle.lent.specs.Runs.{sought_from, for_start, for_heard, for_tick, passes, tried_by, beaten_by, found_by, surveyed, settled, set_next, settled_all};
+ghost use Rattle.lent.specs.Runs.{asked_for, for_heard, for_tick, tried_by, beaten_by, found_by, surveyed, settled, settling_of, set_next, settled_all};
 
 use counters::counters::{CounterKind, ThresholdCounter};
 use head::parts::{counter_of, state_at};
@@ -50,57 +49,40 @@ pub struct Findings {
     pub soonest: u64,
 }
 
-// What a walk over the watched places of a run finds out.
-#[derive(Clone, Copy)]
-pub struct Surveyed {
-    // There are 32 places, and the number watched is within them.
-    pub within: bool,
-    pub found: Findings,
-}
-
-// What the walk back sets: so many places, and how.
+// What a walk sets: so many places, and how.
 #[derive(Clone, Copy)]
 pub struct Settling {
     pub left: usize,
     pub setting: Setting,
 }
 
-// Before the first place.
-pub fn ask(node: u8, time: u64, setting: Setting, counter: ThresholdCounter) -> Findings
-    ensures { result ≡ sought_from node time setting counter }
+// Of the nodes alone, before the first place.
+pub fn ask(setting: Setting) -> Findings
+    ensures { result ≡ asked_for setting }
 {
     Findings {
-        node,
-        time,
+        node: 0,
+        time: 0,
         setting,
         tried: Some(0),
         watched: false,
         after: true,
         beats: Beats {
-            counter,
+            counter: ThresholdCounter::new(0),
             crossed: None,
         },
         soonest: NEVER,
     }
 }
 
-// Of the nodes alone.
-pub fn for_start() -> Findings
-    ensures { result ≡ for_start }
-{
-    ask(0, 0, Setting::Unheard, ThresholdCounter::new(0))
-}
-
-// Of a node too.
+// Of a node too, heard at a time; where it is 0, the soonest moment is that of the others.
 pub fn for_heard(node: u8, time: u64) -> Findings
     ensures { result ≡ for_heard node time }
 {
-    ask(
+    Findings {
         node,
-        0,
-        Setting::Heard(node, time),
-        ThresholdCounter::new(0),
-    )
+        ..ask(Setting::Heard(node, time))
+    }
 }
 
 // The times are set where heartbeats are checked.
@@ -117,19 +99,15 @@ pub fn look_if(checks: bool, time: u64) -> Setting
 pub fn for_tick(head: &Head, time: u64) -> Findings
     ensures { result ≡ for_tick head.now time }
 {
-    let counter = counter_of(head, CounterKind::HeartbeatTimeout);
-    let setting = look_if(checks_heartbeats(state_at(head)), time);
-    ask(0, time, setting, counter)
-}
-
-// Number 3 does not stand: 32 places, the number within them, and its nodes well formed.
-pub fn passes(seen: Surveyed) -> bool
-    ensures { result ≡ passes seen }
-{
-    if !seen.within {
-        return false;
+    let beats = Beats {
+        counter: counter_of(head, CounterKind::HeartbeatTimeout),
+        crossed: None,
+    };
+    Findings {
+        time,
+        beats,
+        ..ask(look_if(checks_heartbeats(state_at(head)), time))
     }
-    seen.found.tried.is_some()
 }
 
 // A node with a higher number than the last, and within its limits.
@@ -160,24 +138,6 @@ fn beat(beats: Beats, w: WatchedNode, time: u64) -> Beats
         counter,
         crossed: if check.reached { Some(w.node) } else { None },
     }
-}
-
-fn is_or(found: bool, w: WatchedNode, node: u8) -> bool
-    ensures { result ≡ either found (eqb w.node node) }
-{
-    if found {
-        return true;
-    }
-    w.node == node
-}
-
-fn and_after(after: bool, w: WatchedNode, time: u64) -> bool
-    ensures { result ≡ both after (not_before time w) }
-{
-    if after {
-        return NodeRecord::from(w).heard_by(time);
-    }
-    false
 }
 
 // One node.
@@ -216,42 +176,26 @@ fn soonest_with(soonest: u64, setting: Setting, w: WatchedNode) -> u64
 pub fn see(found: Findings, w: WatchedNode) -> Findings
     ensures { result ≡ found_by found w }
 {
-    let node = found.node;
-    let time = found.time;
-    let setting = found.setting;
-    let tried = found.tried;
-    let tried = try_node(tried, w);
-    let watched = is_or(found.watched, w, node);
-    let after = and_after(found.after, w, time);
-    let beats = found.beats;
-    let beats = beat(beats, w, time);
-    let soonest = soonest_with(found.soonest, setting, w);
     Findings {
-        node,
-        time,
-        setting,
-        tried,
-        watched,
-        after,
-        beats,
-        soonest,
+        tried: try_node(found.tried, w),
+        watched: found.watched || w.node == found.node,
+        after: found.after && NodeRecord::from(w).heard_by(found.time),
+        beats: beat(found.beats, w, found.time),
+        soonest: soonest_with(found.soonest, found.setting, w),
+        ..found
     }
 }
 
-// The watched places, in order; those past the number are not tried.
-pub fn survey(nodes: &[WatchedNode], number: usize, first: Findings) -> Surveyed
+// The watched places, in order, where number 3 does not stand: 32 places, the number within them, and its nodes well formed. Those past the number are not tried.
+pub fn survey(nodes: &[WatchedNode], number: usize, first: Findings) -> Option<Findings>
     ensures { result ≡ surveyed number first nodes.now }
 {
-    let within = nodes.len() == 32 && number <= 32;
-    let watched = if number <= nodes.len() {
-        &nodes[..number]
-    } else {
-        nodes
-    };
-    Surveyed {
-        within,
-        found: fold(watched, first, |found, w| see(found, w)),
+    if nodes.len() != 32 || 32 < number {
+        return None;
     }
+    let found = fold(&nodes[..number], first, |found, w| see(found, w));
+    found.tried?;
+    Some(found)
 }
 
 // One place as it is set, and what is to be set behind it: past the number it stays as it is.
@@ -266,9 +210,13 @@ pub fn set_next(settling: Settling, w: WatchedNode) -> (WatchedNode, Settling)
     (set(setting, w), Settling { left, setting })
 }
 
-// All places.
-pub fn settle(nodes: &mut [WatchedNode], settling: Settling)
-    ensures { nodes.new ≡ settled_all settling nodes.old }
+// The first so many places.
+pub fn settle(nodes: &mut [WatchedNode], number: usize, setting: Setting)
+    ensures { nodes.new ≡ settled_all (settling_of number setting) nodes.old }
 {
+    let settling = Settling {
+        left: number,
+        setting,
+    };
     scan(nodes, settling, |settling, w| set_next(settling, w))
 }

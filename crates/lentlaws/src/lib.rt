@@ -56,15 +56,13 @@ pub fn scan<E: Copy, A: Copy, F: Fn(A, E) -> (E, A)>(xs: &mut [E], first: A, ste
     }
 }
 
-// Each record, from the last. Counted by hand: of a `rev` of `iter_mut` no proof knows the elements.
+// Each record, from the last: by its place, since of a `rev` of `iter_mut` no proof knows the elements.
 pub fn scan_back<E: Copy, A: Copy, F: Fn(A, E) -> (E, A)>(xs: &mut [E], last: A, step: F)
     requires { F.IsAlwaysCallable step }
     ensures { (sets : A → E → E) (carries : A → E → A) → ((a : A) (x : E) (r : E × A) → F.post step a x r → r ≡ (sets a x, carries a x)) → xs.new ≡ scanned_back sets carries last xs.old }
 {
     let mut carried = last;
-    let mut i = xs.len();
-    while 0 < i {
-        i -= 1;
+    for i in (0..xs.len()).rev() {
         let (next, back) = step(carried, xs[i]);
         xs[i] = next;
         carried = back;

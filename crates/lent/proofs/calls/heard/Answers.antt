@@ -1,0 +1,22 @@
+-- `lent::calls::heard` meets its contract: by what was found of the run, its tests, and what a walk sets.
+-- Assumes nothing.
+use Rattle.std.proofs.Common.{rules, ◌≡◌, Err}
+use Rattle.lent.proofs.JudgedLaws.{heard_unformed, heard_refused, heard_done}
+use Rattle.lent.proofs.calls.heard.Goals as goal
+
+pub returns-in_default : goal.returns-in_default
+returns-in_default c =
+    let a = c.args in
+    heard_unformed a.head.now a.nodes.now a.number a.node a.time _ c.for_heard.ensures c.survey.result c.survey.ensures c.in_default.is
+
+pub returns-in_err-try_heard : goal.returns-in_err-try_heard
+returns-in_err-try_heard c =
+    let a = c.args in
+    let r : c.from_residual.result ≡ Err c.in_err-try_heard.field-0.0 = search rules in
+    rw r (heard_refused a.head.now a.nodes.now a.number a.node a.time _ c.for_heard.ensures c.survey.result c.survey.ensures _ c.in-Some.is c.try_heard.result c.try_heard.ensures _ c.in_err-try_heard.was)
+
+pub returns : goal.returns
+returns c =
+    let a = c.args in
+    heard_done a.head.now a.nodes.now a.number a.node a.time _ c.for_heard.ensures c.survey.result c.survey.ensures _ c.in-Some.is c.try_heard.result c.try_heard.ensures
+    c.in_ok-try_heard.was c.told-head _ c.settle.ensures c.moment.result c.moment.ensures _ c.set_earliest.ensures
