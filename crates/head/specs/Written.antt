@@ -1,6 +1,8 @@
 -- The words after a part of the head is written: each gives every word, and all that it does not name stay as they were.
 -- Assumes nothing.
-use Rattle.std.specs.Prelude.{ℕ, ◌+◌, ◌/◌, ◌%◌, List, slice_set}
+use Rattle.std.specs.Prelude.{ℕ, ◌≡◌, ◌+◌, ◌/◌, ◌%◌, List, slice_set}
+use Rattle.std.specs.Fn.{Once}
+use denote.Ref.{MutBor}
 use Rattle.types.specs.States.{state_number}
 use Rattle.nmt.specs.declared.cn_state_machine.CnNmtStateMachine.{CnNmtStateMachine}
 use Rattle.dll.specs.Dll.{cs_state_number}
@@ -44,6 +46,14 @@ levels_written ws s = each_written ws 1 (λ (k : CounterKind). (counter k s).thr
 
 abbrev pub time_written : List ℕ → ℕ → ℕ → List ℕ
 time_written ws i t = slice_set (slice_set ws i (t % 4294967296)) (i + 1) (t / 4294967296)
+
+-- a call of f at a `&mut` to ws, and t, may leave ws' there
+pub record WritesThere {F T : Type 0} (g : Once F (MutBor (List ℕ) × (T × Unit {0})) (Unit {0} × (MutBor (List ℕ) × Unit {0}))) (f : F) (ws : List ℕ) (t : T) (ws' : List ℕ) : Type 0 where
+  pub shown : MutBor (List ℕ)
+  pub left : MutBor (List ℕ)
+  pub called : g.post f (shown, (t, tt)) (tt, (left, tt))
+  pub shows : shown.now ≡ ws
+  pub leaves : left.now ≡ ws'
 
 -- where there is no moment, its time stays as it was
 abbrev pub moment_written : List ℕ → ℕ → ℕ → Option ℕ → List ℕ

@@ -1,11 +1,11 @@
 // A head in words: where each part stands, how it is read and how it is written. Any words are a head.
-ghost use Rattle.std.specs.Prelude.{◌≡◌, ℕ, ◌+◌, ◌%◌, ◌≤◌, ◌<◌, length, replicate, slice_set};
+ghost use Rattle.std.specs.Prelude.{◌≡◌, ℕ, ◌+◌, ◌%◌, ◌≤◌, ◌<◌, length, replicate, slice_set, MatchOption};
 ghost use Rattle.counters.specs.Counters.{counter};
 ghost use Rattle.counters.specs.declared.counters.CounterKind.{CounterKind};
 ghost use Rattle.dll.specs.Dll.{cs_state_number};
 ghost use Rattle.head.specs.Places as at;
 ghost use Rattle.head.specs.Words.{word, yes, one, time_at, state_of, nmt_of, dll_state, counter_at, errors_of, deadline_of, soc_of, object_at, od_of, queue_of, history_of, earliest_of};
-ghost use Rattle.head.specs.Written.{forgotten_written, nmt_written, counter_written, each_written, levels_written, time_written, moment_written, deadline_written, earliest_written, soc_written, queue_written, history_written, identity_written, thresholds_written, object_written, od_written};
+ghost use Rattle.head.specs.Written.{forgotten_written, nmt_written, counter_written, each_written, levels_written, time_written, moment_written, deadline_written, earliest_written, soc_written, queue_written, history_written, identity_written, thresholds_written, object_written, od_written, WritesThere};
 
 use crate::state::{Dictionary, Head, Object, SocWatch, Statistic};
 use counters::counters::{CnErrorCounters, CounterKind, ThresholdCounter};
@@ -118,20 +118,23 @@ fn moment_at(head: &Head, there: usize, place: usize) -> Option<u64>
     (head[there] != 0).then_some(time_at(head, place))
 }
 
-// Where there is no moment, its time stays as it was.
+// Whether there is a value, and by `write` what it is: where there is none, its words stay as they were.
+fn set_option<T, F: FnOnce(&mut Head, T)>(head: &mut Head, there: usize, value: Option<T>, write: F)
+    requires inside { there < 60 }
+    requires callable { F.IsAlwaysCallable write }
+    ensures { MatchOption value (head.new ≡ slice_set head.old there 0) (λ t. WritesThere F.FnOnce write (slice_set head.old there 1) t head.new) }
+{
+    head[there] = u32::from(value.is_some());
+    if let Some(value) = value {
+        write(head, value);
+    }
+}
+
 fn set_moment(head: &mut Head, there: usize, place: usize, moment: Option<u64>)
     requires { (there < 60) × (place < 59) }
     ensures { head.new ≡ moment_written head.old there place moment }
 {
-    match moment {
-        Some(time) => {
-            head[there] = 1;
-            set_time(head, place, time);
-        }
-        None => {
-            head[there] = 0;
-        }
-    }
+    set_option(head, there, moment, |head, t| set_time(head, place, t));
 }
 
 fn state_of(word: u32) -> NmtState
@@ -470,22 +473,11 @@ fn object_place(object: Object) -> usize
     object as usize
 }
 
-// Where there is no value, its word stays as it was.
 pub fn set_object(head: &mut Head, object: Object, value: Option<u32>)
     ensures { head.new ≡ object_written head.old (at.object object) value }
 {
     let place = object_place(object);
-    match value {
-        Some(n) => {
-            head[place] = 1;
-            head[place + 1] = n;
-            return;
-        }
-        None => {
-            head[place] = 0;
-            return;
-        }
-    }
+    set_option(head, place, value, |head, n| head[place + 1] = n);
 }
 
 fn statistic_place(statistic: Statistic) -> usize
