@@ -4,7 +4,7 @@
 #![tactic(auto)]
 
 ghost use Rattle.std.specs.Prelude.{◌≡◌, false, ◌+◌, ◌*◌, ◌≤◌, ◌<◌, max, length, replicate};
-ghost use Rattle.session.specs.Session.{key_after, lent_number, with_run, places, record_put, put_at, record_at, three, behind_of, end_of, arranged, watched_by, arranged_by};
+ghost use Rattle.session.specs.Session.{key_after, lent_number, with_run, places, record_put, put_at, record_at, three, end_of, arranged, watched_by, arranged_by};
 
 use patterns::Given;
 use watched::nodes::NodeWords;
@@ -31,9 +31,7 @@ fn put(words: &mut [u64], place: usize, given: Given)
     ensures { words.new ≡ record_put words.old place given }
 {
     let at = 3 * place;
-    words[at] = given[0];
-    words[at + 1] = given[1];
-    words[at + 2] = given[2];
+    words[at..at + 3].copy_from_slice(&given[..3]);
 }
 
 // The record at a place.
@@ -43,18 +41,6 @@ fn words_at(words: &[u64], place: usize) -> [u64; 3]
 {
     let at = 3 * place;
     [words[at], words[at + 1], words[at + 2]]
-}
-
-// The place behind a record that is not all zeros; else the one behind those before it.
-fn behind(words: [u64; 3], place: usize, end: usize) -> usize
-    requires { (place < 40) × (end ≤ 40) }
-    ensures { (result ≡ behind_of words place end) × (result ≤ 40) }
-{
-    if words[0] == 0 && words[1] == 0 && words[2] == 0 {
-        end
-    } else {
-        place + 1
-    }
 }
 
 impl Places {
@@ -92,16 +78,13 @@ impl Places {
         }
     }
 
-    // The place behind the last record from one place to another, of 40, that is not all zeros. The records stand in two arrays, which no one iterator
-    // goes over.
+    // The place behind the last record from one place to another, of 40, that is not all zeros. It goes over places, since the records stand in two arrays.
     pub fn end_of(&self, from: usize, to: usize) -> usize
         ensures { (result ≡ end_of self.now from to) × (result ≤ 40) }
     {
-        let mut end = from.min(40);
-        for place in from..to.min(40) {
-            end = behind(self.record(place), place, end);
-        }
-        end
+        (from..to.min(40))
+            .rfind(|&place| self.record(place) != [0; 3])
+            .map_or(from.min(40), |place| place + 1)
     }
 }
 
