@@ -8,19 +8,19 @@ use Rattle.shift.proofs.Totals.{report_whole}
 use Rattle.shift.proofs.feed.Shift.feed.Reads as feed-reads
 use Rattle.shift.proofs.feed.Shift.report.Reads as report-reads
 
--- a part p that stands in the buffer behind what is kept
+-- a part p that is lent behind what is kept
 pub part_fed :
     (κs : _) (a : _) (r : _) (x : _) →
     feed-reads.Learnt κs a r x →
     (k : Kept) (p : List ℕ) →
     a.0.now.entries ≡ k.entries →
     a.0.now.counts ≡ k.counts →
-    take a.1.1.0 a.1.0.now ≡ k.left ++ p →
+    a.1.0.now ≡ k.left ++ p →
     keeping x.0.now.entries x.0.now.counts (take x.0.now.left x.1.0.now) ≡ fed k p
 part_fed κs a r x l k p e c f =
     l.0
-    ∙ (ap (λ (n : ℕ). absorbed n a.0.now.counts (take a.1.1.0 a.1.0.now)) e
-    ∙ (ap (λ (cs : List ℕ). absorbed k.entries cs (take a.1.1.0 a.1.0.now)) c
+    ∙ (ap (λ (n : ℕ). absorbed n a.0.now.counts a.1.0.now) e
+    ∙ (ap (λ (cs : List ℕ). absorbed k.entries cs a.1.0.now) c
     ∙ ap (λ (s : List ℕ). absorbed k.entries k.counts s) f))
 
 -- The parts ps have arrived, one call of `feed` for each, and k is kept.
@@ -34,7 +34,7 @@ pub data Arrived : List (List ℕ) → Kept → Type 0 where
       (p : List ℕ) →
       a.0.now.entries ≡ k.entries →
       a.0.now.counts ≡ k.counts →
-      take a.1.1.0 a.1.0.now ≡ k.left ++ p →
+      a.1.0.now ≡ k.left ++ p →
       Arrived (ps ++ (p ∷ [])) (keeping x.0.now.entries x.0.now.counts (take x.0.now.left x.1.0.now))
 
 fed_last : (k : Kept) (ps : List (List ℕ)) (p : List ℕ) → fed_all k (ps ++ (p ∷ [])) ≡ fed (fed_all k ps) p

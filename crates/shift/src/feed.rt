@@ -49,15 +49,15 @@ impl Shift {
         }
     }
 
-    // Counts what stands in the first bytes of a buffer, the bytes left before and a part behind them, and puts the bytes left now to the front.
-    pub fn feed(&mut self, buffer: &mut [u8], filled: usize)
-        ensures kept { keeping self.new.entries self.new.counts (take self.new.left buffer.new) ≡ absorbed self.old.entries self.old.counts (take filled buffer.old) }
-        ensures left { self.new.left ≡ length (take filled buffer.old) % 20 }
+    // Counts what a buffer holds, the bytes left before and a part behind them, and puts the bytes left now to its front.
+    pub fn feed(&mut self, filled: &mut [u8])
+        ensures kept { keeping self.new.entries self.new.counts (take self.new.left filled.new) ≡ absorbed self.old.entries self.old.counts filled.old }
+        ensures left { self.new.left ≡ length filled.old % 20 }
     {
-        let n = filled.min(buffer.len());
-        tally(&mut self.counts, &buffer[..n]);
+        let n = filled.len();
+        tally(&mut self.counts, filled);
         self.entries = self.entries.wrapping_add((n / 20) as u64);
         self.left = n % 20;
-        buffer.copy_within(n - n % 20..n, 0);
+        filled.copy_within(n - n % 20..n, 0);
     }
 }

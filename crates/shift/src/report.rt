@@ -80,11 +80,10 @@ fn put_codes(page: &mut Page, counts: &Counts)
 fn others(entries: u64, counts: &Counts) -> u64
     ensures { result ≡ less (λ c. slice_index counts.now c) entries named_codes }
 {
-    let mut rest = entries;
-    for kind in ASCENDING {
-        rest = rest.saturating_sub(counts[kind.to_error_code() as usize]);
-    }
-    rest
+    ASCENDING.iter().fold(
+        entries,
+        |rest, kind| rest.saturating_sub(counts[kind.to_error_code() as usize]),
+    )
 }
 
 #[tactic(auto, unfolding(crate::specs::Report::other_line))]

@@ -42,7 +42,7 @@ fn main(rt: HostRuntime) -> io::Result<ExitCode> {
         let left = shift.left.min(buffer.len());
         match input.read(&mut buffer[left..]) {
             Ok(0) => return print(&rt, &shift),
-            Ok(got) => shift.feed(&mut buffer, left.saturating_add(got)),
+            Ok(got) => shift.feed(&mut buffer[..left + got]),
             Err(error) => return fail(&rt, "reading standard input", error),
         }
     }
