@@ -4,16 +4,16 @@ use Rattle.std.specs.Prelude.{ℕ, ◌+◌, ◌-◌, min, Bool, true, false, not
 use Rattle.types.specs.Pick.{pick, both, either}
 use Rattle.types.specs.declared.frame.error.types.DllError.{DllError}
 use Rattle.types.specs.declared.frame.error.types.DllError.TheVariants as error
+use Rattle.types.specs.declared.frame.error.types.DllErrors.{DllErrors}
 use Rattle.types.specs.declared.frame.error.types.DllErrors.TheVariants as errors
+use Rattle.types.specs.declared.frame.error.types.NmtAction.{NmtAction}
 use Rattle.types.specs.declared.frame.error.types.NmtAction.TheVariants as action
 use Rattle.counters.specs.declared.counters.ThresholdCounter.{ThresholdCounter}
-use Rattle.counters.specs.declared.counters.ThresholdCheck.{ThresholdCheck}
 use Rattle.counters.specs.declared.counters.CounterKind.{CounterKind}
 use Rattle.counters.specs.declared.counters.CounterKind.TheVariants.{Collision, LossOfSoc, LossOfSoa, LossOfPreq, SoCJitter, Crc, HeartbeatTimeout}
 use Rattle.counters.specs.declared.counters.CnErrorCounters.{CnErrorCounters}
 use Rattle.counters.specs.declared.counters.Thresholds.{Thresholds}
-use Rattle.counters.specs.declared.counters.HandledError.{HandledError}
-use Rattle.counters.specs.declared.counters.CompletedCycle.{CompletedCycle}
+use Rattle.counters.specs.declared.counters.ErrorTaken.{ErrorTaken}
 use Rattle.counters.specs.declared.counters.ErrorEffect.{ErrorEffect}
 use Rattle.counters.specs.declared.counters.ErrorEffect.TheVariants as an-effect
 
@@ -119,12 +119,28 @@ incremented c = counter_of (add_top c.cumulative_cnt 1) (add_top c.threshold_cnt
 abbrev pub reaches : ThresholdCounter → Bool
 reaches c = both (ltb 0 c.threshold) (leb c.threshold c.threshold_cnt)
 
+-- a counter after its check, and whether it reached the threshold
+pub record ThresholdCheck : Type 0 where
+  pub counter : ThresholdCounter
+  pub reached : Bool
+
 -- "the level drops to 0"; No. 3: "Crossings get a count of their own", which stops at the 32-bit top too
 abbrev pub after_check : ThresholdCounter → ThresholdCheck
 after_check c =
     pick (reaches c)
     (record { counter = counter_of c.cumulative_cnt 0 c.threshold (add_top c.crossings_cnt 1); reached = true })
     (record { counter = c; reached = false })
+
+-- the counters after an error, and its answer: what NMT is asked for, whether the error status changed, and what goes to the handler
+pub record HandledError : Type 0 where
+  pub counters : CnErrorCounters
+  pub action : NmtAction
+  pub signal : Bool
+  pub logged : DllErrors
+
+-- an error's answer without the counters
+abbrev pub replied : HandledError → ErrorTaken
+replied r = record { action = r.action; signal = r.signal; logged = r.logged }
 
 -- "and ResetCommunication is asked for"; "A crossing is logged and signals too."
 abbrev pub crossed_answer : CnErrorCounters → DllError → HandledError
@@ -162,6 +178,11 @@ any_of p (x ∷ xs) = either (p x) (any_of p xs)
 
 unfoldable pub any_active : CnErrorCounters → Bool
 any_active s = any_of (λ (k : CounterKind). active (counter k s)) counter_kinds
+
+-- the counters after a completed cycle, and whether it cleared the last level
+pub record CompletedCycle : Type 0 where
+  pub counters : CnErrorCounters
+  pub cleared : Bool
 
 -- "It answers yes when the last level reaches 0": one was above 0, and none is any more
 unfoldable pub completed : CnErrorCounters → CompletedCycle

@@ -1,6 +1,6 @@
 // The threshold counters (EPSG DS 301, Section 4.7.4.1) and those of a controlled node (Section 4.7.8).
-ghost use Rattle.std.specs.Prelude.{◌≡◌};
-ghost use Rattle.counters.specs.Counters.{new_counter, incremented, decremented, after_check, after_error, active, new_counters, threshold_for, counter, replaced, unsignalled, signalled_answer, counted_error, effect, effect_of, handled, lowered, any_active, completed, same_for_all, thresholds_fit};
+ghost use Rattle.std.specs.Prelude.{◌≡◌, true, false};
+ghost use Rattle.counters.specs.Counters.{new_counter, incremented, decremented, after_check, after_error, active, new_counters, threshold_for, counter, replaced, replied, counted_error, effect, effect_of, handled, lowered, any_active, completed, same_for_all, thresholds_fit};
 
 use types::frame::error::types::{DllError, DllErrors, NmtAction};
 
@@ -15,13 +15,6 @@ pub struct ThresholdCounter {
     pub crossings_cnt: u32,
 }
 
-// A counter after its check.
-#[derive(Clone, Copy, PartialEq, Eq)]
-pub struct ThresholdCheck {
-    pub counter: ThresholdCounter,
-    pub reached: bool,
-}
-
 impl ThresholdCounter {
     pub fn new(threshold: u32) -> Self
         ensures { result ≡ new_counter threshold }
@@ -34,48 +27,42 @@ impl ThresholdCounter {
         }
     }
 
-    pub fn increment(mut self) -> Self
-        ensures { result ≡ incremented self }
+    pub fn increment(&mut self)
+        ensures { self.new ≡ incremented self.old }
     {
         self.cumulative_cnt = self.cumulative_cnt.saturating_add(1);
         self.threshold_cnt = self.threshold_cnt.saturating_add(8);
-        self
     }
 
-    pub fn decrement(mut self) -> Self
-        ensures { result ≡ decremented self }
+    pub fn decrement(&mut self)
+        ensures { self.new ≡ decremented self.old }
     {
         if 0 < self.threshold_cnt {
             self.threshold_cnt -= 1;
         }
-        self
     }
 
-    // A threshold of 0 is never reached.
-    pub fn check_and_reset(mut self) -> ThresholdCheck
-        ensures { result ≡ after_check self }
+    // Whether the threshold was reached; the level is 0 then. A threshold of 0 is never reached.
+    pub fn check_and_reset(&mut self) -> bool
+        ensures counter { self.new ≡ (after_check self.old).counter }
+        ensures reached { result ≡ (after_check self.old).reached }
     {
-        if 0 < self.threshold && self.threshold <= self.threshold_cnt {
+        let reached = 0 < self.threshold && self.threshold <= self.threshold_cnt;
+        if reached {
             self.threshold_cnt = 0;
             self.crossings_cnt = self.crossings_cnt.saturating_add(1);
-            ThresholdCheck {
-                counter: self,
-                reached: true,
-            }
-        } else {
-            ThresholdCheck {
-                counter: self,
-                reached: false,
-            }
         }
+        reached
     }
 
     // An error that counts: the level rises, and is checked.
     #[tactic(auto, unfolding(crate::specs::Counters::after_error))]
-    pub fn count_error(self) -> ThresholdCheck
-        ensures { result ≡ after_error self }
+    pub fn count_error(&mut self) -> bool
+        ensures counter { self.new ≡ (after_error self.old).counter }
+        ensures reached { result ≡ (after_error self.old).reached }
     {
-        self.increment().check_and_reset()
+        self.increment();
+        self.check_and_reset()
     }
 
     pub fn is_active(self) -> bool
@@ -204,43 +191,36 @@ pub struct CnErrorCounters {
     pub loss_of_link_cumulative: u32,
 }
 
-// The answer to an error: what NMT is asked for, whether the error status changed, and what goes to the handler.
+// What document 01 says that an error answers: what NMT is asked for, whether the error status changed, and what goes to
+// the handler. The three are read apart, so they are no enum.
 #[derive(Clone, Copy, PartialEq, Eq)]
-pub struct HandledError {
-    pub counters: CnErrorCounters,
+pub struct ErrorTaken {
     pub action: NmtAction,
     pub signal: bool,
     pub logged: DllErrors,
 }
 
-// The answer to a completed cycle: whether it cleared the last level.
-#[derive(Clone, Copy, PartialEq, Eq)]
-pub struct CompletedCycle {
-    pub counters: CnErrorCounters,
-    pub cleared: bool,
-}
-
-// Nothing is asked for, signalled or logged.
-fn unsignalled(counters: CnErrorCounters) -> HandledError
-    ensures { result ≡ unsignalled counters }
-{
-    HandledError {
-        counters,
-        action: NmtAction::None,
-        signal: false,
-        logged: DllErrors::None,
+impl ErrorTaken {
+    // Nothing is asked for, signalled or logged.
+    pub fn unsignalled() -> Self
+        ensures { result ≡ record { action = NmtAction.None; signal = false; logged = DllErrors.None } }
+    {
+        Self {
+            action: NmtAction::None,
+            signal: false,
+            logged: DllErrors::None,
+        }
     }
-}
 
-// The error is logged and signals, without an action.
-fn signalled(counters: CnErrorCounters, error: DllError) -> HandledError
-    ensures { result ≡ signalled_answer counters error }
-{
-    HandledError {
-        counters,
-        action: NmtAction::None,
-        signal: true,
-        logged: DllErrors::One(error),
+    // The error is logged and signals.
+    pub fn signalled(action: NmtAction, error: DllError) -> Self
+        ensures { result ≡ record { action = action; signal = true; logged = DllErrors.One error } }
+    {
+        Self {
+            action,
+            signal: true,
+            logged: DllErrors::One(error),
+        }
     }
 }
 
@@ -287,10 +267,10 @@ impl CnErrorCounters {
         }
     }
 
-    // The counters with that of a kind replaced.
+    // That of a kind is replaced.
     #[tactic(auto, unfolding(crate::specs::Counters::replaced))]
-    fn replace(mut self, kind: CounterKind, by: ThresholdCounter) -> Self
-        ensures { result ≡ replaced kind by self }
+    fn replace(&mut self, kind: CounterKind, by: ThresholdCounter)
+        ensures { self.new ≡ replaced kind by self.old }
     {
         match kind {
             CounterKind::Collision => self.collision = by,
@@ -301,52 +281,54 @@ impl CnErrorCounters {
             CounterKind::Crc => self.crc_errors = by,
             CounterKind::HeartbeatTimeout => self.heartbeat_timeout = by,
         }
-        self
     }
 
     // An error that counts for a kind. A crossing asks for a reset, signals and is logged.
-    #[tactic(auto, unfolding(crate::specs::Counters::counted_error, crate::specs::Counters::after_error))]
-    fn count(self, kind: CounterKind, error: DllError) -> HandledError
-        ensures { result ≡ counted_error kind self error }
+    #[tactic(auto, unfolding(crate::specs::Counters::counted_error))]
+    fn count(&mut self, kind: CounterKind, error: DllError) -> ErrorTaken
+        ensures counters { self.new ≡ (counted_error kind self.old error).counters }
+        ensures taken { result ≡ replied (counted_error kind self.old error) }
     {
-        let check = self.counter(kind).increment().check_and_reset();
-        let counters = self.replace(kind, check.counter);
-        if check.reached {
-            HandledError {
-                counters,
-                action: NmtAction::ResetCommunication,
-                signal: true,
-                logged: DllErrors::One(error),
-            }
+        let mut counter = self.counter(kind);
+        let reached = counter.count_error();
+        self.replace(kind, counter);
+        if reached {
+            ErrorTaken::signalled(NmtAction::ResetCommunication, error)
         } else {
-            unsignalled(counters)
+            ErrorTaken::unsignalled()
         }
     }
 
     #[tactic(auto, unfolding(crate::specs::Counters::handled))]
-    pub fn handle_error(mut self, error: DllError) -> HandledError
-        ensures { result ≡ handled self error }
+    pub fn handle_error(&mut self, error: DllError) -> ErrorTaken
+        ensures counters { self.new ≡ (handled self.old error).counters }
+        ensures taken { result ≡ replied (handled self.old error) }
     {
         match effect_of(error) {
             ErrorEffect::Counts(kind) => self.count(kind, error),
             ErrorEffect::LosesLink => {
                 self.loss_of_link_cumulative = self.loss_of_link_cumulative.saturating_add(1);
-                signalled(self, error)
+                ErrorTaken::signalled(NmtAction::None, error)
             }
-            ErrorEffect::IsLogged => signalled(self, error),
-            ErrorEffect::Nothing => unsignalled(self),
+            ErrorEffect::IsLogged => ErrorTaken::signalled(NmtAction::None, error),
+            ErrorEffect::Nothing => ErrorTaken::unsignalled(),
         }
     }
 
     // Each level above 0 lowered by 1.
     #[tactic(auto, unfolding(crate::specs::Counters::lowered))]
-    fn decrement(self) -> Self
-        ensures { result ≡ lowered self }
+    fn decrement(&mut self)
+        ensures { self.new ≡ lowered self.old }
     {
-        Self::by_kind(
-            |kind| self.counter(kind).decrement(),
-            self.loss_of_link_cumulative,
-        )
+        let before = *self;
+        *self = Self::by_kind(
+            |kind| {
+                let mut counter = before.counter(kind);
+                counter.decrement();
+                counter
+            },
+            before.loss_of_link_cumulative,
+        );
     }
 
     #[tactic(auto, unfolding(crate::specs::Counters::any_active))]
@@ -362,16 +344,14 @@ impl CnErrorCounters {
             || self.heartbeat_timeout.is_active()
     }
 
+    // Whether it cleared the last level.
     #[tactic(auto, unfolding(crate::specs::Counters::completed))]
-    pub fn on_cycle_complete(self) -> CompletedCycle
-        ensures { result ≡ completed self }
+    pub fn on_cycle_complete(&mut self) -> bool
+        ensures counters { self.new ≡ (completed self.old).counters }
+        ensures cleared { result ≡ (completed self.old).cleared }
     {
         let was_active = self.is_any_active();
-        let counters = self.decrement();
-        let is_still_active = counters.is_any_active();
-        CompletedCycle {
-            counters,
-            cleared: was_active && !is_still_active,
-        }
+        self.decrement();
+        was_active && !self.is_any_active()
     }
 }

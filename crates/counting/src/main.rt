@@ -5,7 +5,7 @@
 ghost use Rattle.std.specs.Prelude.{◌≡◌, map};
 ghost use Rattle.counters.specs.Counters.{counter, counter_kinds};
 
-use counters::counters::{CnErrorCounters, HandledError, ThresholdCounter, Thresholds};
+use counters::counters::{CnErrorCounters, ErrorTaken, ThresholdCounter, Thresholds};
 use forms::errors::ErrorsForm;
 use forms::generator::Generator;
 use forms::output::Output;
@@ -50,7 +50,7 @@ fn say_counters(out: &mut Output, counters: CnErrorCounters) {
     writeln!(out, " (links {}))", counters.loss_of_link_cumulative);
 }
 
-fn say_answer(out: &mut Output, answer: HandledError) {
+fn say_answer(out: &mut Output, answer: ErrorTaken) {
     let action = match answer.action {
         NmtAction::None => 0,
         NmtAction::ResetCommunication => 1,
@@ -64,24 +64,22 @@ fn say_answer(out: &mut Output, answer: HandledError) {
     );
 }
 
-fn print_error(out: &mut Output, counters: CnErrorCounters, error: DllError) -> CnErrorCounters {
+fn print_error(out: &mut Output, counters: &mut CnErrorCounters, error: DllError) {
     write!(out, "(error {}", error.kind());
     let answer = counters.handle_error(error);
     say_answer(out, answer);
-    say_counters(out, answer.counters);
-    answer.counters
+    say_counters(out, *counters);
 }
 
-fn print_cycle(out: &mut Output, counters: CnErrorCounters) -> CnErrorCounters {
-    let answer = counters.on_cycle_complete();
-    write!(out, "(cycle (cleared {})", u8::from(answer.cleared));
-    say_counters(out, answer.counters);
-    answer.counters
+fn print_cycle(out: &mut Output, counters: &mut CnErrorCounters) {
+    let cleared = counters.on_cycle_complete();
+    write!(out, "(cycle (cleared {})", u8::from(cleared));
+    say_counters(out, *counters);
 }
 
 // A number below 22 is an error of that kind; a third of the calls complete a cycle, so that levels both cross the threshold and
 // come down to 0.
-fn print_call(out: &mut Output, counters: CnErrorCounters, number: u64) -> CnErrorCounters {
+fn print_call(out: &mut Output, counters: &mut CnErrorCounters, number: u64) {
     // Kind 18, UnexpectedEventInState, carries a state and an event, others a node or nothing.
     let carried = if number == 18 { 0x6D } else { 17 };
     match DllError::try_from(number, carried, 2) {
@@ -95,7 +93,7 @@ fn main(rt: HostRuntime) -> io::Result<()> {
     let mut counters = CnErrorCounters::new(Thresholds::same_for_all(15));
     let mut generator = Generator::new();
     for _ in 0..2000 {
-        counters = print_call(&mut out, counters, generator.next() % 32);
+        print_call(&mut out, &mut counters, generator.next() % 32);
     }
     out.end()
 }

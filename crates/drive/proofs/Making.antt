@@ -13,7 +13,7 @@ use Rattle.entries.specs.declared.status_response.ErrorEntry.{ErrorEntry}
 use Rattle.types.specs.declared.refusals.Refusal.{Refusal}
 use Rattle.node.specs.declared.calls.NmtTaken.{NmtTaken}
 use Rattle.types.specs.declared.frame.error.types.DllErrors.{DllErrors}
-use Rattle.node.specs.declared.calls.ErrorTaken.{ErrorTaken}
+use Rattle.counters.specs.declared.counters.ErrorTaken.{ErrorTaken}
 use Rattle.node.specs.declared.range.SocVerdict.{SocVerdict}
 use Rattle.std.specs.Prelude.{ℤ}
 use Rattle.node.specs.declared.load.DictionaryUpdate.{DictionaryUpdate}

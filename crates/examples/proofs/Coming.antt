@@ -6,11 +6,11 @@ use mathlib.Core.Bool.{Bool, ◌&&◌}
 use mathlib.Core.List.{List, []}
 use Rattle.head.specs.Words.{head_of}
 use Rattle.node.specs.Plain.{Plain, Call, Answer, cycle_answer}
-use Rattle.node.specs.Steps.{no_run, leaves}
-use Rattle.watched.specs.Watched.{Run, run}
+use Rattle.node.specs.Steps.{no_run}
+use Rattle.watched.specs.Watched.{Run}
 use Rattle.node.specs.Run.{step}
 use Rattle.node.specs.Refines.{plain, SamePlaces, rings, joins_all, left, Refines}
-use Rattle.node.specs.InPlace.{InPlace, said}
+use Rattle.node.specs.InPlace.{InPlace}
 use Rattle.examples.specs.Same.{Exactly}
 use Rattle.examples.specs.Shown.{Came}
 use Rattle.examples.proofs.Exact.{exact_by, exact_and}

@@ -10,7 +10,7 @@ use Rattle.types.specs.declared.frame.error.types.NmtAction.TheVariants as actio
 use Rattle.nmt.specs.Resets.{Passed}
 use Rattle.node.specs.Plain.{Answer, nmt_answer, dll_answer, tick_answer}
 use Rattle.node.specs.Examples.{nothing_passed, whole_reset, quiet, asks_reset}
-use Rattle.node.specs.declared.calls.ErrorTaken.{ErrorTaken}
+use Rattle.counters.specs.declared.counters.ErrorTaken.{ErrorTaken}
 
 -- of a whole reset, or of no reset
 abbrev pub passed_of : Bool → Passed

@@ -48,8 +48,9 @@ pub fn dll_comes(head: &mut Head, event: u64, preq: bool, stated: DllErrors, aft
 pub fn raises_to(head: &Head, level: u32) -> bool
     ensures { Exactly result ((incremented (errors_of head.now).loss_of_soc).threshold_cnt ≡ level) }
 {
-    let raised = counter_of(head, CounterKind::LossOfSoc).increment();
-    raised.threshold_cnt == level
+    let mut counter = counter_of(head, CounterKind::LossOfSoc);
+    counter.increment();
+    counter.threshold_cnt == level
 }
 
 pub fn error_comes(head: &mut Head, kind: u64, crosses: bool, after: &Head) -> bool

@@ -10,8 +10,7 @@ use Rattle.types.specs.Types.{node}
 use Rattle.types.specs.declared.frame.error.types.DllError.TheVariants.{HeartbeatTimeout}
 use Rattle.types.specs.declared.frame.error.types.DllErrors.{DllErrors}
 use Rattle.types.specs.declared.frame.error.types.DllErrors.TheVariants as errors
-use Rattle.counters.specs.Counters.{effect, handled}
-use Rattle.counters.specs.declared.counters.HandledError.{HandledError}
+use Rattle.counters.specs.Counters.{effect, handled, HandledError, replied}
 use Rattle.head.specs.Head.{Head, head_with_errors}
 use Rattle.watched.specs.declared.nodes.WatchedNode.{WatchedNode}
 use Rattle.watched.specs.Watched.{in_time, all_of, fits, well_formed, no_node, heard_now, watched_node, watched_of, Run, watching, changing}
@@ -22,8 +21,8 @@ use Rattle.heartbeats.specs.Parts.{Finishes, looked_first}
 use Rattle.heartbeats.proofs.Beats.{beat_signalled, beat_unsignalled, Beating, beats_begin, beats_over, beats_pass, beats_stop, beats_go_on}
 use Rattle.head.specs.Words.{errors_of, head_of}
 use Rattle.watched.specs.Nodes.{node_at, nodes_of, rests, not_before, never, sooner_by, soonest}
-use Rattle.node.specs.InPlace.{replied, effect_words}
-use Rattle.node.specs.declared.calls.ErrorTaken.{ErrorTaken}
+use Rattle.node.specs.InPlace.{effect_words}
+use Rattle.counters.specs.declared.counters.ErrorTaken.{ErrorTaken}
 use Rattle.node.proofs.Refining.{effect_written}
 use Rattle.node.proofs.Moments.{now_fits}
 use Rattle.types.proofs.Tests.{both_first, both_second}

@@ -6,9 +6,8 @@ use Rattle.types.specs.Errors.{reported}
 use Rattle.types.specs.declared.nmt.events.NmtEvent.TheVariants.{Error}
 use Rattle.types.specs.declared.frame.error.types.DllError.{DllError}
 use Rattle.types.specs.declared.frame.error.types.DllErrors.TheVariants as errors
-use Rattle.counters.specs.Counters.{handled}
+use Rattle.counters.specs.Counters.{handled, HandledError}
 use Rattle.counters.specs.Marks.{error_marks}
-use Rattle.counters.specs.declared.counters.HandledError.{HandledError}
 use Rattle.entries.specs.declared.status_response.ErrorEntry.{ErrorEntry}
 use Rattle.head.specs.Head.{Head, head_with_errors}
 use Rattle.watched.specs.declared.nodes.WatchedNode.{WatchedNode}

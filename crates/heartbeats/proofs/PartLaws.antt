@@ -10,12 +10,11 @@ use Rattle.types.specs.declared.frame.error.types.DllError.{DllError}
 use Rattle.types.specs.declared.frame.error.types.DllErrors.{DllErrors}
 use Rattle.nmt.specs.Nmt as Nmt
 use Rattle.nmt.specs.declared.cn_state_machine.NmtAnswer.{NmtAnswer}
-use Rattle.counters.specs.Counters.{counter, after_error, raised, counted_error, unsignalled, Effect, counts, loses_link, is_logged, nothing, effect, handled_as, handled}
+use Rattle.counters.specs.Counters.{counter, after_error, raised, counted_error, unsignalled, Effect, counts, loses_link, is_logged, nothing, effect, handled_as, handled, HandledError}
 use Rattle.counters.specs.Counters as Counters
 use Rattle.counters.specs.Marks.{effect_crosses, crosses}
 use Rattle.counters.specs.declared.counters.CounterKind.{CounterKind}
 use Rattle.counters.specs.declared.counters.CnErrorCounters.{CnErrorCounters}
-use Rattle.counters.specs.declared.counters.HandledError.{HandledError}
 use Rattle.entries.specs.Queue.{capacity_of, waiting}
 use Rattle.entries.specs.History.{history}
 use Rattle.head.specs.Head.{Head, of_parts}

@@ -14,11 +14,10 @@ use Rattle.types.specs.Errors.{reported}
 use Rattle.types.specs.declared.nmt.events.NmtEvent.TheVariants.{Error}
 use Rattle.types.specs.declared.frame.error.types.DllError.TheVariants.{HeartbeatTimeout}
 use Rattle.types.specs.declared.frame.error.types.DllErrors.TheVariants as errors
-use Rattle.counters.specs.Counters.{counter_of, replaced, raised, counted_error, handled, after_error, crossed_answer, unsignalled}
+use Rattle.counters.specs.Counters.{counter_of, replaced, raised, counted_error, handled, after_error, crossed_answer, unsignalled, HandledError}
 use Rattle.counters.specs.Marks.{Mark, error_marks}
 use Rattle.counters.specs.declared.counters.CounterKind.TheVariants as kind
 use Rattle.counters.specs.declared.counters.ThresholdCounter.{ThresholdCounter}
-use Rattle.counters.specs.declared.counters.HandledError.{HandledError}
 use Rattle.head.specs.Head.{Head, head_with_errors}
 use Rattle.head.specs.Words.{errors_of, head_of}
 use Rattle.head.specs.Written.{counter_written}

@@ -122,7 +122,7 @@ fn try_node(tried: Option<u8>, w: WatchedNode) -> Option<u8>
 }
 
 // The error of a late node, where none has crossed.
-fn beat(beats: Beats, w: WatchedNode, time: u64) -> Beats
+fn beat(mut beats: Beats, w: WatchedNode, time: u64) -> Beats
     ensures { result ≡ beaten_by time beats w }
 {
     if beats.crossed.is_some() {
@@ -131,13 +131,10 @@ fn beat(beats: Beats, w: WatchedNode, time: u64) -> Beats
     if !is_late(NodeRecord::from(w), time) {
         return beats;
     }
-    let counter = beats.counter;
-    let check = counter.count_error();
-    let counter = check.counter;
-    Beats {
-        counter,
-        crossed: if check.reached { Some(w.node) } else { None },
+    if beats.counter.count_error() {
+        beats.crossed = Some(w.node);
     }
+    beats
 }
 
 // One node.

@@ -17,7 +17,7 @@ use Rattle.std.specs.declared.result.Result.TheVariants.{Ok, Err}
 use Rattle.types.specs.declared.refusals.Refusal.{Refusal}
 use Rattle.node.specs.declared.calls.NmtTaken.{NmtTaken}
 use Rattle.types.specs.declared.frame.error.types.DllErrors.{DllErrors}
-use Rattle.node.specs.declared.calls.ErrorTaken.{ErrorTaken}
+use Rattle.counters.specs.declared.counters.ErrorTaken.{ErrorTaken}
 use Rattle.node.specs.declared.range.SocVerdict.{SocVerdict}
 use Rattle.node.specs.declared.range.SocVerdict.TheVariants.{Open}
 use Rattle.node.specs.Plain.{Call, Answer, refused, taken, nmt_answer, dll_answer, error_answer, cycle_answer, hand_out_answer, tick_answer, range_answer, margin_answer}

@@ -23,10 +23,8 @@ use Rattle.nmt.specs.Resets.{Passed, is_reset}
 use Rattle.nmt.specs.Nmt as Nmt
 use Rattle.dll.specs.Dll as Dll
 use Rattle.dll.specs.declared.cs_state_machine.DllAnswer.{DllAnswer}
-use Rattle.counters.specs.Counters.{handled, completed}
+use Rattle.counters.specs.Counters.{handled, completed, HandledError, CompletedCycle}
 use Rattle.counters.specs.Marks.{error_marks, cycle_marks}
-use Rattle.counters.specs.declared.counters.HandledError.{HandledError}
-use Rattle.counters.specs.declared.counters.CompletedCycle.{CompletedCycle}
 use Rattle.entries.specs.Ring.{nth, rest}
 use Rattle.entries.specs.Queue as Queue
 use Rattle.entries.specs.History as History

@@ -30,10 +30,8 @@ use Rattle.dll.specs.declared.cs_state_machine.DllAnswer.{DllAnswer}
 use Rattle.counters.specs.Counters as Counters
 use Rattle.counters.specs.declared.counters.CounterKind.{CounterKind}
 use Rattle.counters.specs.declared.counters.ThresholdCounter.{ThresholdCounter}
-use Rattle.counters.specs.declared.counters.ThresholdCheck.{ThresholdCheck}
+use Rattle.counters.specs.Counters.{ThresholdCheck, HandledError, CompletedCycle, replied}
 use Rattle.counters.specs.declared.counters.CnErrorCounters.{CnErrorCounters}
-use Rattle.counters.specs.declared.counters.HandledError.{HandledError}
-use Rattle.counters.specs.declared.counters.CompletedCycle.{CompletedCycle}
 use Rattle.counters.proofs.ByKind.{counter_of_lem}
 use Rattle.entries.specs.Queue.{handed_out, length_of}
 use Rattle.entries.specs.declared.emergency_queue.EmergencyQueue.{EmergencyQueue}
@@ -47,11 +45,11 @@ use Rattle.node.specs.Steps.{no_run, armed}
 use Rattle.node.specs.Refines.{left, Refines}
 use Rattle.node.proofs.Laws.{Alone, forgetting_if, nmt_taken_lem, nmt_refused, dll_taken_lem, dll_refused, error_taken_lem, error_refused, cycle_taken_lem, withdraw_taken, withdraw_refused, arm_taken, arm_refused, hand_out_taken}
 use Rattle.node.specs.declared.calls.NmtTaken.{NmtTaken}
-use Rattle.node.specs.declared.calls.ErrorTaken.{ErrorTaken}
+use Rattle.counters.specs.declared.counters.ErrorTaken.{ErrorTaken}
 use Rattle.head.specs.Places as at
 use Rattle.head.specs.Words.{word, one, state_of, nmt_of, dll_state, counter_at, errors_of, soc_of, od_of, queue_of, head_of}
 use Rattle.head.specs.Written.{nmt_written, levels_written, soc_written, queue_written}
-use Rattle.node.specs.InPlace.{InPlace, replied, withdraw_words, reset_words, processed_words, Processed, nmt_words, dll_words, effect_words, error_words, cycle_words, arm_words, hand_out_words}
+use Rattle.node.specs.InPlace.{InPlace, withdraw_words, reset_words, processed_words, Processed, nmt_words, dll_words, effect_words, error_words, cycle_words, arm_words, hand_out_words}
 use Rattle.head.proofs.Laws.{nmt_written_lem, forgotten_written_lem, ready_written, dll_written, counter_written_lem, links_written, levels_written_lem, soc_written_lem, queue_written_lem}
 
 -- a call that wrote the words `to`, which stand for the head k that the call is to leave

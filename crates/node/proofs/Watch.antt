@@ -15,9 +15,8 @@ use Rattle.types.specs.declared.nmt.states.NmtState.{NmtState}
 use Rattle.types.specs.declared.nmt.states.NmtState.TheVariants.{NmtNotActive}
 use Rattle.types.specs.declared.frame.error.types.DllError.{DllError}
 use Rattle.types.proofs.Tests.{both_second}
-use Rattle.counters.specs.Counters.{handled}
+use Rattle.counters.specs.Counters.{handled, HandledError}
 use Rattle.counters.specs.Marks.{Mark, crosses, error_marks}
-use Rattle.counters.specs.declared.counters.HandledError.{HandledError}
 use Rattle.entries.specs.Entry.{crossing_entry}
 use Rattle.entries.specs.declared.status_response.ErrorEntry.{ErrorEntry}
 use Rattle.std.specs.declared.option.Option.{Option}

@@ -20,7 +20,6 @@ use Rattle.nmt.specs.Resets.{is_reset, passed}
 use Rattle.nmt.specs.Nmt as Nmt
 use Rattle.dll.specs.Dll as Dll
 use Rattle.counters.specs.Counters as Counters
-use Rattle.counters.specs.declared.counters.HandledError.{HandledError}
 use Rattle.entries.specs.Queue.{handed_out}
 use Rattle.node.specs.Plain.{Call, Answer, refused, taken, nmt_answer, dll_answer, error_answer, range_answer, margin_answer}
 use Rattle.watched.specs.Watched.{in_time, Run, watching}
@@ -28,7 +27,7 @@ use Rattle.watched.specs.Nodes.{never}
 use Rattle.node.specs.Steps.{no_run, earliest, armed}
 use Rattle.node.specs.Refines.{Refines, SamePlaces, left}
 use Rattle.node.specs.declared.calls.NmtTaken.{NmtTaken}
-use Rattle.node.specs.declared.calls.ErrorTaken.{ErrorTaken}
+use Rattle.counters.specs.declared.counters.ErrorTaken.{ErrorTaken}
 use Rattle.head.specs.Places as at
 use Rattle.head.specs.Words.{word, state_of, nmt_of, dll_state, counter_at, errors_of, soc_of, od_of, queue_of, head_of}
 use Rattle.head.specs.Written.{earliest_written, nmt_written, forgotten_written, counter_written, levels_written, soc_written, queue_written}
@@ -75,10 +74,6 @@ range_said = answered range_answer
 
 abbrev pub margin_said : Result ℤ Refusal → Answer
 margin_said = answered margin_answer
-
--- an error's answer without the counters
-abbrev pub replied : HandledError → ErrorTaken
-replied r = record { action = r.action; signal = r.signal; logged = r.logged }
 
 -- what a call leaves of words that it was lent: of a declined one, all
 abbrev pub unless_refused : Result (Unit {0}) Refusal → List ℕ → List ℕ → List ℕ

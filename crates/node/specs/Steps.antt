@@ -22,11 +22,9 @@ use Rattle.nmt.specs.declared.cn_state_machine.CnNmtStateMachine.{CnNmtStateMach
 use Rattle.dll.specs.Dll as Dll
 use Rattle.dll.specs.declared.cs_state_machine.DllCsState.{DllCsState}
 use Rattle.dll.specs.declared.cs_state_machine.DllCsState.TheVariants.{NonCyclic}
-use Rattle.counters.specs.Counters.{new_counters, thresholds_fit, handled}
+use Rattle.counters.specs.Counters.{new_counters, thresholds_fit, handled, HandledError, CompletedCycle}
 use Rattle.counters.specs.Marks.{Mark, error_marks}
 use Rattle.counters.specs.declared.counters.CnErrorCounters.{CnErrorCounters}
-use Rattle.counters.specs.declared.counters.HandledError.{HandledError}
-use Rattle.counters.specs.declared.counters.CompletedCycle.{CompletedCycle}
 use Rattle.entries.specs.Ring.{nth, rest}
 use Rattle.entries.specs.declared.status_response.ErrorEntry.{ErrorEntry}
 use Rattle.head.specs.declared.state.SocWatch.{SocWatch}

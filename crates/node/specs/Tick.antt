@@ -16,9 +16,8 @@ use Rattle.types.specs.declared.frame.error.types.NmtAction.{NmtAction}
 use Rattle.types.specs.declared.frame.error.types.NmtAction.TheVariants as action
 use Rattle.nmt.specs.Nmt as Nmt
 use Rattle.dll.specs.Dll as Dll
-use Rattle.counters.specs.Counters.{handled}
+use Rattle.counters.specs.Counters.{handled, HandledError}
 use Rattle.counters.specs.Marks.{Mark, crosses, error_marks}
-use Rattle.counters.specs.declared.counters.HandledError.{HandledError}
 use Rattle.entries.specs.Entry.{crossing_entry}
 use Rattle.entries.specs.declared.status_response.ErrorEntry.{ErrorEntry}
 use Rattle.std.specs.declared.option.Option.{Option}

@@ -3,15 +3,16 @@ ghost use Rattle.std.specs.Prelude.{◌≡◌, true, false, List, ℕ};
 ghost use Rattle.types.specs.Events.{read_event};
 ghost use Rattle.types.specs.CsEvents.{read_cs_event};
 ghost use Rattle.types.specs.Errors.{read_error};
-ghost use Rattle.counters.specs.Counters.{after_error, counts, effect, handled};
+ghost use Rattle.counters.specs.Counters.{after_error, counts, effect, replied, handled};
 ghost use Rattle.node.specs.Steps.{no_run};
 ghost use Rattle.node.specs.Plain.{Call, cycle_answer, hand_out_answer};
 ghost use Rattle.node.specs.Refines.{Refines, left};
 ghost use Rattle.head.specs.Places as at;
 ghost use Rattle.head.specs.Words.{counter_at, errors_of, head_of};
-ghost use Rattle.node.specs.InPlace.{InPlace, Processed, said, nmt_said, dll_said, error_said, replied, effect_words, withdraw_words, nmt_words, dll_words, error_words, cycle_words, arm_words, hand_out_words};
+ghost use Rattle.node.specs.InPlace.{InPlace, Processed, said, nmt_said, dll_said, error_said, effect_words, withdraw_words, nmt_words, dll_words, error_words, cycle_words, arm_words, hand_out_words};
 
 use crate::timing::armed;
+pub use counters::counters::ErrorTaken;
 use counters::counters::{CounterKind, ErrorEffect, effect_of};
 use entries::status_response::ErrorEntry;
 use head::parts::{
@@ -31,14 +32,6 @@ use watched::time::Time;
 pub struct NmtTaken {
     pub errors: DllErrors,
     pub reset: ResetSequence,
-}
-
-// What document 01 says that an error answers. The three are read apart, so they are no enum.
-#[derive(Clone, Copy, PartialEq, Eq)]
-pub struct ErrorTaken {
-    pub action: NmtAction,
-    pub signal: bool,
-    pub logged: DllErrors,
 }
 
 // The application takes its ready word back.
@@ -91,32 +84,10 @@ pub fn dll_event(head: &mut Head, event: u64, expect_preq: bool) -> Result<DllEr
 fn count(head: &mut Head, kind: CounterKind) -> bool
     ensures { (result ≡ (after_error (counter_at head.old (at.counter kind))).reached) × (head.new ≡ effect_words head.old (counts kind)) }
 {
-    let check = counter_of(head, kind).count_error();
-    let counter = check.counter;
+    let mut counter = counter_of(head, kind);
+    let reached = counter.count_error();
     set_counter(head, kind, counter);
-    check.reached
-}
-
-// Nothing is asked for, signalled or logged.
-fn unsignalled() -> ErrorTaken
-    ensures { result ≡ record { action = NmtAction.None; signal = false; logged = DllErrors.None } }
-{
-    ErrorTaken {
-        action: NmtAction::None,
-        signal: false,
-        logged: DllErrors::None,
-    }
-}
-
-// The error is logged and signals.
-fn signalled(action: NmtAction, error: DllError) -> ErrorTaken
-    ensures { result ≡ record { action = action; signal = true; logged = DllErrors.One error } }
-{
-    ErrorTaken {
-        action,
-        signal: true,
-        logged: DllErrors::One(error),
-    }
+    reached
 }
 
 // One error to the counters.
@@ -126,17 +97,17 @@ pub fn handled(head: &mut Head, error: DllError) -> ErrorTaken
     match effect_of(error) {
         ErrorEffect::Counts(kind) => {
             if count(head, kind) {
-                signalled(NmtAction::ResetCommunication, error)
+                ErrorTaken::signalled(NmtAction::ResetCommunication, error)
             } else {
-                unsignalled()
+                ErrorTaken::unsignalled()
             }
         }
         ErrorEffect::LosesLink => {
             set_links(head, links_of(head).saturating_add(1));
-            signalled(NmtAction::None, error)
+            ErrorTaken::signalled(NmtAction::None, error)
         }
-        ErrorEffect::IsLogged => signalled(NmtAction::None, error),
-        ErrorEffect::Nothing => unsignalled(),
+        ErrorEffect::IsLogged => ErrorTaken::signalled(NmtAction::None, error),
+        ErrorEffect::Nothing => ErrorTaken::unsignalled(),
     }
 }
 
@@ -152,10 +123,10 @@ pub fn handle_error(head: &mut Head, kind: u64, a: u8, b: u8) -> Result<ErrorTak
 pub fn on_cycle_complete(head: &mut Head) -> bool
     ensures { InPlace head.old Call.cycle_complete (cycle_answer result) head.new (cycle_words head.old) }
 {
-    let completed = errors_of(head).on_cycle_complete();
-    let errors = completed.counters;
+    let mut errors = errors_of(head);
+    let cleared = errors.on_cycle_complete();
     set_levels(head, errors);
-    completed.cleared
+    cleared
 }
 
 // An SoC was received at a time: the check goes on where there is a cycle, with a deadline.

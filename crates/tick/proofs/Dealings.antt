@@ -11,8 +11,7 @@ use Rattle.types.specs.Pick.{pick}
 use Rattle.types.specs.declared.frame.error.types.DllError.{DllError}
 use Rattle.types.specs.declared.frame.error.types.DllErrors.{DllErrors}
 use Rattle.types.specs.declared.frame.error.types.DllErrors.TheVariants as errors
-use Rattle.counters.specs.Counters.{effect, handled}
-use Rattle.counters.specs.declared.counters.HandledError.{HandledError}
+use Rattle.counters.specs.Counters.{effect, handled, HandledError, replied}
 use Rattle.entries.specs.Entry.{FitsBytes, crossing_entry}
 use Rattle.entries.specs.Queue.{queue, has_room, pushed, pushed_bytes}
 use Rattle.entries.specs.History.{error_history, joined, joined_bytes}
@@ -32,8 +31,8 @@ use Rattle.tick.proofs.TickLaws.{entry_kept, entry_dropped, deal_signalled, deal
 use Rattle.head.specs.Places as at
 use Rattle.head.specs.Words.{word, errors_of, od_of, queue_of, history_of, head_of}
 use Rattle.head.specs.Written.{queue_written, history_written}
-use Rattle.node.specs.InPlace.{replied, effect_words}
-use Rattle.node.specs.declared.calls.ErrorTaken.{ErrorTaken}
+use Rattle.node.specs.InPlace.{effect_words}
+use Rattle.counters.specs.declared.counters.ErrorTaken.{ErrorTaken}
 use Rattle.node.proofs.Refining.{picked, effect_written}
 use Rattle.heartbeats.specs.declared.dealt.Dealt.{Dealt}
 use Rattle.heartbeats.specs.PartWords.{signal_words, finished_words, ends_by}

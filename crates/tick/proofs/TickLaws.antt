@@ -11,9 +11,8 @@ use Rattle.types.specs.Errors.{reported}
 use Rattle.types.specs.declared.nmt.events.NmtEvent.TheVariants.{Error}
 use Rattle.types.specs.declared.frame.error.types.DllError.{DllError}
 use Rattle.types.specs.declared.frame.error.types.DllErrors.TheVariants as errors
-use Rattle.counters.specs.Counters.{handled}
+use Rattle.counters.specs.Counters.{handled, HandledError}
 use Rattle.counters.specs.Marks.{Mark, crosses, error_marks}
-use Rattle.counters.specs.declared.counters.HandledError.{HandledError}
 use lib.ListN.{length, take}
 use Rattle.entries.specs.Entry.{FitsBytes, crossing_entry}
 use Rattle.entries.specs.Ring.{put_at}

@@ -17,11 +17,10 @@ use Rattle.dll.specs.Dll.{goes, cyclic, is_cyclic, cs_processed}
 use Rattle.dll.specs.declared.cs_state_machine.DllCsState.{DllCsState}
 use Rattle.dll.specs.declared.cs_state_machine.DllCsState.TheVariants.{NonCyclic, WaitSoc, WaitPreq, WaitSoa}
 use Rattle.types.specs.declared.frame.cs_state_machine.DllCsEvent.TheVariants.{SocTimeout}
-use Rattle.counters.specs.Counters.{counter, after_error, Effect, counts, loses_link, is_logged, nothing, effect, handled}
+use Rattle.counters.specs.Counters.{counter, after_error, Effect, counts, loses_link, is_logged, nothing, effect, handled, HandledError}
 use Rattle.counters.specs.Marks.{Mark, given, crossed, is_crossing, count_of, effect_crosses, crosses, effect_marks, error_marks}
 use Rattle.counters.specs.declared.counters.CounterKind.{CounterKind}
 use Rattle.counters.specs.declared.counters.CnErrorCounters.{CnErrorCounters}
-use Rattle.counters.specs.declared.counters.HandledError.{HandledError}
 use Rattle.entries.specs.Entry.{crossing_entry}
 use Rattle.entries.specs.declared.status_response.ErrorEntry.{ErrorEntry}
 use Rattle.std.specs.declared.option.Option.{Option}

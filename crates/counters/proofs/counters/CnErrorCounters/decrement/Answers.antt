@@ -8,4 +8,4 @@ use Rattle.counters.proofs.counters.CnErrorCounters.decrement.Goals as goal
 pub returns : goal.returns
 unfolding lowered
 returns c =
-    from_kinds c.by_kind.result (λ k. decremented (counter k c.args.self)) c.args.self.loss_of_link_cumulative (λ k. let h = c.by_kind.ensures.counters k in search rules) c.by_kind.ensures.links
+    from_kinds c.by_kind.result (λ k. decremented (counter k c.args.self.now)) c.args.self.now.loss_of_link_cumulative (λ k. let h = c.by_kind.ensures.counters k in search rules) c.by_kind.ensures.links
