@@ -2,10 +2,11 @@
 -- makes of a run is by the laws that the form in words uses too.
 -- Assumes nothing.
 use Prim.Native.Nat.{ℕ}
-use mathlib.Core.Path.{◌≡◌, refl, sym, ap, ap₂, subst, ◌∙◌}
-use mathlib.Core.Bool.{Bool, true, false, not, true≢false}
+use mathlib.Core.Path.{◌≡◌, refl, sym, ap, subst, ◌∙◌}
+use mathlib.Core.Bool.{Bool, true, false, not}
 use mathlib.Core.List.{List, ◌++◌, map}
-use lib.ListN.{length, take, drop, take-append-drop}
+use lib.ListN.{length, take, drop}
+use Rattle.std.proofs.lemmas.Bool.{not-true, not-false}
 use Rattle.types.specs.Pick.{pick}
 use Rattle.types.specs.declared.refusals.Refusal.{Refusal}
 use Rattle.types.specs.declared.refusals.Refusal.TheVariants.{WatchedNodes, TimeLimit, BeforeHeard}
@@ -21,12 +22,12 @@ use Rattle.head.specs.declared.state.Dictionary.{Dictionary}
 use Rattle.head.specs.Words.{nmt_of, head_of}
 use Rattle.head.specs.Written.{earliest_written}
 use Rattle.watched.specs.declared.nodes.WatchedNode.{WatchedNode}
-use Rattle.watched.specs.Watched.{in_time, all_of, fits, well_formed, is_watched, heard_at, watched_of, Run, run, watching, well_lent, changing, first}
+use Rattle.watched.specs.Watched.{in_time, all_of, well_formed, is_watched, heard_at, watched_of, Run, run, watching, well_lent, changing, first}
 use Rattle.watched.proofs.Lists.{each_nodes, heard_nodes}
 use Rattle.node.specs.Plain.{heard}
 use Rattle.node.specs.Steps.{earliest}
 use Rattle.node.specs.Tick.{checks_heartbeats, looked, tick_taken}
-use Rattle.watched.specs.Nodes.{not_before}
+use Rattle.watched.specs.Nodes.{not_before, never, soonest}
 use Rattle.node.specs.Refines.{plain}
 use Rattle.node.specs.InPlace.{moment_of}
 use Rattle.node.specs.Heard.{heard_answer, HeardOn}
@@ -38,13 +39,14 @@ use Rattle.heartbeats.specs.declared.dealt.Dealt.{Dealt}
 use Rattle.heartbeats.specs.PartsIn.{TicksIn}
 use Rattle.heartbeats.proofs.Beatings.{all_looked_fit}
 use Rattle.tick.specs.TickWords.{tick_words}
-use Rattle.tick.specs.TickIn.{TickedOn}
+use Rattle.tick.specs.TickIn.{is_still, TickedOn, StillTicks}
 use Rattle.tick.proofs.Tickings.{run_unformed, run_late, run_before, run_accepted}
+use Rattle.types.specs.declared.frame.error.types.DllErrors.{DllErrors}
 use Rattle.lent.specs.declared.run.Findings.{Findings}
 use Rattle.lent.specs.declared.run.Setting.{Setting}
 use Rattle.lent.specs.declared.run.Setting.TheVariants.{Nothing, Unheard, Heard, Looked}
-use Rattle.lent.specs.Runs.{asked_for, for_heard, for_tick, beats_at, beats_all, tick_sets, settled, settling_of, settled_all, surveyed}
-use Rattle.lent.proofs.SeenLaws.{seen_lent, seen_well, seen_formed, seen_places, seen_below, seen_first, seen_found, seen_watched, seen_after, seen_moment, set_first, settled_none, settled_heard}
+use Rattle.lent.specs.Runs.{asked_for, for_heard, for_tick, beats_at, beats_all, tick_sets, settled, settling_of, settled_all, found_all, surveyed}
+use Rattle.lent.proofs.SeenLaws.{seen_lent, seen_well, seen_formed, seen_places, seen_below, seen_first, seen_found, seen_watched, seen_after, seen_moment, soonest_all, set_first, settled_none, settled_heard}
 
 -- a run as it is left
 left_as : {k : ℕ} (l l' : List WatchedNode) → l ≡ l' → run l k ≡ run l' k
@@ -114,24 +116,13 @@ module _ (ws : List ℕ) (vs : List WatchedNode) (k n : ℕ) (f : FeatureFlags) 
       subst (λ (a : Result (Unit {0}) Refusal). StartedOn ws (run vs k) n f t c q ts a ws' (run vs k)) g
       (begun vs (ap (λ (a : Result (Unit {0}) Refusal). start_left a (run vs k)) (sym g)))
 
--- number 6, by whether heartbeats are checked
-not_heard : (c a : Bool) → c ≡ true → not a ≡ true → pick c a true ≡ false
-not_heard true false x y = refl
-not_heard true true x y = sym y
-not_heard false a x y = absurd (true≢false (sym x))
-
-pub all_heard : (c a : Bool) → c ≡ true → not a ≡ false → pick c a true ≡ true
-all_heard true true x y = refl
-all_heard true false x y = sym y
-all_heard false a x y = refl
-
-pub not_asked : (c a : Bool) → c ≡ false → pick c a true ≡ true
-not_asked c a x = ap (λ (c : Bool). pick c a true) x
-
 -- the tick: numbers 3, 5 and 6, and what is taken
 module _ (ws q m : List ℕ) (vs : List WatchedNode) (k t : ℕ) (g : Findings) (asks : g ≡ for_tick ws t) (o : Option Findings) (sees : o ≡ surveyed k g vs) where
   e : o ≡ surveyed k (for_tick ws t) vs
   e = sees ∙ ap (λ (f : Findings). surveyed k f vs) asks
+
+  abbrev R : Run
+  R = run vs k
 
   abbrev Y : Setting
   Y = tick_sets ws t
@@ -139,68 +130,61 @@ module _ (ws q m : List ℕ) (vs : List WatchedNode) (k t : ℕ) (g : Findings) 
   abbrev C : Bool
   C = checks_heartbeats (nmt_of ws).current_state
 
-  pub tick_unformed : o ≡ None → TickedOn ws q m (run vs k) t (Err WatchedNodes) ws q m (run vs k)
-  tick_unformed p = run_unformed ws q m (run vs k) t (sym (seen_lent k 0 t Y (beats_at ws) vs o e) ∙ ap (λ (o : Option Findings). is_some o) p)
+  pub tick_unformed : o ≡ None → TickedOn ws q m R t (Err WatchedNodes) ws q m R
+  tick_unformed p = run_unformed ws q m R t (sym (seen_lent k 0 t Y (beats_at ws) vs o e) ∙ ap (λ (o : Option Findings). is_some o) p)
 
-  module _ (s : Findings) (f : o ≡ Some s) where
-    well : well_lent (run vs k) ≡ true
-    well = seen_well k 0 t Y (beats_at ws) vs o e s f
+  module _ (s : Findings) (p : o ≡ Some s) where
+    well : well_lent R ≡ true
+    well = seen_well k 0 t Y (beats_at ws) vs o e s p
 
-    pub tick_late : in_time t ≡ false → TickedOn ws q m (run vs k) t (Err TimeLimit) ws q m (run vs k)
-    tick_late b = run_late ws q m (run vs k) t well b
+    formed : well_formed (watched_of vs k) ≡ true
+    formed = seen_formed k 0 t Y (beats_at ws) vs o e s p
 
-    module _ (b : in_time t ≡ true) (checks : Bool) (c : checks ≡ C) where
-      after_is : pick C (all_of (not_before t) (watched_of vs k)) true ≡ pick checks s.after true
-      after_is =
-          ap (λ (x : Bool). pick x (all_of (not_before t) (watched_of vs k)) true) (sym c)
-          ∙ ap (λ (x : Bool). pick checks x true) (sym (seen_after k 0 t Y (beats_at ws) vs o e s f))
+    -- the soonest moment of the nodes as they are set, by whether heartbeats are checked
+    found : s ≡ found_all (for_tick ws t) (watched_of vs k)
+    found = seen_found k 0 t Y (beats_at ws) vs o e s p
 
-      pub tick_before : checks ≡ true → not s.after ≡ true → TickedOn ws q m (run vs k) t (Err BeforeHeard) ws q m (run vs k)
-      tick_before x y = run_before ws q m (run vs k) t well b (after_is ∙ not_heard checks s.after x y)
+    pub tick_unasked :
+        C ≡ false → (a : Result DllErrors Refusal) (ws' q' m' : List ℕ) → StillTicks ws q m t s.soonest a ws' q' m' → TickedOn ws q m R t a ws' q' m' R
+    tick_unasked c a ws' q' m' h =
+        h R well (ap (λ (c : Bool). is_still c t (watched_of vs k)) c)
+        (ap (λ (f : Findings). f.soonest) found ∙ soonest_all (for_tick ws t) (watched_of vs k)
+        ∙ ap (λ (c : Bool). soonest never (map (settled (pick c (Looked t) Nothing)) (watched_of vs k))) c ∙ ap (soonest never) (settled_none (watched_of vs k)))
 
-      -- the run as the look leaves it, by whether heartbeats are checked
-      looks : (x : Bool) → first (map (settled (pick x (Looked t) Nothing))) k vs ≡ (pick x (changing (map (looked t)) (run vs k)) (run vs k)).places
-      looks true = refl
-      looks false = ap (λ (l : List WatchedNode). l ++ drop k vs) (settled_none (take k vs)) ∙ take-append-drop k vs
+    pub tick_late : in_time t ≡ false → TickedOn ws q m R t (Err TimeLimit) ws q m R
+    tick_late b = run_late ws q m R t well b
 
-      number_stays : (x : Bool) → k ≡ (pick x (changing (map (looked t)) (run vs k)) (run vs k)).number
-      number_stays true = refl
-      number_stays false = refl
+    module _ (c : C ≡ true) (b : in_time t ≡ true) where
+      after_is : pick C (all_of (not_before t) (watched_of vs k)) true ≡ s.after
+      after_is = ap (λ (c : Bool). pick c (all_of (not_before t) (watched_of vs k)) true) c ∙ sym (seen_after k 0 t Y (beats_at ws) vs o e s p)
 
-      nodes : (x : Bool) → map (settled (pick x (Looked t) Nothing)) (watched_of vs k) ≡ pick x (map (looked t) (watched_of vs k)) (watched_of vs k)
-      nodes true = refl
-      nodes false = settled_none (watched_of vs k)
+      pub tick_before : not s.after ≡ true → TickedOn ws q m R t (Err BeforeHeard) ws q m R
+      tick_before z = run_before ws q m R t well b (after_is ∙ not-true s.after z)
 
-      formed : well_formed (watched_of vs k) ≡ true
-      formed = seen_formed k 0 t Y (beats_at ws) vs o e s f
-
-      fit : (x : Bool) → all_of fits (pick x (map (looked t) (watched_of vs k)) (watched_of vs k)) ≡ true
-      fit true = all_looked_fit t (watched_of vs k) b (all_fit (watched_of vs k) formed)
-      fit false = all_fit (watched_of vs k) formed
-
-      watched : (x : Bool) → watching (pick x (changing (map (looked t)) (run vs k)) (run vs k)) ≡ pick x (map (looked t) (watched_of vs k)) (watched_of vs k)
-      watched true = each_nodes vs k (seen_places k 0 t Y (beats_at ws) vs o e s f) (seen_below k 0 t Y (beats_at ws) vs o e s f) (looked t)
-      watched false = refl
-
-      module _ (vs' : List WatchedNode) (d : vs' ≡ settled_all (settling_of k (pick checks (Looked t) Nothing)) vs) where
-        left : run vs' k ≡ pick C (changing (map (looked t)) (run vs k)) (run vs k)
+      module _ (vs' : List WatchedNode) (d : vs' ≡ settled_all (settling_of k (Looked t)) vs) where
+        left : run vs' k ≡ pick C (changing (map (looked t)) R) R
         left =
-            ap₂ run (d ∙ set_first k (pick checks (Looked t) Nothing) _ vs refl refl ∙ looks checks) (number_stays checks)
-            ∙ ap (λ (x : Bool). pick x (changing (map (looked t)) (run vs k)) (run vs k)) c
+            ap (λ (l : List WatchedNode). run l k) (d ∙ set_first k (Looked t) (settling_of k (Looked t)) vs refl refl)
+            ∙ ap (λ (c : Bool). pick c (changing (map (looked t)) R) R) (sym c)
+
+        watched : watching (run vs' k) ≡ map (looked t) (watched_of vs k)
+        watched =
+            ap watching (left ∙ ap (λ (c : Bool). pick c (changing (map (looked t)) R) R) c)
+            ∙ each_nodes vs k (seen_places k 0 t Y (beats_at ws) vs o e s p) (seen_below k 0 t Y (beats_at ws) vs o e s p) (looked t)
 
         moment : moment_of s.soonest ≡ earliest (watching (run vs' k))
         moment =
-            seen_moment k 0 t Y (beats_at ws) vs o e s f (pick C (map (looked t) (watched_of vs k)) (watched_of vs k)) (nodes C) (fit C)
-            ∙ ap earliest (sym (ap watching left ∙ watched C))
+            seen_moment k 0 t Y (beats_at ws) vs o e s p (map (looked t) (watched_of vs k))
+            (ap (λ (c : Bool). map (settled (pick c (Looked t) Nothing)) (watched_of vs k)) c) (all_looked_fit t (watched_of vs k) b (all_fit (watched_of vs k) formed))
+            ∙ ap earliest (sym watched)
 
         pub tick_accepted :
-            pick checks s.after true ≡ true → (u : ℕ) → u ≡ t → (d : Dealt) (ws₁ q' m' : List ℕ) →
+            not s.after ≡ false → (u : ℕ) → u ≡ t → (d : Dealt) (ws₁ q' m' : List ℕ) →
             ((vs : List WatchedNode) → s.beats ≡ beats_all ws u vs → TicksIn ws q m (tick_taken (plain (head_of ws) q m) u vs) d ws₁ q' m' (tick_words ws q m u vs)) →
             length ws₁ ≡ 60 → (x : Option ℕ) → x ≡ moment_of s.soonest → (ws' : List ℕ) → ws' ≡ earliest_written ws₁ x →
-            TickedOn ws q m (run vs k) t (Ok d.logged) ws' q' m' (run vs' k)
+            TickedOn ws q m R t (Ok d.logged) ws' q' m' (run vs' k)
         tick_accepted z u i d ws₁ q' m' w long x y ws' v =
-            let found = ap (λ (f : Findings). f.beats) (seen_found k 0 t Y (beats_at ws) vs o e s f) in
-            run_accepted ws q m (run vs k) t well b (after_is ∙ z) d ws₁ q' m'
+            run_accepted ws q m R t well b (after_is ∙ not-false s.after z) d ws₁ q' m'
             (subst (λ (u : ℕ). s.beats ≡ beats_all ws u (watched_of vs k) → TicksIn ws q m (tick_taken (plain (head_of ws) q m) u (watched_of vs k)) d ws₁ q' m' (tick_words ws q m u (watched_of vs k)))
-            i (w (watched_of vs k)) found)
+            i (w (watched_of vs k)) (ap (λ (f : Findings). f.beats) found))
             long _ left x (y ∙ moment) ws' v

@@ -85,7 +85,7 @@ unfolding folded
 after_all s [] = sym (both_true s.after)
 after_all s (w ∷ ws) = after_all (found_by s w) ws ∙ both_again s.after (not_before s.time w) (all_of (not_before s.time) ws)
 
-soonest_all : (s : Findings) (ws : List WatchedNode) → (found_all s ws).soonest ≡ soonest s.soonest (map (settled s.setting) ws)
+pub soonest_all : (s : Findings) (ws : List WatchedNode) → (found_all s ws).soonest ≡ soonest s.soonest (map (settled s.setting) ws)
 unfolding folded
 soonest_all s [] = refl
 soonest_all s (w ∷ ws) = soonest_all (found_by s w) ws

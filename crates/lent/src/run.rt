@@ -1,6 +1,5 @@
 // The watched nodes as a lent run of records, with the number watched beside it: what a walk over its places finds out, and what a walk sets.
 ghost use Rattle.std.specs.Prelude.{◌≡◌};
-ghost use Rattle.types.specs.Pick.{pick};
 ghost use Rattle.watched.specs.Nodes.{sooner_by};
 ghost use Rattle.lentlaws.specs.Scan.{scanned};
 ghost use Rattle.lent.specs.Runs.{asked_for, for_heard, for_tick, tried_by, beaten_by, found_by, surveyed, settled, settling_of, set_next, settled_all};
@@ -85,17 +84,7 @@ pub fn for_heard(node: u8, time: u64) -> Findings
     }
 }
 
-// The times are set where heartbeats are checked.
-pub fn look_if(checks: bool, time: u64) -> Setting
-    ensures { result ≡ pick checks (Setting.Looked time) Setting.Nothing }
-{
-    if checks {
-        return Setting::Looked(time);
-    }
-    Setting::Nothing
-}
-
-// Of a time too, with the head's heartbeat counter.
+// Of a time too, with the head's heartbeat counter; the times are set where heartbeats are checked.
 pub fn for_tick(head: &Head, time: u64) -> Findings
     ensures { result ≡ for_tick head.now time }
 {
@@ -103,10 +92,15 @@ pub fn for_tick(head: &Head, time: u64) -> Findings
         counter: counter_of(head, CounterKind::HeartbeatTimeout),
         crossed: None,
     };
+    let setting = if checks_heartbeats(state_at(head)) {
+        Setting::Looked(time)
+    } else {
+        Setting::Nothing
+    };
     Findings {
         time,
         beats,
-        ..ask(look_if(checks_heartbeats(state_at(head)), time))
+        ..ask(setting)
     }
 }
 

@@ -1,6 +1,6 @@
 // The tick over a lent run of watched nodes: a walk finds out what numbers 3 and 6 and the heartbeats ask, the head's part
 // follows, and a walk sets the last-heard times.
-ghost use Rattle.std.specs.Prelude.{◌≡◌, List, ℕ};
+ghost use Rattle.std.specs.Prelude.{◌≡◌, true, List, ℕ};
 ghost use Rattle.head.specs.Words.{nmt_of, head_of};
 ghost use Rattle.node.specs.Tick.{checks_heartbeats, late_ones, beat_all, tick_taken};
 ghost use Rattle.node.specs.Refines.{plain};
@@ -11,14 +11,14 @@ ghost use Rattle.lent.specs.Runs.{beats_all};
 ghost use Rattle.tick.specs.TickIn.{TickedOn};
 ghost use Rattle.watched.specs.Watched.{run};
 
-use crate::run::{Beats, for_tick, look_if, settle, survey};
+use crate::run::{Beats, Setting, for_tick, settle, survey};
 use counters::counters::CounterKind;
 use head::parts::{set_counter, set_earliest, state_at};
 use head::state::Head;
 use heartbeats::dealt::{Dealt, finish, signal};
 use node::heard::moment;
 use tick::deadline::by_deadline;
-use tick::tick::checks_heartbeats;
+use tick::tick::{checks_heartbeats, tick_still};
 use types::frame::error::types::{DllError, DllErrors};
 use types::refusals::Refusal;
 use types::types::NodeId;
@@ -47,22 +47,18 @@ fn beaten(head: &mut Head, beats: Beats) -> Dealt
     }
 }
 
-// The heartbeats, where they are checked, and what follows where no crossing ended the tick.
+// The heartbeats, and what follows where no crossing ended the tick.
 fn phases(
     head: &mut Head,
     queue: &mut [u8; 640],
     history: &mut [u8; 5080],
-    checks: bool,
     beats: Beats,
     time: Time,
 ) -> Dealt
-    requires { checks ≡ checks_heartbeats (nmt_of head.old).current_state }
+    requires { checks_heartbeats (nmt_of head.old).current_state ≡ true }
     ensures { (vs : List WatchedNode) → beats ≡ beats_all head.old time.us vs →
         TicksIn head.old queue.old history.old (tick_taken (plain (head_of head.old) queue.old history.old) time.us vs) result head.new queue.new history.new (tick_words head.old queue.old history.old time.us vs) }
 {
-    if !checks {
-        return by_deadline(head, queue, history, time);
-    }
     let dealt = beaten(head, beats);
     if dealt.ended {
         return dealt;
@@ -70,7 +66,7 @@ fn phases(
     by_deadline(head, queue, history, time)
 }
 
-// A tick at a time in microseconds, on a head with its memory and the watched nodes.
+// A tick at a time in microseconds, on a head with its memory and the watched nodes. Where heartbeats are not checked, no node asks for anything.
 pub fn process_tick(
     head: &mut Head,
     queue: &mut [u8; 640],
@@ -84,13 +80,15 @@ pub fn process_tick(
     let Some(found) = survey(nodes, number, for_tick(head, time)) else {
         return Err(Refusal::WatchedNodes);
     };
+    if !checks_heartbeats(state_at(head)) {
+        return tick_still(head, queue, history, time, found.soonest);
+    }
     let now = Time::try_from(time)?;
-    let checks = checks_heartbeats(state_at(head));
-    if checks && !found.after {
+    if !found.after {
         return Err(Refusal::BeforeHeard);
     }
-    let dealt = phases(head, queue, history, checks, found.beats, now);
-    settle(nodes, number, look_if(checks, time));
+    let dealt = phases(head, queue, history, found.beats, now);
+    settle(nodes, number, Setting::Looked(time));
     set_earliest(head, moment(found.soonest));
     Ok(dealt.logged)
 }
