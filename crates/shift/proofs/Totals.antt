@@ -5,7 +5,7 @@ use lib.ListN.{length-map, get_or-replicate, length-replicate}
 use borrow.Author.Tests.{eqb-false}
 use Rattle.types.specs.Pick.{pick}
 use Rattle.types.specs.Kinds.{kind_code, kind_behind}
-use Rattle.types.proofs.Reading.{Each}
+use Rattle.std.specs.List.{AllByRecursion}
 use Rattle.entries.specs.Entry.{bit}
 use Rattle.entries.specs.Ring.{entry_at}
 use Rattle.entries.specs.History.{entries_in}
@@ -54,10 +54,9 @@ count_of (x ∷ xs) cs c inside few = by (eqb c x) refl (count_of xs cs' c)
 
 -- a number is one of some, or apart from all of them
 abbrev Apart : List ℕ → ℕ → Type 0
-Apart [] x = Unit
-Apart (c ∷ cs) x = (eqb c x ≡ false) × Apart cs x
+Apart cs x = AllByRecursion (λ c. eqb c x ≡ false) cs
 
-cases : (P : ℕ → Type 0) (cs : List ℕ) → Each P cs → (x : ℕ) → (Apart cs x → P x) → P x
+cases : (P : ℕ → Type 0) (cs : List ℕ) → AllByRecursion P cs → (x : ℕ) → (Apart cs x → P x) → P x
 cases P [] e x h = h tt
 cases P (c ∷ cs) e x h = by (eqb c x) refl (cases P cs e.1 x)
   where
@@ -99,28 +98,28 @@ less_sum f o (c ∷ cs) =
     rw rest (less_sum f o cs)
 
 -- two counts that agree on some codes
-lines_same : (f g : ℕ → ℕ) (cs : List ℕ) → Each (λ c. f c ≡ g c) cs → code_lines f cs ≡ code_lines g cs
+lines_same : (f g : ℕ → ℕ) (cs : List ℕ) → AllByRecursion (λ c. f c ≡ g c) cs → code_lines f cs ≡ code_lines g cs
 unfolding code_lines
 lines_same f g [] e = refl
 lines_same f g (c ∷ cs) e = rw (e.0, lines_same f g cs e.1)
 
-less_same : (f g : ℕ → ℕ) (n : ℕ) (cs : List ℕ) → Each (λ c. f c ≡ g c) cs → less f n cs ≡ less g n cs
+less_same : (f g : ℕ → ℕ) (n : ℕ) (cs : List ℕ) → AllByRecursion (λ c. f c ≡ g c) cs → less f n cs ≡ less g n cs
 less_same f g n [] e = refl
 less_same f g n (c ∷ cs) e = rw e.0 (less_same f g (n - g c) cs e.1)
 
-page_same : (f g : ℕ → ℕ) (n o l : ℕ) → Each (λ c. f c ≡ g c) named_codes → page n f o l ≡ page n g o l
+page_same : (f g : ℕ → ℕ) (n o l : ℕ) → AllByRecursion (λ c. f c ≡ g c) named_codes → page n f o l ≡ page n g o l
 unfolding page
 page_same f g n o l e = rw (lines_same f g named_codes e)
 
 -- each code that names a kind has a count
-each_below : (P : ℕ → Type 0) (cs : List ℕ) → Each (λ c. c < 65536) cs → ((c : ℕ) → c < 65536 → P c) → Each P cs
+each_below : (P : ℕ → Type 0) (cs : List ℕ) → AllByRecursion (λ c. c < 65536) cs → ((c : ℕ) → c < 65536 → P c) → AllByRecursion P cs
 each_below P [] e h = tt
 each_below P (c ∷ cs) e h = (h c e.0, each_below P cs e.1 h)
 
-named_below : Each (λ c. c < 65536) (map kind_code in_order)
+named_below : AllByRecursion (λ c. c < 65536) (map kind_code in_order)
 named_below = (omega arith, (omega arith, (omega arith, (omega arith, (omega arith, (omega arith, (omega arith, (omega arith, (omega arith, (omega arith, (omega arith, (omega arith, (omega arith, (omega arith, (omega arith, (omega arith, (omega arith, tt)))))))))))))))))
 
-each_named : (P : ℕ → Type 0) → ((c : ℕ) → c < 65536 → P c) → Each P named_codes
+each_named : (P : ℕ → Type 0) → ((c : ℕ) → c < 65536 → P c) → AllByRecursion P named_codes
 each_named P h = rw named_map (each_below P (map kind_code in_order) named_below h)
 
 none_yet : (c : ℕ) → c < 65536 → get_or no_counts c 0 ≡ 0

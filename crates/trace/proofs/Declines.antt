@@ -27,7 +27,8 @@ use Rattle.types.specs.declared.nmt.states.NmtState.TheVariants.{NmtReadyToOpera
 use Rattle.types.specs.declared.nmt.events.NmtEvent.{NmtEvent}
 use Rattle.types.specs.declared.frame.cs_state_machine.DllCsEvent.{DllCsEvent}
 use Rattle.types.specs.declared.frame.error.types.DllError.{DllError}
-use Rattle.types.proofs.Reading.{Each, reads_holds}
+use Rattle.std.specs.List.{AllByRecursion}
+use Rattle.types.proofs.Reading.{reads_holds}
 use Rattle.watched.specs.Watched.{in_time, heard_at, unheard, Run, run as run_of, watching, changing}
 use Rattle.watched.specs.Nodes.{nodes_of}
 use Rattle.node.specs.Plain.{Plain, Call, nmt_event, dll_event, error, cycle_complete, withdraw, heard, hand_out, load, arm, tick, range, margin, add, remove, refused, taken, range_answer, margin_answer, Step, Start, Begun, begins, FirstStep}
@@ -76,7 +77,7 @@ use Rattle.trace.proofs.Driven.{start_declined}
 abbrev Among : List ℕ → ℕ → Type 0
 Among ns n = is_among n ns ≡ true
 
-each_of : {A : Type 0} (P : A → Type 0) → ((x : A) → P x) → (xs : List A) → Each P xs
+each_of : {A : Type 0} (P : A → Type 0) → ((x : A) → P x) → (xs : List A) → AllByRecursion P xs
 each_of P f [] = tt
 each_of P f (x ∷ xs) = (f x, each_of P f xs)
 
@@ -136,7 +137,7 @@ error_declines p (Ok e) f r h = apart (sym h) refl refl
 error_declines p (Err x) f r h = (subst (Among (4 ∷ 1 ∷ [])) (refusal_of h) f, refl, refl)
 
 tried_declines :
-    (ns : List ℕ) (p : Plain) (l : Run) (ts : List (Test ℕ)) (accept : Step) → Each (λ (t : Test ℕ). Among ns t.otherwise) ts → (parts accept.answer).declines ≡ false →
+    (ns : List ℕ) (p : Plain) (l : Run) (ts : List (Test ℕ)) (accept : Step) → AllByRecursion (λ (t : Test ℕ). Among ns t.otherwise) ts → (parts accept.answer).declines ≡ false →
     (r : ℕ) → (tried ts (declines p l) accept).answer ≡ refused r → Plainly ns l (tried ts (declines p l) accept) r
 tried_declines ns p l [] accept f x r h = apart (sym h) refl x
 tried_declines ns p l (t ∷ ts) accept f x r h = by t.holds (tried_declines ns p l ts accept f.1 x r) h
@@ -300,7 +301,7 @@ plain_start_numbered s = by (start_tests s) (refl, (refl, (refl, (refl, tt))))
     Fits f = Numbered f.begun
 
     by :
-        (ts : List (Test ℕ)) → Each (λ (t : Test ℕ). Among start_refusals t.otherwise) ts →
+        (ts : List (Test ℕ)) → AllByRecursion (λ (t : Test ℕ). Among start_refusals t.otherwise) ts →
         Fits (tried ts (λ r. record { begun = Begun.declined r; lent = s.watched }) (record { begun = begins (fresh s); lent = changing unheard s.watched }))
     by [] f = tt
     by (t ∷ ts) f = picked Fits t.holds (by ts f.1) f.0

@@ -26,7 +26,7 @@ use Rattle.types.specs.declared.types.MessageType.{MessageType}
 use Rattle.types.specs.declared.types.MessageType.TheVariants.{SoC, PReq, PRes, SoA, ASnd}
 use Rattle.types.specs.declared.frame.error.kinds.DllErrorKind.{DllErrorKind}
 use Rattle.types.specs.declared.frame.error.kinds.DllErrorKind.TheVariants as kind
-use Rattle.types.proofs.Reading.{Each}
+use Rattle.std.specs.List.{AllByRecursion}
 use Rattle.types.specs.contracts.nmt.states.NmtState as NmtStateType
 use Rattle.types.specs.contracts.frame.cs_state_machine.DllCsEvent as DllCsEventType
 use Rattle.types.specs.contracts.nmt.events.NmtEvent as NmtEventType
@@ -85,13 +85,13 @@ module _ {A B : Type 0} (E : Enum A) (g f : A → B) where
   pub everywhere : map g E.items ≡ map f E.items → g E.first ≡ f E.first → (x : A) → g x ≡ f x
   everywhere e h x = ap g (sym (E.back x)) ∙ get_or_same E.items (E.position x) E.first e h ∙ ap f (E.back x)
 
-each_get_or : {A : Type 0} (P : A → Type 0) (xs : List A) (k : ℕ) (d : A) → Each P xs → P d → P (get_or xs k d)
+each_get_or : {A : Type 0} (P : A → Type 0) (xs : List A) (k : ℕ) (d : A) → AllByRecursion P xs → P d → P (get_or xs k d)
 each_get_or P [] k d h b = b
 each_get_or P (x ∷ xs) zero d h b = h.0
 each_get_or P (x ∷ xs) (suc k) d h b = each_get_or P xs k d h.1 b
 
 -- the same of any property
-pub each_item : {A : Type 0} (E : Enum A) (P : A → Type 0) → Each P E.items → P E.first → (x : A) → P x
+pub each_item : {A : Type 0} (E : Enum A) (P : A → Type 0) → AllByRecursion P E.items → P E.first → (x : A) → P x
 each_item E P h b x = subst P (E.back x) (each_get_or P E.items (E.position x) E.first h b)
 
 pub state_back : (x : NmtState) → get_or states (tag_of NmtStateType.the_type x) NmtGsOff ≡ x

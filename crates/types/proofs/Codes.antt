@@ -15,11 +15,11 @@ use Rattle.std.specs.declared.result.Result.{Result}
 use Rattle.std.specs.declared.result.Result.TheVariants.{Ok, Err}
 use Rattle.types.specs.declared.refusals.Refusal.{Refusal}
 use Rattle.types.proofs.Cases.{DllErrorKinds, everywhere, each_item}
-use Rattle.types.proofs.Reading.{Each}
+use Rattle.std.specs.List.{AllByRecursion}
 use Rattle.types.proofs.Refused.{number_fixes}
 
 -- a list of kinds of which none has the code, or k alone
-none_has : (P : DllErrorKind → Type 0) (c : ℕ) (ks : List DllErrorKind) → with_code c ks ≡ [] → Each (λ j. kind_code j ≡ c → P j) ks
+none_has : (P : DllErrorKind → Type 0) (c : ℕ) (ks : List DllErrorKind) → with_code c ks ≡ [] → AllByRecursion (λ j. kind_code j ≡ c → P j) ks
 none_has P c [] e = tt
 none_has P c (x ∷ xs) e = by (eqb (kind_code x) c) refl e (none_has P c xs)
   where
@@ -27,15 +27,15 @@ none_has P c (x ∷ xs) e = by (eqb (kind_code x) c) refl e (none_has P c xs)
         (b : Bool) →
         eqb (kind_code x) c ≡ b →
         put_if b x (with_code c xs) ≡ [] →
-        (with_code c xs ≡ [] → Each (λ j. kind_code j ≡ c → P j) xs) →
-        (kind_code x ≡ c → P x) × Each (λ j. kind_code j ≡ c → P j) xs
+        (with_code c xs ≡ [] → AllByRecursion (λ j. kind_code j ≡ c → P j) xs) →
+        (kind_code x ≡ c → P x) × AllByRecursion (λ j. kind_code j ≡ c → P j) xs
     by true t h rest = let z : ◌≡◌ {A = ℕ} 0 1 = cc in absurd (omega arith)
     by false t h rest = (λ k. absurd (eqb-false (kind_code x) c t k), rest h)
 
 one_has :
     (c : ℕ) (k : DllErrorKind) (ks : List DllErrorKind) →
     with_code c ks ≡ k ∷ [] →
-    (kind_code k ≡ c) × Each (λ j. kind_code j ≡ c → j ≡ k) ks
+    (kind_code k ≡ c) × AllByRecursion (λ j. kind_code j ≡ c → j ≡ k) ks
 one_has c k [] e = let z : ◌≡◌ {A = ℕ} 0 1 = cc in absurd (omega arith)
 one_has c k (x ∷ xs) e = by (eqb (kind_code x) c) refl e (one_has c k xs)
   where
@@ -43,8 +43,8 @@ one_has c k (x ∷ xs) e = by (eqb (kind_code x) c) refl e (one_has c k xs)
         (b : Bool) →
         eqb (kind_code x) c ≡ b →
         put_if b x (with_code c xs) ≡ k ∷ [] →
-        (with_code c xs ≡ k ∷ [] → (kind_code k ≡ c) × Each (λ j. kind_code j ≡ c → j ≡ k) xs) →
-        (kind_code k ≡ c) × ((kind_code x ≡ c → x ≡ k) × Each (λ j. kind_code j ≡ c → j ≡ k) xs)
+        (with_code c xs ≡ k ∷ [] → (kind_code k ≡ c) × AllByRecursion (λ j. kind_code j ≡ c → j ≡ k) xs) →
+        (kind_code k ≡ c) × ((kind_code x ≡ c → x ≡ k) × AllByRecursion (λ j. kind_code j ≡ c → j ≡ k) xs)
     by true t h rest =
         let same : x ≡ k = cc in
         let none_left : with_code c xs ≡ [] = cc in

@@ -7,6 +7,7 @@ use mathlib.Core.List.{List, [], ◌∷◌, map}
 use mathlib.Core.Bool.{Bool, true, false}
 use lib.Dec.{eqb}
 use borrow.Author.Tests.{ne_eqb, eqb-true}
+use Rattle.std.specs.List.{AllByRecursion}
 use Rattle.types.specs.Pick.{pick, read_by}
 
 -- what the last arm of a `match` on n is told: P, and that n is none of the keys
@@ -17,11 +18,6 @@ NoneOf P (k ∷ ks) n = NoneOf (P × (n ≡ k → ⊥)) ks n
 none_told : (P : Type 0) (ks : List ℕ) (n : ℕ) → NoneOf P ks n → P
 none_told P [] n h = h
 none_told P (k ∷ ks) n h = (none_told (P × (n ≡ k → ⊥)) ks n h).0
-
--- P holds of every element
-abbrev pub Each : {A : Type 0} → (A → Type 0) → List A → Type 0
-Each P [] = Unit
-Each P (x ∷ xs) = P x × Each P xs
 
 module _ {A R : Type 0} (number : A → ℕ) (taken : A → R) (none : R) where
   pub reads_none :
@@ -35,7 +31,7 @@ module _ {A R : Type 0} (number : A → ℕ) (taken : A → R) (none : R) where
   pub reads_holds :
       (P : ℕ → R → Type 0) (xs : List A) (n : ℕ) →
       P n none →
-      Each (λ x. P (number x) (taken x)) xs →
+      AllByRecursion (λ x. P (number x) (taken x)) xs →
       P n (read_by number taken none xs n)
   reads_holds P [] n base each = base
   reads_holds P (x ∷ xs) n base each = by (eqb n (number x)) refl (reads_holds P xs n base each.1)
@@ -54,7 +50,7 @@ pub record Faithful {A R : Type 0} (number : A → ℕ) (taken : A → R) (read 
   pub only : (n : ℕ) (x : A) → read n ≡ taken x → n ≡ number x
 
 module _ {A R : Type 0} (number : A → ℕ) (taken : A → R) (none : R) (same : (x y : A) → taken x ≡ taken y → x ≡ y) where
-  each_only : (xs : List A) → Each (λ x. (y : A) → taken x ≡ taken y → number x ≡ number y) xs
+  each_only : (xs : List A) → AllByRecursion (λ x. (y : A) → taken x ≡ taken y → number x ≡ number y) xs
   each_only [] = tt
   each_only (x ∷ xs) = (λ y e. ap number (same x y e), each_only xs)
 
