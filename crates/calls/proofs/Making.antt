@@ -1,6 +1,6 @@
 -- From what a call ensures and the numbers of its answer to the call of a line.
 -- Assumes nothing.
-use Prim.Native.Nat.{ℕ, min, ◌≤◌, ◌-◌}
+use Prim.Native.Nat.{ℕ, min, ◌≤◌, ◌-◌, ◌%◌}
 use mathlib.Core.Path.{◌≡◌, refl, sym, ap, subst, ◌∙◌}
 use mathlib.Core.Bool.{Bool, true, false, not}
 use mathlib.Core.List.{List, []}
@@ -19,6 +19,7 @@ use Rattle.types.specs.Kinds.{kind_behind}
 use Rattle.types.specs.declared.nmt.flags.FeatureFlags.{FeatureFlags}
 use Rattle.types.specs.Flags.{flags}
 use Rattle.counters.specs.declared.counters.Thresholds.{Thresholds}
+use Rattle.entries.specs.Entry.{mode_of}
 use Rattle.entries.specs.Ring.{nth}
 use Rattle.entries.specs.Queue.{waiting}
 use Rattle.entries.specs.Desk.{Reply, write_reply, desk_after}
@@ -40,7 +41,7 @@ use Rattle.node.specs.InPlace.{said, dll_said}
 use Rattle.tick.specs.TickIn.{tick_said}
 use Rattle.start.specs.Started.{StartedIn}
 use Rattle.answers.specs.Numbers.{numbers_of}
-use Rattle.calls.specs.Values.{at, named, byte_of, word_of, dictionary_of, thresholds_of, updates_of}
+use Rattle.calls.specs.Values.{at, named, byte_of, half_of, word_of, dictionary_of, thresholds_of, updates_of}
 use Rattle.calls.specs.Calls.{head_call, load_call, change_call, Makes, Starts, state_numbers, command_numbers, kind_numbers, reading_numbers, write_numbers}
 
 module _ {ws q m ns ws' q' m' : List ℕ} {c : Call} {l : Run} where
@@ -56,6 +57,13 @@ pub ticked : (r : Result DllErrors Refusal) → numbers_of (dll_said r) ≡ numb
 unfolding numbers_of
 ticked (Ok es) = refl
 ticked (Err r) = refl
+
+-- the two bits of a mode stand in the lowest 16
+pub mode_in_half : (n : ℕ) → mode_of (half_of n) ≡ mode_of n
+unfolding mode_of
+mode_in_half n =
+    let bits : n % 65536 % 4 ≡ n % 4 = omega arith in
+    rw bits
 
 -- the call of each key
 module _ (key : ℕ) (g : List ℕ) {n : ℕ} (first : n ≡ at g 0) where

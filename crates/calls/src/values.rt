@@ -1,7 +1,6 @@
 // The numbers of a line as the values that its call takes.
 ghost use Rattle.std.specs.Prelude.{◌≡◌, ◌≤◌};
 ghost use Rattle.calls.specs.Values.{at, byte_of, half_of, word_of, object_of, dictionary_of, named_thresholds, thresholds_of, named, updates_of, entry_of};
-ghost use Rattle.entries.specs.Entry.{mode_of};
 
 use answers::NOTHING;
 use counters::counters::Thresholds;
@@ -110,19 +109,12 @@ pub(crate) fn updates(given: Given) -> DictionaryUpdate
     }
 }
 
-// A number that was read as a mode's; each of its values names one.
-fn mode_of(n: u64) -> ErrorEntryMode
-    ensures { result ≡ mode_of n }
-{
-    let entry_type = EntryType::from((n % 4) as u16 * 4096);
-    entry_type.mode
-}
-
 // The entry to be written, behind its place.
+#[tactic(auto, using(crate::proofs::Making::mode_in_half))]
 pub(crate) fn entry_of(given: Given) -> ErrorEntry
     ensures { result ≡ entry_of given }
 {
-    let mode = mode_of(given[3]);
+    let mode = ErrorEntryMode::from_bits(half(given[3]));
     let entry_type = EntryType {
         is_status_entry: given[1] == 1,
         send_to_queue: given[2] == 1,

@@ -10,7 +10,7 @@ use forms::errors::ErrorsForm;
 use forms::generator::Generator;
 use forms::output::Output;
 use std::io;
-use types::frame::error::types::{DllError, NmtAction};
+use types::frame::error::types::DllError;
 
 // The counters of the seven kinds, in the order of the kinds.
 fn each(counters: CnErrorCounters) -> [ThresholdCounter; 7]
@@ -51,14 +51,10 @@ fn say_counters(out: &mut Output, counters: CnErrorCounters) {
 }
 
 fn say_answer(out: &mut Output, answer: ErrorTaken) {
-    let action = match answer.action {
-        NmtAction::None => 0,
-        NmtAction::ResetCommunication => 1,
-        NmtAction::ResetNode(_) => 2,
-    };
     write!(
         out,
-        " (action {action}) (signal {}) (logged{})",
+        " (action {}) (signal {}) (logged{})",
+        answer.action.number(),
         u8::from(answer.signal),
         ErrorsForm(answer.logged)
     );

@@ -2,10 +2,14 @@
 -- (Section 4.2.4.5).
 -- Assumes nothing.
 use Rattle.std.specs.Prelude.{ℕ, List, [], ◌∷◌, Bool}
-use Rattle.types.specs.Pick.{pick, either}
+use Rattle.types.specs.Pick.{pick, either, read_by}
 use Rattle.types.specs.States.{same_state}
 use Rattle.types.specs.CsEvents.{cs_event_number}
 use Rattle.types.specs.Errors.{reported}
+use Rattle.std.specs.declared.result.Result.{Result}
+use Rattle.std.specs.declared.result.Result.TheVariants.{Ok, Err}
+use Rattle.types.specs.declared.refusals.Refusal.{Refusal}
+use Rattle.types.specs.declared.refusals.Refusal.TheVariants.{UnknownNumber}
 use Rattle.types.specs.declared.nmt.states.NmtState.{NmtState}
 use Rattle.types.specs.declared.nmt.states.NmtState.TheVariants.{NmtPreOperational2, NmtReadyToOperate, NmtOperational, NmtCsStopped}
 use Rattle.types.specs.declared.frame.cs_state_machine.DllCsEvent.{DllCsEvent}
@@ -23,6 +27,13 @@ cs_state_number NonCyclic = 0
 cs_state_number WaitSoc = 1
 cs_state_number WaitPreq = 2
 cs_state_number WaitSoa = 3
+
+-- all states, in the order of the enum
+abbrev pub cs_states : List DllCsState
+cs_states = NonCyclic ∷ WaitSoc ∷ WaitPreq ∷ WaitSoa ∷ []
+
+abbrev pub read_cs_state : ℕ → Result DllCsState Refusal
+read_cs_state n = read_by cs_state_number Ok (Err UnknownNumber) cs_states n
 
 -- what an event leaves and reports
 pub record CsOutcome : Type 0 where

@@ -1,10 +1,11 @@
 // The order of frames that a controlled node expects within one cycle, one function for each state.
 ghost use Rattle.std.specs.Prelude.{◌≡◌};
-ghost use Rattle.dll.specs.Dll.{cs_state_number, non_cyclic, wait_soc, wait_preq, wait_soa, cyclic, fresh_machine, cs_outcome, cs_processed};
+ghost use Rattle.dll.specs.Dll.{cs_state_number, read_cs_state, non_cyclic, wait_soc, wait_preq, wait_soa, cyclic, fresh_machine, cs_outcome, cs_processed};
 
 use types::frame::cs_state_machine::DllCsEvent;
 use types::frame::error::types::{DllError, DllErrors};
 use types::nmt::states::NmtState;
+use types::refusals::Refusal;
 
 #[derive(Clone, Copy, PartialEq, Eq)]
 pub enum DllCsState {
@@ -29,6 +30,22 @@ impl DllCsState {
         ensures { result ≡ cs_state_number self }
     {
         self as u8
+    }
+}
+
+impl TryFrom<u64> for DllCsState {
+    type Error = Refusal;
+
+    ghost try_from_gives = { λ n r. r ≡ read_cs_state n };
+
+    fn try_from(value: u64) -> Result<Self, Refusal> {
+        match value {
+            0 => Ok(DllCsState::NonCyclic),
+            1 => Ok(DllCsState::WaitSoc),
+            2 => Ok(DllCsState::WaitPreq),
+            3 => Ok(DllCsState::WaitSoa),
+            _ => Err(Refusal::UnknownNumber),
+        }
     }
 }
 
@@ -74,11 +91,10 @@ fn wait_soc(event: DllCsEvent) -> DllAnswer
 {
     match event {
         DllCsEvent::Soc => goes(DllCsState::WaitPreq, DllErrors::None),
-        DllCsEvent::Preq => goes(DllCsState::WaitSoc, DllErrors::One(DllError::LossOfSoc)),
-        DllCsEvent::Pres => goes(DllCsState::WaitSoc, DllErrors::One(DllError::LossOfSoc)),
-        DllCsEvent::Soa => goes(DllCsState::WaitSoc, DllErrors::One(DllError::LossOfSoc)),
         DllCsEvent::Asnd => goes(DllCsState::WaitSoc, DllErrors::None),
-        DllCsEvent::SocTimeout => goes(DllCsState::WaitSoc, DllErrors::One(DllError::LossOfSoc)),
+        DllCsEvent::Preq | DllCsEvent::Pres | DllCsEvent::Soa | DllCsEvent::SocTimeout => {
+            goes(DllCsState::WaitSoc, DllErrors::One(DllError::LossOfSoc))
+        }
     }
 }
 
@@ -109,14 +125,10 @@ fn wait_soa(event: DllCsEvent) -> DllAnswer
 {
     match event {
         DllCsEvent::Soc => goes(DllCsState::WaitPreq, DllErrors::One(DllError::LossOfSoa)),
-        DllCsEvent::Preq => goes(
-            DllCsState::WaitSoc,
-            DllErrors::Two(DllError::LossOfSoc, DllError::LossOfSoa),
-        ),
         DllCsEvent::Pres => goes(DllCsState::WaitSoa, DllErrors::None),
         DllCsEvent::Soa => goes(DllCsState::WaitSoc, DllErrors::None),
         DllCsEvent::Asnd => goes(DllCsState::WaitSoa, DllErrors::One(DllError::LossOfSoa)),
-        DllCsEvent::SocTimeout => goes(
+        DllCsEvent::Preq | DllCsEvent::SocTimeout => goes(
             DllCsState::WaitSoc,
             DllErrors::Two(DllError::LossOfSoc, DllError::LossOfSoa),
         ),

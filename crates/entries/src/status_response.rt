@@ -24,7 +24,7 @@ impl ErrorEntryMode {
 
     // The mode of the lowest two bits: each of their values names one.
     #[tactic(auto, unfolding(crate::specs::Entry::mode_of))]
-    fn from_bits(value: u16) -> Self
+    pub fn from_bits(value: u16) -> Self
         ensures { result ≡ mode_of value }
     {
         match value % 4 {

@@ -2,7 +2,7 @@
 -- low byte counts, and a flag is on where its word is not 0.
 -- Assumes nothing.
 use Rattle.std.specs.Prelude.{ℕ, ◌+◌, ◌*◌, ◌%◌, Bool, true, false, not, List, [], ◌∷◌, ◌==◌, slice_index}
-use Rattle.types.specs.Pick.{pick, read_by}
+use Rattle.types.specs.Pick.{pick}
 use Rattle.types.specs.States.{read_state}
 use Rattle.types.specs.Types as Types
 use Rattle.types.specs.Flags as Flags
@@ -14,9 +14,9 @@ use Rattle.std.specs.declared.result.Result.TheVariants.{Ok, Err}
 use Rattle.std.specs.declared.option.Option.TheVariants.{Some, None}
 use Rattle.types.specs.declared.refusals.Refusal.{Refusal}
 use Rattle.nmt.specs.declared.cn_state_machine.CnNmtStateMachine.{CnNmtStateMachine}
-use Rattle.dll.specs.Dll.{cs_state_number}
+use Rattle.dll.specs.Dll.{read_cs_state}
 use Rattle.dll.specs.declared.cs_state_machine.DllCsState.{DllCsState}
-use Rattle.dll.specs.declared.cs_state_machine.DllCsState.TheVariants.{NonCyclic, WaitSoc, WaitPreq, WaitSoa}
+use Rattle.dll.specs.declared.cs_state_machine.DllCsState.TheVariants.{NonCyclic}
 use Rattle.counters.specs.Counters.{counter_of, by_kind}
 use Rattle.counters.specs.declared.counters.CounterKind.{CounterKind}
 use Rattle.counters.specs.declared.counters.ThresholdCounter.{ThresholdCounter}
@@ -66,8 +66,12 @@ nmt_of ws =
       app_ready = yes (word ws at.ready);
     }
 
+abbrev pub dll_read : Result DllCsState Refusal → DllCsState
+dll_read (Ok s) = s
+dll_read (Err r) = NonCyclic
+
 abbrev pub dll_state : ℕ → DllCsState
-dll_state n = read_by cs_state_number (λ (s : DllCsState). s) NonCyclic (WaitSoc ∷ WaitPreq ∷ WaitSoa ∷ []) n
+dll_state n = dll_read (read_cs_state n)
 
 abbrev pub counter_at : List ℕ → ℕ → ThresholdCounter
 counter_at ws i = counter_of (word ws i) (word ws (i + 1)) (word ws (i + 2)) (word ws (i + 3))

@@ -185,12 +185,7 @@ pub fn set_ready(head: &mut Head, ready: bool)
 fn dll_state(word: u32) -> DllCsState
     ensures { result ≡ dll_state word }
 {
-    match word {
-        1 => DllCsState::WaitSoc,
-        2 => DllCsState::WaitPreq,
-        3 => DllCsState::WaitSoa,
-        _ => DllCsState::NonCyclic,
-    }
+    DllCsState::try_from(word as u64).unwrap_or(DllCsState::NonCyclic)
 }
 
 pub fn dll_of(head: &Head) -> DllCsStateMachine

@@ -11,7 +11,7 @@ mod times;
 
 use forms::output::Output;
 use std::io;
-use types::frame::error::types::DllError;
+use types::frame::error::kinds::DllErrorKind;
 use types::nmt::events::{NmtManagingCommand, NmtStateCommand};
 use types::nmt::flags::FeatureFlags;
 use types::nmt::states::NmtState;
@@ -57,12 +57,9 @@ fn print_readings<F: Fn(u8) -> Option<u8>>(out: &mut Output, name: &str, reading
     }
 }
 
-// By number: that is what is read and printed.
 fn print_codes(out: &mut Output) {
-    for kind in 0..22u64 {
-        if let Ok(error) = DllError::try_from(kind, 17, 2) {
-            writeln!(out, "(code {kind} {:#06X})", error.to_error_code());
-        }
+    for kind in DllErrorKind::ALL {
+        writeln!(out, "(code {} {:#06X})", kind.place(), kind.to_error_code());
     }
 }
 

@@ -11,6 +11,8 @@ use Rattle.types.specs.declared.types.NodeId.{NodeId}
 use Rattle.types.specs.declared.refusals.Refusal.{Refusal}
 use Rattle.types.specs.declared.frame.error.kinds.DllErrorKind.{DllErrorKind}
 use Rattle.types.specs.declared.frame.error.kinds.DllErrorKind.TheVariants as error_kind
+use Rattle.types.specs.declared.frame.error.types.NmtAction.{NmtAction}
+use Rattle.types.specs.declared.frame.error.types.NmtAction.TheVariants as action
 use Rattle.types.specs.declared.frame.error.types.DllError.{DllError}
 use Rattle.types.specs.declared.frame.error.types.DllError.TheVariants.{LossOfLink, BadPhysicalMode, MacBuffer, Crc, Collision, InvalidFormat, LossOfSoc, LossOfSoa, LossOfPreq, LossOfPres, LossOfStatusRes, CycleTimeExceeded, LatePres, SoCJitter, MsWaitSoc, MultipleMn, AddressConflict, MevAsndTimeout, UnexpectedEventInState, PdoMapVersion, PdoPayloadShort, HeartbeatTimeout}
 use Rattle.types.specs.declared.frame.error.types.DllErrors.{DllErrors}
@@ -47,6 +49,12 @@ error_kind_of e = kind_place (kind_of e)
 
 abbrev pub error_code : DllError → ℕ
 error_code e = kind_code (kind_of e)
+
+-- what NMT is asked for after an error, as a number: nothing, to reset the communication, to reset a node
+abbrev pub action_number : NmtAction → ℕ
+action_number action.None = 0
+action_number action.ResetCommunication = 1
+action_number (action.ResetNode n) = 2
 
 -- the errors that one event reports, in order
 abbrev pub reported : DllErrors → List DllError

@@ -32,32 +32,6 @@ pub enum DllErrorKind {
     HeartbeatTimeout,
 }
 
-// All kinds, each at its place.
-static KINDS: [DllErrorKind; 22] = [
-    DllErrorKind::LossOfLink,
-    DllErrorKind::BadPhysicalMode,
-    DllErrorKind::MacBuffer,
-    DllErrorKind::Crc,
-    DllErrorKind::Collision,
-    DllErrorKind::InvalidFormat,
-    DllErrorKind::LossOfSoc,
-    DllErrorKind::LossOfSoa,
-    DllErrorKind::LossOfPreq,
-    DllErrorKind::LossOfPres,
-    DllErrorKind::LossOfStatusRes,
-    DllErrorKind::CycleTimeExceeded,
-    DllErrorKind::LatePres,
-    DllErrorKind::SoCJitter,
-    DllErrorKind::MsWaitSoc,
-    DllErrorKind::MultipleMn,
-    DllErrorKind::AddressConflict,
-    DllErrorKind::MevAsndTimeout,
-    DllErrorKind::UnexpectedEventInState,
-    DllErrorKind::PdoMapVersion,
-    DllErrorKind::PdoPayloadShort,
-    DllErrorKind::HeartbeatTimeout,
-];
-
 impl From<DllError> for DllErrorKind {
     ghost from_gives = { λ e k. k ≡ kind_of e };
 
@@ -127,6 +101,32 @@ impl TryFrom<u64> for DllErrorKind {
 }
 
 impl DllErrorKind {
+    // In the order of the enum.
+    pub const ALL: [DllErrorKind; 22] = [
+        DllErrorKind::LossOfLink,
+        DllErrorKind::BadPhysicalMode,
+        DllErrorKind::MacBuffer,
+        DllErrorKind::Crc,
+        DllErrorKind::Collision,
+        DllErrorKind::InvalidFormat,
+        DllErrorKind::LossOfSoc,
+        DllErrorKind::LossOfSoa,
+        DllErrorKind::LossOfPreq,
+        DllErrorKind::LossOfPres,
+        DllErrorKind::LossOfStatusRes,
+        DllErrorKind::CycleTimeExceeded,
+        DllErrorKind::LatePres,
+        DllErrorKind::SoCJitter,
+        DllErrorKind::MsWaitSoc,
+        DllErrorKind::MultipleMn,
+        DllErrorKind::AddressConflict,
+        DllErrorKind::MevAsndTimeout,
+        DllErrorKind::UnexpectedEventInState,
+        DllErrorKind::PdoMapVersion,
+        DllErrorKind::PdoPayloadShort,
+        DllErrorKind::HeartbeatTimeout,
+    ];
+
     // The kind's place in the enum, from 0.
     pub fn place(self) -> u8
         ensures { result ≡ kind_place self }
@@ -164,12 +164,12 @@ impl DllErrorKind {
         ensures { kind_said result ≡ kind_behind code }
     {
         let mut found = None;
-        for kind in &KINDS {
+        for kind in DllErrorKind::ALL {
             if u64::from(kind.to_error_code()) == code {
                 if found.is_some() {
                     return Err(Refusal::NoSingleKind);
                 }
-                found = Some(*kind);
+                found = Some(kind);
             }
         }
         found.ok_or(Refusal::NoSingleKind)

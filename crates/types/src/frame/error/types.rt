@@ -1,6 +1,6 @@
 // The errors of the data link layer (EPSG DS 301, Section 4.7), and what they ask of NMT.
 ghost use Rattle.std.specs.Prelude.{◌≡◌};
-ghost use Rattle.types.specs.Errors.{error_kind_of, error_code, read_error};
+ghost use Rattle.types.specs.Errors.{action_number, error_kind_of, error_code, read_error};
 ghost use Rattle.types.specs.Kinds.{kind_place};
 
 use crate::frame::error::kinds::DllErrorKind;
@@ -13,6 +13,19 @@ pub enum NmtAction {
     None,
     ResetCommunication,
     ResetNode(NodeId),
+}
+
+impl NmtAction {
+    // The action's place in the enum, from 0; the node that it carries is not in it.
+    pub fn number(self) -> u8
+        ensures { result ≡ action_number self }
+    {
+        match self {
+            NmtAction::None => 0,
+            NmtAction::ResetCommunication => 1,
+            NmtAction::ResetNode(_) => 2,
+        }
+    }
 }
 
 #[derive(Clone, Copy, Debug, PartialEq, Eq)]
