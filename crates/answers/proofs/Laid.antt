@@ -8,21 +8,19 @@ use mathlib.Core.List.{List, [], map}
 use lib.ListN.{set}
 use lib.IntN.{ℤ, pos, negsuc}
 use Rattle.types.specs.States.{state_number}
-use Rattle.types.specs.Errors.{reported}
+use Rattle.types.specs.Errors.{action_number, reported}
 use Rattle.types.specs.declared.frame.error.types.DllErrors.{DllErrors}
 use Rattle.types.specs.declared.frame.error.types.DllErrors.TheVariants as errors
 use Rattle.types.specs.declared.frame.error.types.NmtAction.{NmtAction}
 use Rattle.nmt.specs.Resets.{passed, entered_states, restored_ranges}
-use Rattle.nmt.specs.declared.state_machine.EnteredStates.{EnteredStates}
 use Rattle.nmt.specs.declared.state_machine.ResetSequence.{ResetSequence}
-use Rattle.nmt.specs.declared.state_machine.RestoredRanges.{RestoredRanges}
-use Rattle.nmt.specs.declared.state_machine.RestoredRanges.TheVariants as restored
+use Rattle.nmt.specs.declared.state_machine.ResetSequence.TheVariants as sequence
 use Rattle.head.specs.Words.{one}
 use Rattle.node.specs.declared.range.SocVerdict.{SocVerdict}
 use Rattle.node.specs.declared.range.SocVerdict.TheVariants as verdict
 use Rattle.node.specs.Plain.{taken, nmt_answer, error_answer, range_answer, margin_answer}
-use Rattle.answers.specs.Numbers.{nothing, errors_numbers, ranges_numbers, action_number, node_asked, laid, numbers_of}
-use Rattle.answers.specs.Put.{error_put, errors_put, states_of, states_put, ranges_put, reset_put, verdict_put, margin_put}
+use Rattle.answers.specs.Numbers.{nothing, errors_numbers, ranges_numbers, node_asked, laid, numbers_of}
+use Rattle.answers.specs.Put.{error_put, errors_put, reset_put, verdict_put, margin_put}
 
 errors_laid :
     (node action said : ℕ) (es : DllErrors) →
@@ -58,23 +56,16 @@ unfolding numbers_of
 error_taken_lem a signal es p n k s q =
     q ∙ (λ i. errors_put (set (set (set (p i) 1 (n i)) 2 (k i)) 3 ((s ∙ one_is signal) i)) es) ∙ errors_laid (node_asked a) (action_number a) (one signal) es
 
-pub reset_put_lem :
-    (r : ResetSequence) (ns : List ℕ) {ms ls ss : List ℕ} →
-    ss ≡ states_of r.entered →
-    ms ≡ states_put ns ss →
-    ls ≡ ranges_put ms r.restored →
-    ls ≡ reset_put ns r
-unfolding reset_put
-reset_put_lem r ns s p q = q ∙ ap (λ (l : List ℕ). ranges_put l r.restored) (p ∙ ap (λ (l : List ℕ). states_put ns l) s)
-
 reset_laid :
-    (es : DllErrors) (e : EnteredStates) (r : RestoredRanges) →
-    ranges_put (states_put (laid 0 nothing nothing nothing [] [] (errors_numbers (reported es))) (states_of e)) r ≡
-    laid 0 nothing nothing nothing (map state_number (entered_states e)) (ranges_numbers (restored_ranges r)) (errors_numbers (reported es))
-unfolding ranges_put
-reset_laid es e restored.None = refl
-reset_laid es e (restored.One a) = refl
-reset_laid es e (restored.Three a b c) = refl
+    (es : DllErrors) (r : ResetSequence) →
+    reset_put (laid 0 nothing nothing nothing [] [] (errors_numbers (reported es))) r ≡
+    laid 0 nothing nothing nothing (map state_number (entered_states r)) (ranges_numbers (restored_ranges r)) (errors_numbers (reported es))
+unfolding reset_put
+reset_laid es sequence.None = refl
+reset_laid es sequence.Whole = refl
+reset_laid es sequence.Node = refl
+reset_laid es sequence.Communication = refl
+reset_laid es sequence.Configuration = refl
 
 pub reset_taken :
     (es : DllErrors) (r : ResetSequence) {ns ms ls : List ℕ} →
@@ -82,9 +73,8 @@ pub reset_taken :
     ms ≡ errors_put ns es →
     ls ≡ reset_put ms r →
     ls ≡ numbers_of (nmt_answer (reported es) (passed r))
-unfolding numbers_of reset_put
-reset_taken es r p q s =
-    s ∙ ap (λ (l : List ℕ). ranges_put (states_put l (states_of r.entered)) r.restored) (errors_taken es p q) ∙ reset_laid es r.entered r.restored
+unfolding numbers_of
+reset_taken es r p q s = s ∙ ap (λ (l : List ℕ). reset_put l r) (errors_taken es p q) ∙ reset_laid es r
 
 -- an answer of yes or no alone
 pub said_taken : (v : ℕ) {ns : List ℕ} {said : ℕ} → ns ≡ numbers_of taken → said ≡ v → set ns 3 said ≡ laid 0 nothing nothing v [] [] []

@@ -14,7 +14,7 @@
 -- Assumes nothing.
 use Rattle.std.specs.Prelude.{ℕ, suc, List, [], ◌∷◌, ◌++◌, map, get_or, replicate, ℤ, pos, negsuc}
 use Rattle.types.specs.States.{state_number}
-use Rattle.types.specs.Errors.{error_kind_of}
+use Rattle.types.specs.Errors.{action_number, error_kind_of}
 use Rattle.types.specs.declared.types.NodeId.{NodeId}
 use Rattle.types.specs.declared.frame.error.types.DllError.{DllError}
 use Rattle.types.specs.declared.frame.error.types.DllError.TheVariants.{LossOfLink, BadPhysicalMode, MacBuffer, Crc, Collision, InvalidFormat, LossOfSoc, LossOfSoa, LossOfPreq, LossOfPres, LossOfStatusRes, CycleTimeExceeded, LatePres, SoCJitter, MsWaitSoc, MultipleMn, AddressConflict, MevAsndTimeout, UnexpectedEventInState, PdoMapVersion, PdoPayloadShort, HeartbeatTimeout}
@@ -76,11 +76,6 @@ errors_numbers (e ∷ es) = error_kind_of e ∷ said_of (carries e).state ∷ sa
 abbrev pub ranges_numbers : List IndexRange → List ℕ
 ranges_numbers [] = []
 ranges_numbers (r ∷ rs) = r.first ∷ r.last ∷ ranges_numbers rs
-
-abbrev pub action_number : NmtAction → ℕ
-action_number action.None = 0
-action_number action.ResetCommunication = 1
-action_number (action.ResetNode n) = 2
 
 abbrev pub node_asked : NmtAction → ℕ
 node_asked action.None = nothing

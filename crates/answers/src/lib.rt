@@ -2,17 +2,16 @@
 // no enums. specs/Numbers.antt says what stands where.
 #![tactic(auto)]
 
-ghost use Rattle.std.specs.Prelude.{◌≡◌, ◌≤◌};
+ghost use Rattle.std.specs.Prelude.{◌≡◌, ◌≤◌, length};
 ghost use Rattle.types.specs.Refusals.{refusal_number};
-ghost use Rattle.types.specs.States.{state_number};
 ghost use Rattle.head.specs.Words.{one};
 ghost use Rattle.node.specs.Plain.{Answer, taken, refused, cycle_answer, hand_out_answer, range_answer, margin_answer};
 ghost use Rattle.node.specs.InPlace.{answered, nmt_says, dll_says, error_says};
-ghost use Rattle.answers.specs.Numbers.{carries, action_number, node_asked, is_found, of_node, said_of, numbers_of, bytes_of};
-ghost use Rattle.answers.specs.Put.{error_put, errors_put, states_of, states_put, range_put, ranges_put, reset_put, verdict_put, margin_put};
+ghost use Rattle.answers.specs.Numbers.{carries, node_asked, is_found, of_node, said_of, numbers_of, bytes_of};
+ghost use Rattle.answers.specs.Put.{error_put, errors_put, states_put, range_put, ranges_put, reset_put, verdict_put, margin_put};
 
 use entries::status_response::ErrorEntry;
-use nmt::state_machine::{EnteredStates, IndexRange, ResetSequence, RestoredRanges};
+use nmt::state_machine::{IndexRange, ResetSequence};
 use node::calls::{ErrorTaken, NmtTaken};
 use node::range::SocVerdict;
 use types::frame::error::types::{DllError, DllErrors, NmtAction};
@@ -132,32 +131,13 @@ fn put_errors(numbers: &mut Numbers, errors: DllErrors)
     }
 }
 
-fn shown(state: NmtState) -> u64
-    ensures { result ≡ state_number state }
+fn put_states(numbers: &mut Numbers, entered: &[NmtState])
+    requires { length entered.now ≤ 5 }
+    ensures { numbers.new ≡ states_put numbers.old 4 entered.now }
 {
-    u64::from(state.as_u8())
-}
-
-fn states(entered: EnteredStates) -> [u64; 5]
-    ensures { result ≡ states_of entered }
-{
-    match entered {
-        EnteredStates::None => [NOTHING; 5],
-        EnteredStates::Two(a, b) => [shown(a), shown(b), NOTHING, NOTHING, NOTHING],
-        EnteredStates::Three(a, b, c) => [shown(a), shown(b), shown(c), NOTHING, NOTHING],
-        EnteredStates::Four(a, b, c, d) => [shown(a), shown(b), shown(c), shown(d), NOTHING],
-        EnteredStates::Five(a, b, c, d, e) => [shown(a), shown(b), shown(c), shown(d), shown(e)],
+    for (k, state) in entered.iter().enumerate() {
+        numbers[STATES + k] = u64::from(state.as_u8());
     }
-}
-
-fn put_states(numbers: &mut Numbers, states: [u64; 5])
-    ensures { numbers.new ≡ states_put numbers.old states }
-{
-    numbers[STATES] = states[0];
-    numbers[STATES + 1] = states[1];
-    numbers[STATES + 2] = states[2];
-    numbers[STATES + 3] = states[3];
-    numbers[STATES + 4] = states[4];
 }
 
 fn put_range(numbers: &mut Numbers, at: usize, range: IndexRange)
@@ -168,37 +148,21 @@ fn put_range(numbers: &mut Numbers, at: usize, range: IndexRange)
     numbers[at + 1] = u64::from(range.last);
 }
 
-fn put_ranges(numbers: &mut Numbers, ranges: RestoredRanges)
-    ensures { numbers.new ≡ ranges_put numbers.old ranges }
+fn put_ranges(numbers: &mut Numbers, restored: &[IndexRange])
+    requires { length restored.now ≤ 3 }
+    ensures { numbers.new ≡ ranges_put numbers.old 9 restored.now }
 {
-    match ranges {
-        RestoredRanges::None => {}
-        RestoredRanges::One(a) => put_range(numbers, RANGES, a),
-        RestoredRanges::Three(a, b, c) => {
-            put_range(numbers, RANGES, a);
-            put_range(numbers, RANGES + 2, b);
-            put_range(numbers, RANGES + 4, c)
-        }
+    for (k, range) in restored.iter().enumerate() {
+        put_range(numbers, RANGES + 2 * k, *range);
     }
 }
 
+#[tactic(auto, unfolding(crate::specs::Put::reset_put))]
 fn put_reset(numbers: &mut Numbers, reset: ResetSequence)
     ensures { numbers.new ≡ reset_put numbers.old reset }
 {
-    let entered = reset.entered;
-    let restored = reset.restored;
-    put_states(numbers, states(entered));
-    put_ranges(numbers, restored);
-}
-
-fn action_number(action: NmtAction) -> u64
-    ensures { result ≡ action_number action }
-{
-    match action {
-        NmtAction::None => 0,
-        NmtAction::ResetCommunication => 1,
-        NmtAction::ResetNode(_) => 2,
-    }
+    put_states(numbers, reset.entered());
+    put_ranges(numbers, reset.restored());
 }
 
 fn node_asked(action: NmtAction) -> u64
@@ -258,7 +222,7 @@ impl Told for ErrorTaken {
         let logged = self.logged;
         put_taken(numbers);
         numbers[NODE] = node_asked(action);
-        numbers[ACTION] = action_number(action);
+        numbers[ACTION] = u64::from(action.number());
         numbers[YES] = u64::from(self.signal);
         put_errors(numbers, logged);
     }

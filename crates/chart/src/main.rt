@@ -7,8 +7,8 @@ ghost use Rattle.nmt.specs.Table.{standing, ruled};
 use forms::hex::HexByte;
 use forms::output::Output;
 use head::parts::{nmt_of, set_nmt};
-use nmt::cn_state_machine::CnNmtStateMachine;
-use nmt::state_machine::{EnteredStates, is_reset, reset_sequence};
+use nmt::cn_state_machine::{CnNmtStateMachine, Position};
+use nmt::state_machine::{is_reset, reset_sequence};
 use nmt::table::chosen;
 use node::calls::{nmt_event, withdraw};
 use reach::Line;
@@ -97,22 +97,27 @@ fn say_change(out: &mut Output, name: &str, before: bool, after: bool) {
 }
 
 // Where the entry leads, and what it does to enabled and ready. A reset enters NotActive from there too.
-fn say_cell(out: &mut Output, state: NmtState, event: NmtEvent, enabled: bool, ready: bool) {
-    let entry = chosen(state, event, enabled, ready);
-    if entry.state == state && !is_reset(event) {
+fn say_cell(out: &mut Output, from: Position, event: NmtEvent) {
+    let entry = chosen(from.state, event, from.enabled, from.ready);
+    if entry.state == from.state && !is_reset(event) {
         write!(out, " | stays");
     } else {
         write!(out, " | {}", Name(entry.state));
     }
-    say_change(out, "enabled", enabled, entry.enabled);
-    say_change(out, "ready", ready, entry.ready);
+    say_change(out, "enabled", from.enabled, entry.enabled);
+    say_change(out, "ready", from.ready, entry.ready);
 }
 
 fn say_row(out: &mut Output, state: NmtState, event: NmtEvent) {
     write!(out, "| {event:?}");
     for enabled in [false, true] {
         for ready in [false, true] {
-            say_cell(out, state, event, enabled, ready);
+            let from = Position {
+                state,
+                enabled,
+                ready,
+            };
+            say_cell(out, from, event);
         }
     }
     writeln!(out, " | {} |", Transition::of(state, event));
@@ -146,7 +151,8 @@ fn print_state(out: &mut Output, state: NmtState) {
     writeln!(out, " and no other.");
 }
 
-fn say_all(out: &mut Output, states: &[NmtState]) {
+// The states that a reset enters, in order.
+fn say_entered(out: &mut Output, states: &[NmtState]) {
     for (place, &state) in states.iter().enumerate() {
         if 0 < place {
             write!(out, ", ");
@@ -155,22 +161,11 @@ fn say_all(out: &mut Output, states: &[NmtState]) {
     }
 }
 
-// The states that a reset enters, in order.
-fn say_entered(out: &mut Output, entered: EnteredStates) {
-    match entered {
-        EnteredStates::None => {}
-        EnteredStates::Two(a, b) => say_all(out, &[a, b]),
-        EnteredStates::Three(a, b, c) => say_all(out, &[a, b, c]),
-        EnteredStates::Four(a, b, c, d) => say_all(out, &[a, b, c, d]),
-        EnteredStates::Five(a, b, c, d, e) => say_all(out, &[a, b, c, d, e]),
-    }
-}
-
 fn print_resets(out: &mut Output) {
     for event in NmtEvent::ALL {
         if is_reset(event) {
             write!(out, "| {event:?} | ");
-            say_entered(out, reset_sequence(event).entered);
+            say_entered(out, reset_sequence(event).entered());
             writeln!(out, " |");
         }
     }
@@ -211,18 +206,11 @@ fn print_moves(out: &mut Output) {
     }
 }
 
-// An NMT machine in the position of a line. Written out, as in transitions and examples: each program has numbers of its own.
-fn machine_at(line: Line) -> CnNmtStateMachine
-    ensures { result ≡ standing line.0 line.1 line.2 }
+// What a machine has besides its position chooses nothing.
+fn machine_at(position: Position) -> CnNmtStateMachine
+    ensures { result ≡ standing position.state position.enabled position.ready }
 {
-    CnNmtStateMachine {
-        current_state: line.0,
-        node_id: NodeId(0),
-        feature_flags: FeatureFlags(0),
-        basic_ethernet_timeout: 0,
-        ready_to_operate_enabled: line.1,
-        app_ready: line.2,
-    }
+    CnNmtStateMachine::new(NodeId(0), FeatureFlags(0), 0).at(position)
 }
 
 // A step of a head.
@@ -272,16 +260,25 @@ impl Display for Key {
     }
 }
 
+fn position_of(line: Line) -> Position {
+    Position {
+        state: line.0,
+        enabled: line.1,
+        ready: line.2,
+    }
+}
+
 // A position of the picture, with its least number of steps.
 fn say_position(out: &mut Output, line: Line) {
-    let Line(state, enabled, ready, steps) = line;
-    let is_enabled = if enabled { ", enabled" } else { "" };
-    let is_ready = if ready { ", ready" } else { "" };
+    let position = position_of(line);
+    let is_enabled = if position.enabled { ", enabled" } else { "" };
+    let is_ready = if position.ready { ", ready" } else { "" };
     writeln!(
         out,
-        "    state \"{steps}: {}{is_enabled}{is_ready}\" as {}",
-        Name(state),
-        Key(machine_at(line))
+        "    state \"{}: {}{is_enabled}{is_ready}\" as {}",
+        line.3,
+        Name(position.state),
+        Key(machine_at(position))
     );
 }
 
@@ -302,7 +299,7 @@ fn say_step(out: &mut Output, machine: CnNmtStateMachine, step: Step) {
 // The resets have an arrow of their own.
 fn print_steps(out: &mut Output) {
     for line in reach::lines() {
-        let machine = machine_at(line);
+        let machine = machine_at(position_of(line));
         for event in NmtEvent::ALL {
             if !is_reset(event) {
                 say_step(out, machine, Step::Event(event));

@@ -1,7 +1,7 @@
 -- The tests of an answer are true exactly where it is the one stated: each arm of a match, over plain variables.
 -- Assumes nothing.
 use Prim.Native.Nat.{ℕ}
-use mathlib.Core.Path.{◌≡◌, refl, ap}
+use mathlib.Core.Path.{◌≡◌, refl, sym, ap, ◌∙◌}
 use mathlib.Core.Bool.{Bool, true, false, not, ◌&&◌}
 use mathlib.Core.List.{List, [], ◌∷◌}
 use native.Mathlib.Omega.{arith}
@@ -9,9 +9,13 @@ use Rattle.std.proofs.Common.{rules}
 use Rattle.types.specs.Errors.{reported}
 use Rattle.types.specs.contracts.frame.error.types.DllErrorPartialEq.TheImpl as a-error
 use Rattle.types.specs.contracts.frame.error.types.DllErrorsPartialEq.TheImpl as some-errors
-use Rattle.types.specs.contracts.nmt.states.NmtStatePartialEq.TheImpl as a-state
-use Rattle.types.specs.declared.nmt.states.NmtState.{NmtState}
-use Rattle.types.specs.declared.nmt.states.NmtState.TheVariants.{NmtGsInitialising, NmtGsResetApplication, NmtGsResetCommunication, NmtGsResetConfiguration, NmtNotActive}
+use denote.Enum.Bare.{same_true, true_same}
+use Rattle.nmt.specs.contracts.state_machine.ResetSequence.{the_type}
+use Rattle.nmt.specs.contracts.state_machine.ResetSequencePartialEq.TheImpl as a-sequence
+use Rattle.nmt.specs.declared.state_machine.ResetSequence.{ResetSequence}
+use Rattle.nmt.proofs.Fixed.{passed_fixes}
+use Rattle.node.specs.contracts.calls.NmtTakenPartialEq.TheImpl as a-taken
+use Rattle.node.specs.declared.calls.NmtTaken.{NmtTaken}
 use Rattle.types.specs.declared.frame.error.types.DllError.{DllError}
 use Rattle.types.specs.declared.frame.error.types.DllErrors.{DllErrors}
 use Rattle.types.specs.declared.frame.error.types.DllErrors.TheVariants as errors
@@ -19,13 +23,13 @@ use Rattle.std.specs.Result.{result_eq}
 use Rattle.std.specs.declared.result.Result.{Result}
 use Rattle.std.specs.declared.result.Result.TheVariants.{Ok, Err}
 use Rattle.types.specs.declared.refusals.Refusal.{Refusal}
-use Rattle.nmt.specs.Resets.{Passed}
-use Rattle.node.specs.Plain.{refused, nmt_answer, dll_answer, tick_answer}
-use Rattle.node.specs.InPlace.{dll_said}
+use Rattle.nmt.specs.Resets.{passed}
+use Rattle.node.specs.Plain.{nmt_answer, dll_answer, tick_answer}
+use Rattle.node.specs.InPlace.{nmt_said, dll_said}
 use Rattle.tick.specs.TickIn.{tick_said}
 use Rattle.examples.specs.Same.{Exactly}
 use Rattle.examples.specs.Said.{passed_of, nmt_stated, dll_stated, tick_stated}
-use Rattle.examples.proofs.Exact.{exact_state, exact_by, exact_and, exact_is, no}
+use Rattle.examples.proofs.Exact.{exact_by, exact_and, exact_is, no}
 
 pub clash : ◌≡◌ {A = ℕ} 0 1 → ⊥
 clash z = omega arith
@@ -52,48 +56,21 @@ exact_reported (errors.Two a d) (errors.One b) r e = exact_is e (never (λ h. cl
 exact_reported (errors.Two a d) (errors.Two b c) r e =
     exact_is e (exact_by (exact_and (exact_error a b _ refl) (exact_error d c _ refl)) (λ h. λ i. h.0 i ∷ h.1 i ∷ []) (λ h. (cc, cc)))
 
--- a whole reset, or none
-pub none_entered : (whole : Bool) → Exactly (not whole) ([] ≡ (passed_of whole).states)
-none_entered true = never (λ e. clash (cc))
-none_entered false = always refl
+-- what a reset passes, compared by `==`
+exact_passed : (x y : ResetSequence) → Exactly ((a-sequence.ghosts).eq x y) (passed x ≡ passed y)
+exact_passed x y = exact_by (record { says = same_true the_type tt x y; holds = true_same the_type x y }) (ap passed) (passed_fixes x y)
 
-pub two_entered : (a b : NmtState) (whole : Bool) → Exactly false (a ∷ b ∷ [] ≡ (passed_of whole).states)
-two_entered a b true = never (λ e. clash (cc))
-two_entered a b false = never (λ e. clash (cc))
-
-pub three_entered : (a b c : NmtState) (whole : Bool) → Exactly false (a ∷ b ∷ c ∷ [] ≡ (passed_of whole).states)
-three_entered a b c true = never (λ e. clash (cc))
-three_entered a b c false = never (λ e. clash (cc))
-
-pub four_entered : (a b c d : NmtState) (whole : Bool) → Exactly false (a ∷ b ∷ c ∷ d ∷ [] ≡ (passed_of whole).states)
-four_entered a b c d true = never (λ e. clash (cc))
-four_entered a b c d false = never (λ e. clash (cc))
-
-pub five_entered :
-    (a b c d e : NmtState) (whole : Bool) →
-    Exactly
-    (whole
-    && (a-state.ghosts).eq a NmtGsInitialising
-    && (a-state.ghosts).eq b NmtGsResetApplication
-    && (a-state.ghosts).eq c NmtGsResetCommunication
-    && (a-state.ghosts).eq d NmtGsResetConfiguration
-    && (a-state.ghosts).eq e NmtNotActive)
-    (a ∷ b ∷ c ∷ d ∷ e ∷ [] ≡ (passed_of whole).states)
-five_entered a b c d e false = never (λ h. clash (cc))
-five_entered a b c d e true =
-    exact_by
-    (exact_and (exact_and (exact_and (exact_and (exact_state a NmtGsInitialising) (exact_state b NmtGsResetApplication)) (exact_state c NmtGsResetCommunication))
-    (exact_state d NmtGsResetConfiguration)) (exact_state e NmtNotActive))
-    (λ h. λ i. h.0.0.0.0 i ∷ h.0.0.0.1 i ∷ h.0.0.1 i ∷ h.0.1 i ∷ h.1 i ∷ [])
-    (λ h. ((((cc, cc), cc), cc), cc))
-
--- the answers
-pub nmt_same : (es : List DllError) (p : Passed) (t : DllErrors) (whole : Bool) {r s : Bool} → Exactly r (es ≡ reported t) → Exactly s (p ≡ passed_of whole) → Exactly (r && s) (nmt_answer es p ≡ nmt_stated t whole)
-nmt_same es p t whole x y =
-    exact_by (exact_and x y) (λ h. λ i. nmt_answer (h.0 i) (h.1 i)) (λ h. (cc, cc))
-
-pub nmt_refused : (n : ℕ) (t : DllErrors) (whole : Bool) → Exactly false (refused n ≡ nmt_stated t whole)
-nmt_refused n t whole = never (λ e. clash (cc))
+-- the answers, compared by `==`
+pub nmt_same :
+    (a : Result NmtTaken Refusal) (es : DllErrors) (s : ResetSequence) (whole : Bool) (ne : Refusal → Refusal → Bool) (r : Bool) →
+    passed s ≡ passed_of whole →
+    r ≡ result_eq ((a-taken.ghosts).eq) ne a (Ok (record { errors = es; reset = s })) →
+    Exactly r (nmt_said a ≡ nmt_stated es whole)
+nmt_same (Ok t) es s whole ne r p e =
+    exact_is e
+    (exact_by (exact_and (exact_reported t.errors es _ refl) (exact_passed t.reset s)) (λ h. λ i. nmt_answer (h.0 i) ((h.1 ∙ p) i))
+    (λ h. let q : passed t.reset ≡ passed_of whole = cc in (cc, q ∙ sym p)))
+nmt_same (Err n) es s whole ne r p e = exact_is e (never (λ h. clash (cc)))
 
 -- of a DLL event and of a tick, compared by `==`
 pub dll_same :

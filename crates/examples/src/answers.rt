@@ -1,74 +1,38 @@
 // Whether a call answered what is stated.
 ghost use Rattle.std.specs.Prelude.{◌≡◌};
-ghost use Rattle.nmt.specs.Resets.{entered_states, restored_ranges, passed};
+ghost use Rattle.nmt.specs.Resets.{passed};
 ghost use Rattle.node.specs.Plain.{taken};
 ghost use Rattle.node.specs.InPlace.{said, nmt_said, dll_said, error_said};
 ghost use Rattle.tick.specs.TickIn.{tick_said};
 ghost use Rattle.examples.specs.Same.{Exactly};
 ghost use Rattle.examples.specs.Said.{passed_of, nmt_stated, dll_stated, replied_of, error_stated, tick_stated};
 
-use nmt::state_machine::{EnteredStates, IndexRange, ResetSequence, RestoredRanges};
+use nmt::state_machine::ResetSequence;
 use node::calls::{ErrorTaken, NmtTaken};
 use types::frame::error::types::{DllError, DllErrors, NmtAction};
-use types::nmt::states::NmtState;
 use types::refusals::Refusal;
 
-// The five states of a whole reset, or none. No `==`: what is stated is a list, and each case of the match is one length of it.
-fn entered_are(entered: EnteredStates, whole: bool) -> bool
-    ensures { Exactly result (entered_states entered ≡ (passed_of whole).states) }
+// What a whole reset passes, or no reset.
+fn passes(whole: bool) -> ResetSequence
+    ensures { passed result ≡ passed_of whole }
 {
-    match entered {
-        EnteredStates::None => !whole,
-        EnteredStates::Two(_, _) => false,
-        EnteredStates::Three(_, _, _) => false,
-        EnteredStates::Four(_, _, _, _) => false,
-        EnteredStates::Five(a, b, c, d, e) => {
-            whole
-                & (a == NmtState::NmtGsInitialising)
-                & (b == NmtState::NmtGsResetApplication)
-                & (c == NmtState::NmtGsResetCommunication)
-                & (d == NmtState::NmtGsResetConfiguration)
-                & (e == NmtState::NmtNotActive)
-        }
+    if whole {
+        ResetSequence::Whole
+    } else {
+        ResetSequence::None
     }
-}
-
-// The three ranges of a whole reset, or none. A match for the same reason.
-fn restored_are(restored: RestoredRanges, whole: bool) -> bool
-    ensures { Exactly result (restored_ranges restored ≡ (passed_of whole).ranges) }
-{
-    match restored {
-        RestoredRanges::None => !whole,
-        RestoredRanges::One(_) => false,
-        RestoredRanges::Three(a, b, c) => {
-            whole
-                & is_range(a, 0x2000, 0x5FFF)
-                & is_range(b, 0x6000, 0x9FFF)
-                & is_range(c, 0x1000, 0x1FFF)
-        }
-    }
-}
-
-fn is_range(range: IndexRange, first: u16, last: u16) -> bool
-    ensures { Exactly result (range ≡ record { first = first; last = last }) }
-{
-    range == IndexRange { first, last }
-}
-
-fn passes(reset: ResetSequence, whole: bool) -> bool
-    ensures { Exactly result (passed reset ≡ passed_of whole) }
-{
-    entered_are(reset.entered, whole) & restored_are(reset.restored, whole)
 }
 
 // A whole reset, or none.
 pub fn nmt_says(answer: Result<NmtTaken, Refusal>, stated: DllErrors, whole: bool) -> bool
     ensures { Exactly result (nmt_said answer ≡ nmt_stated stated whole) }
 {
-    match answer {
-        Ok(taken) => (taken.errors == stated) & passes(taken.reset, whole),
-        Err(_) => false,
-    }
+    let reset = passes(whole);
+    answer
+        == Ok(NmtTaken {
+            errors: stated,
+            reset,
+        })
 }
 
 // Of a DLL event and of a tick.

@@ -4,51 +4,30 @@ use mathlib.Core.Path.{◌≡◌, refl, sym, ap, ◌∙◌}
 use mathlib.Core.List.{List, [], ◌∷◌}
 use Rattle.types.specs.declared.nmt.states.NmtState.{NmtState}
 use Rattle.types.proofs.Reported.{reported_fixes}
-use Rattle.nmt.specs.Resets.{Passed, entered_states, restored_ranges, passed}
+use Rattle.nmt.specs.Resets.{Passed, entered_states, passed}
 use Rattle.nmt.specs.Nmt.{Outcome, outcome}
-use Rattle.nmt.specs.declared.state_machine.IndexRange.{IndexRange}
-use Rattle.nmt.specs.declared.state_machine.EnteredStates.{EnteredStates}
-use Rattle.nmt.specs.declared.state_machine.EnteredStates.TheVariants as entered
-use Rattle.nmt.specs.declared.state_machine.RestoredRanges.{RestoredRanges}
-use Rattle.nmt.specs.declared.state_machine.RestoredRanges.TheVariants as restored
 use Rattle.nmt.specs.declared.state_machine.ResetSequence.{ResetSequence}
+use Rattle.nmt.specs.declared.state_machine.ResetSequence.TheVariants as sequence
 use Rattle.nmt.specs.declared.cn_state_machine.NmtAnswer.{NmtAnswer}
 
-abbrev of_states : List NmtState → EnteredStates
-of_states [] = entered.None
-of_states (a ∷ []) = entered.None
-of_states (a ∷ b ∷ []) = entered.Two a b
-of_states (a ∷ b ∷ c ∷ []) = entered.Three a b c
-of_states (a ∷ b ∷ c ∷ d ∷ []) = entered.Four a b c d
-of_states (a ∷ b ∷ c ∷ d ∷ e ∷ rest) = entered.Five a b c d e
+-- the sequence with so many states
+abbrev with_states : List NmtState → ResetSequence
+with_states [] = sequence.None
+with_states (a ∷ []) = sequence.None
+with_states (a ∷ b ∷ []) = sequence.Configuration
+with_states (a ∷ b ∷ c ∷ []) = sequence.Communication
+with_states (a ∷ b ∷ c ∷ d ∷ []) = sequence.Node
+with_states (a ∷ b ∷ c ∷ d ∷ e ∷ rest) = sequence.Whole
 
-states_back : (x : EnteredStates) → of_states (entered_states x) ≡ x
-states_back entered.None = refl
-states_back (entered.Two a b) = refl
-states_back (entered.Three a b c) = refl
-states_back (entered.Four a b c d) = refl
-states_back (entered.Five a b c d e) = refl
-
-abbrev of_ranges : List IndexRange → RestoredRanges
-of_ranges [] = restored.None
-of_ranges (a ∷ []) = restored.One a
-of_ranges (a ∷ b ∷ []) = restored.None
-of_ranges (a ∷ b ∷ c ∷ rest) = restored.Three a b c
-
-ranges_back : (x : RestoredRanges) → of_ranges (restored_ranges x) ≡ x
-ranges_back restored.None = refl
-ranges_back (restored.One a) = refl
-ranges_back (restored.Three a b c) = refl
+back : (r : ResetSequence) → with_states (entered_states r) ≡ r
+back sequence.None = refl
+back sequence.Whole = refl
+back sequence.Node = refl
+back sequence.Communication = refl
+back sequence.Configuration = refl
 
 pub passed_fixes : (a b : ResetSequence) → passed a ≡ passed b → a ≡ b
-passed_fixes a b e =
-    let s : a.entered ≡ b.entered =
-    sym (states_back a.entered) ∙ ap (λ (p : Passed). of_states p.states) e ∙ states_back b.entered
-    in
-    let r : a.restored ≡ b.restored =
-    sym (ranges_back a.restored) ∙ ap (λ (p : Passed). of_ranges p.ranges) e ∙ ranges_back b.restored
-    in
-    λ i. record { entered = s i; restored = r i }
+passed_fixes a b e = sym (back a) ∙ ap (λ (p : Passed). with_states p.states) e ∙ back b
 
 pub outcome_fixes : (a b : NmtAnswer) → outcome a ≡ outcome b → a ≡ b
 outcome_fixes a b e =

@@ -9,11 +9,8 @@ use Rattle.types.specs.declared.nmt.events.NmtEvent.TheVariants.{Reset, SwReset,
 use Rattle.types.specs.declared.nmt.states.NmtState.{NmtState}
 use Rattle.types.specs.declared.nmt.states.NmtState.TheVariants.{NmtGsInitialising, NmtGsResetApplication, NmtGsResetCommunication, NmtGsResetConfiguration, NmtNotActive}
 use Rattle.nmt.specs.declared.state_machine.IndexRange.{IndexRange}
-use Rattle.nmt.specs.declared.state_machine.EnteredStates.{EnteredStates}
-use Rattle.nmt.specs.declared.state_machine.EnteredStates.TheVariants as entered
-use Rattle.nmt.specs.declared.state_machine.RestoredRanges.{RestoredRanges}
-use Rattle.nmt.specs.declared.state_machine.RestoredRanges.TheVariants as restored
 use Rattle.nmt.specs.declared.state_machine.ResetSequence.{ResetSequence}
+use Rattle.nmt.specs.declared.state_machine.ResetSequence.TheVariants as sequence
 
 -- the states of a whole reset: 0x19, 0x29, 0x39, 0x79, and NMT_CT1 to 0x1C
 abbrev pub reset_states : List NmtState
@@ -79,18 +76,16 @@ pub record Passed : Type 0 where
 unfoldable pub reset_sequence : NmtEvent → Passed
 reset_sequence e = record { states = states_entered e; ranges = ranges_restored (states_entered e) }
 
--- what a `ResetSequence` says
-abbrev pub entered_states : EnteredStates → List NmtState
-entered_states entered.None = []
-entered_states (entered.Two a b) = a ∷ b ∷ []
-entered_states (entered.Three a b c) = a ∷ b ∷ c ∷ []
-entered_states (entered.Four a b c d) = a ∷ b ∷ c ∷ d ∷ []
-entered_states (entered.Five a b c d e) = a ∷ b ∷ c ∷ d ∷ e ∷ []
+-- what a `ResetSequence` says: the states from its first one on, and the ranges that they restore
+abbrev pub entered_states : ResetSequence → List NmtState
+entered_states sequence.None = []
+entered_states sequence.Whole = reset_states
+entered_states sequence.Node = from NmtGsResetApplication reset_states
+entered_states sequence.Communication = from NmtGsResetCommunication reset_states
+entered_states sequence.Configuration = from NmtGsResetConfiguration reset_states
 
-abbrev pub restored_ranges : RestoredRanges → List IndexRange
-restored_ranges restored.None = []
-restored_ranges (restored.One a) = a ∷ []
-restored_ranges (restored.Three a b c) = a ∷ b ∷ c ∷ []
+abbrev pub restored_ranges : ResetSequence → List IndexRange
+restored_ranges r = ranges_restored (entered_states r)
 
 abbrev pub passed : ResetSequence → Passed
-passed r = record { states = entered_states r.entered; ranges = restored_ranges r.restored }
+passed r = record { states = entered_states r; ranges = restored_ranges r }

@@ -2,18 +2,24 @@
 ghost use Rattle.std.specs.Prelude.{◌≡◌};
 ghost use Rattle.types.specs.Errors.{reported};
 ghost use Rattle.nmt.specs.Resets.{passed, reset_sequence};
-ghost use Rattle.nmt.specs.Nmt.{new_machine, outcome, processed};
+ghost use Rattle.nmt.specs.Nmt.{new_machine, outcome, processed, with};
 ghost use Rattle.nmt.specs.Table.{reports};
 
-use crate::state_machine::{
-    EnteredStates, ResetSequence, RestoredRanges, is_reset, reset_sequence,
-};
+use crate::state_machine::{ResetSequence, reset_sequence};
 use crate::table::chosen;
 use types::frame::error::types::{DllError, DllErrors};
 use types::nmt::events::NmtEvent;
 use types::nmt::flags::FeatureFlags;
 use types::nmt::states::NmtState;
 use types::types::NodeId;
+
+// All of a machine that an event goes by and changes.
+#[derive(Clone, Copy, PartialEq, Eq)]
+pub struct Position {
+    pub state: NmtState,
+    pub enabled: bool,
+    pub ready: bool,
+}
 
 #[derive(Clone, Copy, PartialEq, Eq)]
 pub struct CnNmtStateMachine {
@@ -46,20 +52,6 @@ fn reported_of(unexpected: bool, state: NmtState, event: NmtEvent) -> DllErrors
     DllErrors::None
 }
 
-// What a reset passes. Most events are none, and for them nothing is looked up.
-#[tactic(auto, using(crate::proofs::Laws::plain_passes))]
-fn reset_of(event: NmtEvent) -> ResetSequence
-    ensures { passed result ≡ reset_sequence event }
-{
-    if is_reset(event) {
-        return reset_sequence(event);
-    }
-    ResetSequence {
-        entered: EnteredStates::None,
-        restored: RestoredRanges::None,
-    }
-}
-
 impl CnNmtStateMachine {
     pub fn new(node_id: NodeId, feature_flags: FeatureFlags, basic_ethernet_timeout: u32) -> Self
         ensures { result ≡ new_machine node_id feature_flags basic_ethernet_timeout }
@@ -74,6 +66,18 @@ impl CnNmtStateMachine {
         }
     }
 
+    // The same machine in a position.
+    pub fn at(self, position: Position) -> Self
+        ensures { result ≡ with self position.state position.enabled position.ready }
+    {
+        Self {
+            current_state: position.state,
+            ready_to_operate_enabled: position.enabled,
+            app_ready: position.ready,
+            ..self
+        }
+    }
+
     // State, enabled and ready as the table has them, and what the pair reports; a reset, with its states and ranges, is told by the
     // event alone.
     pub fn process_event(self, event: NmtEvent) -> NmtAnswer
@@ -81,16 +85,15 @@ impl CnNmtStateMachine {
     {
         let state = self.current_state;
         let entry = chosen(state, event, self.ready_to_operate_enabled, self.app_ready);
-        let next = entry.state;
         let errors = reported_of(entry.unexpected, state, event);
-        let reset = reset_of(event);
+        let reset = reset_sequence(event);
+        let position = Position {
+            state: entry.state,
+            enabled: entry.enabled,
+            ready: entry.ready,
+        };
         NmtAnswer {
-            machine: CnNmtStateMachine {
-                current_state: next,
-                ready_to_operate_enabled: entry.enabled,
-                app_ready: entry.ready,
-                ..self
-            },
+            machine: self.at(position),
             errors,
             reset,
         }

@@ -1,19 +1,9 @@
 // What a controlled node shares with a managing node: the sequence of a reset.
 ghost use Rattle.std.specs.Prelude.{◌≡◌};
-ghost use Rattle.nmt.specs.Resets.{is_reset, passed, reset_sequence};
+ghost use Rattle.nmt.specs.Resets.{is_reset, entered_states, restored_ranges, passed, reset_sequence};
 
 use types::nmt::events::NmtEvent;
 use types::nmt::states::NmtState;
-
-// The states that an event enters on its way to NotActive, in order.
-#[derive(Clone, Copy, PartialEq, Eq)]
-pub enum EnteredStates {
-    None,
-    Two(NmtState, NmtState),
-    Three(NmtState, NmtState, NmtState),
-    Four(NmtState, NmtState, NmtState, NmtState),
-    Five(NmtState, NmtState, NmtState, NmtState, NmtState),
-}
 
 // Indexes of the object dictionary, both included.
 #[derive(Clone, Copy, PartialEq, Eq)]
@@ -22,18 +12,65 @@ pub struct IndexRange {
     pub last: u16,
 }
 
-// The index ranges to restore to their power-on values, in order.
+// What an event passes on its way to NotActive, by where its reset begins.
 #[derive(Clone, Copy, PartialEq, Eq)]
-pub enum RestoredRanges {
+pub enum ResetSequence {
+    // The event is no reset.
     None,
-    One(IndexRange),
-    Three(IndexRange, IndexRange, IndexRange),
+    Whole,
+    Node,
+    Communication,
+    Configuration,
 }
 
-#[derive(Clone, Copy, PartialEq, Eq)]
-pub struct ResetSequence {
-    pub entered: EnteredStates,
-    pub restored: RestoredRanges,
+// The states and the ranges of a whole reset, in order; every other reset passes the last of them.
+static STATES: [NmtState; 5] = [
+    NmtState::NmtGsInitialising,
+    NmtState::NmtGsResetApplication,
+    NmtState::NmtGsResetCommunication,
+    NmtState::NmtGsResetConfiguration,
+    NmtState::NmtNotActive,
+];
+
+static RANGES: [IndexRange; 3] = [
+    IndexRange {
+        first: 0x2000,
+        last: 0x5FFF,
+    },
+    IndexRange {
+        first: 0x6000,
+        last: 0x9FFF,
+    },
+    IndexRange {
+        first: 0x1000,
+        last: 0x1FFF,
+    },
+];
+
+impl ResetSequence {
+    // The states that are entered, in order.
+    pub fn entered(self) -> &'static [NmtState]
+        ensures { result.now ≡ entered_states self }
+    {
+        match self {
+            ResetSequence::None => &[],
+            ResetSequence::Whole => &STATES,
+            ResetSequence::Node => &STATES[1..],
+            ResetSequence::Communication => &STATES[2..],
+            ResetSequence::Configuration => &STATES[3..],
+        }
+    }
+
+    // The index ranges to restore to their power-on values, in order.
+    pub fn restored(self) -> &'static [IndexRange]
+        ensures { result.now ≡ restored_ranges self }
+    {
+        match self {
+            ResetSequence::Whole | ResetSequence::Node => &RANGES,
+            ResetSequence::Communication => &RANGES[2..],
+            ResetSequence::Configuration | ResetSequence::None => &[],
+        }
+    }
 }
 
 #[tactic(auto, unfolding(crate::specs::Resets::is_reset))]
@@ -50,61 +87,16 @@ pub fn is_reset(event: NmtEvent) -> bool
     )
 }
 
-const MANUFACTURER: IndexRange = IndexRange {
-    first: 0x2000,
-    last: 0x5FFF,
-};
-
-const PROFILE: IndexRange = IndexRange {
-    first: 0x6000,
-    last: 0x9FFF,
-};
-
-const COMMUNICATION: IndexRange = IndexRange {
-    first: 0x1000,
-    last: 0x1FFF,
-};
-
 // Nothing of an event that is no reset.
 #[tactic(auto, unfolding(crate::specs::Resets::reset_sequence, crate::specs::Resets::states_entered))]
 pub fn reset_sequence(event: NmtEvent) -> ResetSequence
     ensures { passed result ≡ reset_sequence event }
 {
     match event {
-        NmtEvent::Reset | NmtEvent::SwReset => ResetSequence {
-            entered: EnteredStates::Five(
-                NmtState::NmtGsInitialising,
-                NmtState::NmtGsResetApplication,
-                NmtState::NmtGsResetCommunication,
-                NmtState::NmtGsResetConfiguration,
-                NmtState::NmtNotActive,
-            ),
-            restored: RestoredRanges::Three(MANUFACTURER, PROFILE, COMMUNICATION),
-        },
-        NmtEvent::ResetNode => ResetSequence {
-            entered: EnteredStates::Four(
-                NmtState::NmtGsResetApplication,
-                NmtState::NmtGsResetCommunication,
-                NmtState::NmtGsResetConfiguration,
-                NmtState::NmtNotActive,
-            ),
-            restored: RestoredRanges::Three(MANUFACTURER, PROFILE, COMMUNICATION),
-        },
-        NmtEvent::ResetCommunication => ResetSequence {
-            entered: EnteredStates::Three(
-                NmtState::NmtGsResetCommunication,
-                NmtState::NmtGsResetConfiguration,
-                NmtState::NmtNotActive,
-            ),
-            restored: RestoredRanges::One(COMMUNICATION),
-        },
-        NmtEvent::ResetConfiguration => ResetSequence {
-            entered: EnteredStates::Two(NmtState::NmtGsResetConfiguration, NmtState::NmtNotActive),
-            restored: RestoredRanges::None,
-        },
-        _ => ResetSequence {
-            entered: EnteredStates::None,
-            restored: RestoredRanges::None,
-        },
+        NmtEvent::Reset | NmtEvent::SwReset => ResetSequence::Whole,
+        NmtEvent::ResetNode => ResetSequence::Node,
+        NmtEvent::ResetCommunication => ResetSequence::Communication,
+        NmtEvent::ResetConfiguration => ResetSequence::Configuration,
+        _ => ResetSequence::None,
     }
 }

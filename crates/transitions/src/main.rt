@@ -9,8 +9,8 @@ use dll::cs_state_machine::{DllCsState, DllCsStateMachine};
 use forms::errors::ErrorsForm;
 use forms::hex::HexByte;
 use forms::output::Output;
-use nmt::cn_state_machine::CnNmtStateMachine;
-use nmt::state_machine::{EnteredStates, IndexRange, ResetSequence, RestoredRanges, is_reset};
+use nmt::cn_state_machine::{CnNmtStateMachine, Position};
+use nmt::state_machine::{IndexRange, ResetSequence, is_reset};
 use std::io;
 use types::frame::cs_state_machine::DllCsEvent;
 use types::nmt::events::NmtEvent;
@@ -18,43 +18,23 @@ use types::nmt::flags::FeatureFlags;
 use types::nmt::states::NmtState;
 use types::types::NodeId;
 
-fn say_all(out: &mut Output, states: &[NmtState]) {
+fn say_states(out: &mut Output, states: &[NmtState]) {
     for state in states {
         write!(out, " {}", HexByte(state.as_u8()));
     }
 }
 
-fn say_states(out: &mut Output, entered: EnteredStates) {
-    match entered {
-        EnteredStates::None => {}
-        EnteredStates::Two(a, b) => say_all(out, &[a, b]),
-        EnteredStates::Three(a, b, c) => say_all(out, &[a, b, c]),
-        EnteredStates::Four(a, b, c, d) => say_all(out, &[a, b, c, d]),
-        EnteredStates::Five(a, b, c, d, e) => say_all(out, &[a, b, c, d, e]),
-    }
-}
-
-fn say_range(out: &mut Output, range: IndexRange) {
-    write!(out, " ({:#06X} {:#06X})", range.first, range.last);
-}
-
-fn say_ranges(out: &mut Output, restored: RestoredRanges) {
-    match restored {
-        RestoredRanges::None => {}
-        RestoredRanges::One(a) => say_range(out, a),
-        RestoredRanges::Three(a, b, c) => {
-            say_range(out, a);
-            say_range(out, b);
-            say_range(out, c);
-        }
+fn say_ranges(out: &mut Output, ranges: &[IndexRange]) {
+    for range in ranges {
+        write!(out, " ({:#06X} {:#06X})", range.first, range.last);
     }
 }
 
 fn say_reset(out: &mut Output, reset: ResetSequence) {
     write!(out, "(entered");
-    say_states(out, reset.entered);
+    say_states(out, reset.entered());
     write!(out, ") (restore");
-    say_ranges(out, reset.restored);
+    say_ranges(out, reset.restored());
     write!(out, ")");
 }
 
@@ -84,18 +64,10 @@ fn print_nmt_event(out: &mut Output, machine: CnNmtStateMachine, event: NmtEvent
     writeln!(out, ")");
 }
 
-// Written out, as in chart and examples: each program has numbers of its own.
-fn machine_at(state: NmtState, enabled: bool, ready: bool) -> CnNmtStateMachine
-    ensures { result ≡ machine_of state enabled ready }
+fn machine_at(position: Position) -> CnNmtStateMachine
+    ensures { result ≡ machine_of position }
 {
-    CnNmtStateMachine {
-        current_state: state,
-        node_id: NodeId(7),
-        feature_flags: FeatureFlags(5),
-        basic_ethernet_timeout: 5000,
-        ready_to_operate_enabled: enabled,
-        app_ready: ready,
-    }
+    CnNmtStateMachine::new(NodeId(7), FeatureFlags(5), 5000).at(position)
 }
 
 fn print_nmt(out: &mut Output) {
@@ -103,7 +75,12 @@ fn print_nmt(out: &mut Output) {
         for event in NmtEvent::ALL {
             for enabled in [false, true] {
                 for ready in [false, true] {
-                    print_nmt_event(out, machine_at(state, enabled, ready), event);
+                    let position = Position {
+                        state,
+                        enabled,
+                        ready,
+                    };
+                    print_nmt_event(out, machine_at(position), event);
                 }
             }
         }
