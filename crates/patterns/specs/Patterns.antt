@@ -1,54 +1,51 @@
 -- How a line is matched with a pattern: a capital letter stands for a number by its width, any other character for itself.
 -- Assumes nothing.
-use Rattle.std.specs.Prelude.{ℕ, ◌+◌, ◌*◌, ◌-◌, Bool, true, List, [], ◌∷◌, eqb, leb, ltb, length, get_or, set, drop}
+use Rattle.std.specs.Prelude.{ℕ, ◌+◌, ◌*◌, Bool, true, Option, Some, None, List, [], ◌∷◌, eqb, leb, ltb, length, get_or, set, drop}
+use Rattle.std.specs.Option.{option_map_or}
+use Rattle.std.specs.Char.{digit_value}
 use Rattle.types.specs.Pick.{pick, both}
 use Rattle.answers.specs.Numbers.{nothing}
-use Rattle.patterns.specs.declared.Number.{Number}
 
--- the value of a hexadecimal digit: `0` to `9`, `A` to `F`, `a` to `f`; 16 of any other character
-abbrev pub digit_of : ℕ → ℕ
-digit_of c =
-    pick (ltb c 48) 16 (pick (ltb c 58) (c - 48)
-    (pick (ltb c 65) 16 (pick (ltb c 71) (c - 65 + 10)
-    (pick (ltb c 97) 16 (pick (ltb c 103) (c - 97 + 10) 16)))))
+-- the value of a digit of a base, 10 or 16: `0` to `9`, `A` to `F`, `a` to `f`; of any other character there is none
+abbrev pub digit_of : ℕ → ℕ → Option ℕ
+digit_of base c = pick (ltb (digit_value c) base) (Some (digit_value c)) None
 
--- a number, and the place behind it; where none can be read, `unreadable`
-abbrev pub number : ℕ → ℕ → Number
-number n end = record { n = n; end = end }
+-- a number, and the rest of the line behind it; of one that can't be read whole there is no rest
+pub record Number : Type 0 where
+  pub n : ℕ
+  pub rest : Option (List ℕ)
 
-abbrev pub unreadable : ℕ
-unreadable = 18446744073709551615
+abbrev pub number : ℕ → Option (List ℕ) → Number
+number n rest = record { n = n; rest = rest }
 
 -- in place of a value that a load does not name
 abbrev pub kept : ℕ
 kept = 8589934592
 
--- 16 or 10
-abbrev pub radix : ℕ → ℕ
-radix base = pick (eqb base 16) 16 10
+-- the number with a digit behind it, where it fits 64 bits
+abbrev pub grown : ℕ → ℕ → ℕ → Option ℕ
+grown n d base = pick (leb (n * base + d) 18446744073709551615) (Some (n * base + d)) None
 
--- the number with a digit behind it, which ends at a place, where it fits 64 bits
-unfoldable pub grown : ℕ → ℕ → ℕ → ℕ → Number
-grown n d base end = pick (leb (base * n + d) 18446744073709551615) (number (base * n + d) end) (number n unreadable)
+-- a number that was read so far, with the digits that follow; another character ends it
+unfoldable pub digits_from : ℕ → Number → List ℕ → Number
+digits_from base x [] = x
+digits_from base x (c ∷ cs) =
+    option_map_or
+    (λ d. option_map_or (λ n. digits_from base (number n (Some cs)) cs) (grown x.n d base) (number x.n None))
+    (digit_of base c)
+    x
 
--- a number that was read up to a place, with the digits that follow there; another character ends it
-unfoldable pub digits_from : ℕ → Number → ℕ → List ℕ → Number
-digits_from base x at [] = x
-digits_from base x at (c ∷ cs) =
-    let y = grown x.n (digit_of c) (radix base) (at + 1) in
-    pick (leb base (digit_of c)) x (pick (eqb y.end unreadable) y (digits_from base y (at + 1) cs))
+-- of the digits that the line begins with: there has to be one
+abbrev pub digits_at : ℕ → List ℕ → Number
+digits_at base line = digits_from base (number 0 None) line
 
--- of the line, from a place on: there has to be a digit
-abbrev pub digits_at : List ℕ → ℕ → ℕ → Number
-digits_at line from base = digits_from base (number 0 unreadable) from (drop from line)
-
--- `0x` stands at a place
-abbrev pub is_hex : List ℕ → ℕ → Bool
-is_hex line at = both (ltb (at + 1) (length line)) (both (eqb (get_or line (at + 1) 0) 120) (eqb (get_or line at 0) 48))
+-- `0x` stands in front
+abbrev pub is_hex : List ℕ → Bool
+is_hex line = both (ltb 1 (length line)) (both (eqb (get_or line 0 0) 48) (eqb (get_or line 1 0) 120))
 
 -- hexadecimal behind `0x`, or decimal
-abbrev pub number_at : List ℕ → ℕ → Number
-number_at line at = pick (is_hex line at) (digits_at line (at + 2) 16) (digits_at line at 10)
+abbrev pub number_at : List ℕ → Number
+number_at line = pick (is_hex line) (digits_at 16 (drop 2 line)) (digits_at 10 line)
 
 -- how many numbers a character of a pattern stands for: a capital letter, one
 abbrev pub numbers_in : ℕ → ℕ
@@ -69,39 +66,42 @@ largest_of w kind =
     (pick (eqb w 88) (byte_or_any (carries_byte kind)) (pick (eqb w 89) (byte_or_any (eqb kind 18)) 18446744073709551615))))))))
 
 -- `-` stands for an object's value
-abbrev pub is_missing : List ℕ → ℕ → ℕ → Bool
-is_missing line at w = both (eqb w 79) (eqb (get_or line at 0) 45)
+abbrev pub is_missing : ℕ → ℕ → Bool
+is_missing c w = both (eqb w 79) (eqb c 45)
 
--- the place behind what was matched, or `unreadable`, and the numbers given then
+-- the rest of the line behind what was matched, none where it does not match, and the numbers given then
 pub record Matched : Type 0 where
-  pub end : ℕ
+  pub rest : Option (List ℕ)
   pub given : List ℕ
 
-abbrev pub matched : ℕ → List ℕ → Matched
-matched e g = record { end = e; given = g }
+abbrev pub matched : Option (List ℕ) → List ℕ → Matched
+matched rest g = record { rest = rest; given = g }
 
 -- a number that fits its width becomes the one at a place
 abbrev pub taken : Number → ℕ → List ℕ → ℕ → Matched
-taken x most g place = pick (ltb most x.n) (matched unreadable g) (matched x.end (set g place x.n))
+taken x most g place = pick (ltb most x.n) (matched None g) (matched x.rest (set g place x.n))
 
-unfoldable pub read_number : List ℕ → ℕ → ℕ → List ℕ → ℕ → Matched
-read_number line at w g place =
-    pick (leb (length line) at) (matched unreadable g)
-    (pick (ltb 17 place) (matched unreadable g)
-    (pick (is_missing line at w) (matched (at + 1) (set g place nothing)) (taken (number_at line at) (largest_of w (get_or g 0 0)) g place)))
+unfoldable pub read_number : List ℕ → ℕ → List ℕ → ℕ → Matched
+read_number [] w g place = matched None g
+read_number (c ∷ cs) w g place =
+    pick (ltb 17 place) (matched None g)
+    (pick (is_missing c w) (matched (Some cs) (set g place nothing)) (taken (number_at (c ∷ cs)) (largest_of w (get_or g 0 0)) g place))
+
+-- behind a character, where the line begins with it
+abbrev pub behind : ℕ → List ℕ → Option (List ℕ)
+behind c [] = None
+behind c (first ∷ rest) = pick (eqb first c) (Some rest) None
 
 -- one character of a pattern
-unfoldable pub match_one : ℕ → List ℕ → ℕ → List ℕ → ℕ → Matched
-match_one c line at g place =
-    pick (eqb (numbers_in c) 1) (read_number line at c g place)
-    (pick (leb (length line) at) (matched unreadable g) (pick (eqb (get_or line at 0) c) (matched (at + 1) g) (matched unreadable g)))
+unfoldable pub match_one : ℕ → List ℕ → List ℕ → ℕ → Matched
+match_one c line g place = pick (eqb (numbers_in c) 1) (read_number line c g place) (matched (behind c line) g)
 
 -- the characters of a pattern one behind another, each number in the next place
-unfoldable pub match_from : List ℕ → List ℕ → ℕ → List ℕ → ℕ → Matched
-match_from [] line at g place = matched at g
-match_from (c ∷ cs) line at g place =
-    let m = match_one c line at g place in pick (eqb m.end unreadable) m (match_from cs line m.end m.given (place + numbers_in c))
+unfoldable pub match_from : List ℕ → List ℕ → List ℕ → ℕ → Matched
+match_from [] line g place = matched (Some line) g
+match_from (c ∷ cs) line g place =
+    let m = match_one c line g place in option_map_or (λ rest. match_from cs rest m.given (place + numbers_in c)) m.rest m
 
 -- there are 18 places
-abbrev pub match_at : List ℕ → List ℕ → ℕ → List ℕ → ℕ → Matched
-match_at pattern line from g first = pick (ltb 17 first) (matched unreadable g) (match_from pattern line from g first)
+abbrev pub match_at : List ℕ → List ℕ → List ℕ → ℕ → Matched
+match_at pattern line g first = pick (ltb 17 first) (matched None g) (match_from pattern line g first)

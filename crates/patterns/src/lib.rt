@@ -1,9 +1,9 @@
 // Matching a line with a pattern. In a pattern a capital letter stands for a number by its width, and any other character for
-// itself. The place behind what was matched is UNREADABLE where it does not match, and so is every place from there on.
+// itself. What matches answers the rest of the line, behind it; what does not, None.
 #![tactic(auto)]
 
-ghost use Rattle.std.specs.Prelude.{◌≡◌, ◌≤◌, ◌<◌, length, MatchOption};
-ghost use Rattle.patterns.specs.Patterns.{digit_of, radix, grown, digits_at, is_hex, number_at, numbers_in, carries_byte, byte_or_any, largest_of, is_missing, matched, read_number, match_one, match_at};
+ghost use Rattle.std.specs.Prelude.{◌≡◌, ◌≤◌, ◌<◌, option_copied};
+ghost use Rattle.patterns.specs.Patterns.{grown, number, digits_at, number_at, numbers_in, carries_byte, byte_or_any, largest_of, is_missing, matched, read_number, match_one, match_at};
 
 use answers::NOTHING;
 
@@ -11,87 +11,59 @@ use answers::NOTHING;
 // history have.
 pub type Given = [u64; 18];
 
-pub const UNREADABLE: usize = usize::MAX;
-
 // In place of a value that a load does not name, and of the number of bytes where it names no history.
 pub const KEPT: u64 = 8589934592;
 
-// A number and the place behind its digits. No Option: what was read of a number that can't be read whole is given too.
+// A number and the rest of the line behind its digits. Of one that can't be read whole there is no rest, and the number is what was read of it.
 #[derive(Clone, Copy)]
-struct Number {
+struct Number<'a> {
     n: u64,
-    end: usize,
+    rest: Option<&'a [u8]>,
 }
 
-// The value of a hexadecimal digit of either case.
-pub fn digit_of(c: u8) -> Option<u8>
-    ensures { MatchOption result (15 < digit_of c) (λ d. (d ≡ digit_of c) × (d ≤ 15)) }
-{
-    match c {
-        b'0'..=b'9' => Some(c - b'0'),
-        b'A'..=b'F' => Some(c - b'A' + 10),
-        b'a'..=b'f' => Some(c - b'a' + 10),
-        _ => None,
-    }
-}
-
-// A number with a digit behind it, which ends at a place, where it fits 64 bits.
-#[tactic(auto, unfolding(crate::specs::Patterns::grown))]
-fn grown(n: u64, digit: u8, base: u8, end: usize) -> Number
+// The number with a digit behind it, where it fits 64 bits.
+fn grown(n: u64, digit: u32, base: u32) -> Option<u64>
     requires { digit ≤ 15 }
-    ensures { result ≡ grown n digit (radix base) end }
+    ensures { result ≡ grown n digit base }
 {
-    let radix = if base == 16 { 16 } else { 10 };
-    let Some(shifted) = n.checked_mul(radix) else {
-        return Number { n, end: UNREADABLE };
-    };
-    match shifted.checked_add(u64::from(digit)) {
-        Some(grown) => Number { n: grown, end },
-        None => Number { n, end: UNREADABLE },
-    }
+    n.checked_mul(u64::from(base))?
+        .checked_add(u64::from(digit))
 }
 
-// The number whose digits stand from a place on, up to another character; there has to be one.
-fn digits(line: &[u8], from: usize, base: u8) -> Number
-    requires { base ≤ 16 }
-    ensures { result ≡ digits_at line.now from base }
+// The number whose digits the line begins with, up to another character; there has to be one.
+#[tactic(auto, unfolding(crate::specs::Patterns::digits_from))]
+fn digits(line: &[u8], base: u32) -> Number<'_>
+    requires { (2 ≤ base) × (base ≤ 16) }
+    ensures { number result.n (option_copied result.rest) ≡ digits_at base line.now }
 {
-    let mut number = Number {
-        n: 0,
-        end: UNREADABLE,
-    };
-    for at in from..line.len() {
-        let Some(digit) = digit_of(line[at]) else {
-            return number;
+    let mut number = Number { n: 0, rest: None };
+    let mut left = line;
+    while let [c, rest @ ..] = left
+        && let Some(digit) = char::from(*c).to_digit(base)
+    {
+        let Some(n) = grown(number.n, digit, base) else {
+            return Number {
+                rest: None,
+                ..number
+            };
         };
-        if base <= digit {
-            return number;
-        }
-        number = grown(number.n, digit, base, at + 1);
-        if number.end == UNREADABLE {
-            return number;
-        }
+        number = Number {
+            n,
+            rest: Some(rest),
+        };
+        left = rest;
     }
     number
 }
 
-// Whether 0x stands at a place.
-fn is_hex(line: &[u8], at: usize) -> bool
-    requires { at < length line.now }
-    ensures { result ≡ is_hex line.now at }
+// The number that the line begins with: hexadecimal behind 0x, or decimal.
+fn number_at(line: &[u8]) -> Number<'_>
+    ensures { number result.n (option_copied result.rest) ≡ number_at line.now }
 {
-    at + 1 < line.len() && line[at + 1] == b'x' && line[at] == b'0'
-}
-
-// The number at a place: hexadecimal behind 0x, or decimal.
-fn number_at(line: &[u8], at: usize) -> Number
-    requires { at < length line.now }
-    ensures { result ≡ number_at line.now at }
-{
-    if is_hex(line, at) {
-        return digits(line, at + 2, 16);
+    match line {
+        [b'0', b'x', rest @ ..] => digits(rest, 16),
+        _ => digits(line, 10),
     }
-    digits(line, at, 10)
 }
 
 // Whether an error of a kind carries a node or a state: a byte.
@@ -127,34 +99,34 @@ fn byte_or_any(byte: bool) -> u64
     if byte { 255 } else { u64::MAX }
 }
 
-// Whether a missing value stands at a place.
-fn is_missing(line: &[u8], at: usize, width: u8) -> bool
-    requires { at < length line.now }
-    ensures { result ≡ is_missing line.now at width }
+// Whether a character stands for a missing value of a width.
+fn is_missing(c: u8, width: u8) -> bool
+    ensures { result ≡ is_missing c width }
 {
-    width == b'O' && line[at] == b'-'
+    width == b'O' && c == b'-'
 }
 
-// Reads the number at a place, which becomes the given one at `place`; that of an object may be `-`, missing.
-fn read_number(line: &[u8], at: usize, width: u8, given: &mut Given, place: usize) -> usize
-    ensures { matched result given.new ≡ read_number line.now at width given.old place }
+// Reads the number that the line begins with, which becomes the given one at `place`; that of an object may be `-`, missing.
+#[tactic(auto, unfolding(crate::specs::Patterns::read_number))]
+fn read_number<'a>(line: &'a [u8], width: u8, given: &mut Given, place: usize) -> Option<&'a [u8]>
+    ensures { matched (option_copied result) given.new ≡ read_number line.now width given.old place }
 {
-    if line.len() <= at {
-        return UNREADABLE;
-    }
+    let [c, rest @ ..] = line else {
+        return None;
+    };
     if 17 < place {
-        return UNREADABLE;
+        return None;
     }
-    if is_missing(line, at, width) {
+    if is_missing(*c, width) {
         given[place] = NOTHING;
-        return at + 1;
+        return Some(rest);
     }
-    let number = number_at(line, at);
+    let number = number_at(line);
     if largest(width, given[0]) < number.n {
-        return UNREADABLE;
+        return None;
     }
     given[place] = number.n;
-    number.end
+    number.rest
 }
 
 // How many numbers a character of a pattern stands for.
@@ -165,36 +137,37 @@ fn numbers_in(c: u8) -> usize
 }
 
 // Matches one character of a pattern.
-fn match_one(c: u8, line: &[u8], at: usize, given: &mut Given, place: usize) -> usize
-    ensures { matched result given.new ≡ match_one c line.now at given.old place }
+#[tactic(auto, unfolding(crate::specs::Patterns::match_one))]
+fn match_one<'a>(c: u8, line: &'a [u8], given: &mut Given, place: usize) -> Option<&'a [u8]>
+    ensures { matched (option_copied result) given.new ≡ match_one c line.now given.old place }
 {
     if numbers_in(c) == 1 {
-        return read_number(line, at, c, given, place);
+        return read_number(line, c, given, place);
     }
-    if line.len() <= at {
-        return UNREADABLE;
+    match line {
+        [first, rest @ ..] if *first == c => Some(rest),
+        _ => None,
     }
-    if line[at] != c {
-        return UNREADABLE;
-    }
-    at + 1
 }
 
-// Matches the line from a place on; its numbers become those given from `first` on.
-pub fn match_at(pattern: &[u8], line: &[u8], from: usize, given: &mut Given, first: usize) -> usize
-    ensures { matched result given.new ≡ match_at pattern.now line.now from given.old first }
+// Matches what the line begins with; its numbers become those given from `first` on.
+#[tactic(auto, unfolding(crate::specs::Patterns::match_from))]
+pub fn match_at<'a>(
+    pattern: &[u8],
+    line: &'a [u8],
+    given: &mut Given,
+    first: usize,
+) -> Option<&'a [u8]>
+    ensures { matched (option_copied result) given.new ≡ match_at pattern.now line.now given.old first }
 {
     if 17 < first {
-        return UNREADABLE;
+        return None;
     }
-    let mut at = from;
+    let mut rest = line;
     let mut place = first;
-    for c in pattern {
-        at = match_one(*c, line, at, given, place);
-        if at == UNREADABLE {
-            return at;
-        }
-        place += numbers_in(*c);
+    for &c in pattern {
+        rest = match_one(c, rest, given, place)?;
+        place += numbers_in(c);
     }
-    at
+    Some(rest)
 }

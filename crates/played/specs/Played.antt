@@ -1,6 +1,6 @@
 -- What a line of a call script does on a head, by its key: the call, with the run that the session lends; and what the session is then.
 -- Assumes nothing.
-use Rattle.std.specs.Prelude.{ℕ, min, ◌≡◌, Bool, true, false, List, [], ◌∷◌, ◌++◌, eqb, take, drop}
+use Rattle.std.specs.Prelude.{ℕ, ◌≡◌, Bool, true, false, List, [], ◌∷◌, eqb}
 use types.Run.{OneOf}
 use Rattle.types.specs.Pick.{pick}
 use Rattle.entries.specs.Desk.{write_reply, desk_after}
@@ -33,16 +33,12 @@ pub record Changes (s : Session) (adds : Bool) (g ws vs : List ℕ) (s' : Sessio
   pub made : (q m : List ℕ) → Makes ws q m (change_call adds g (lent_run s vs)) ns ws' q m (run (nodes_of vs') watched)
   pub session : s' ≡ numbered_by s (at ns 0) watched
 
-abbrev pub desk : List ℕ → ℕ → Desk
-desk ds n = record { bytes = ds; length = n }
+abbrev pub desk : List ℕ → Desk
+desk ds = record { bytes = record { items = ds } }
 
--- an entry is written into the first so many bytes
-abbrev pub front_written : List ℕ → ℕ → List ℕ → List ℕ
-front_written ds n g = desk_after (take n ds) (at g 0) (entry_of g) ++ drop n ds
-
--- into those that the desk has, of which there are at most 100
+-- an entry is written into the bytes that the desk has
 abbrev pub desk_written : Desk → List ℕ → Desk
-desk_written d g = desk (front_written d.bytes (min d.length 100) g) d.length
+desk_written d g = desk (desk_after d.bytes.items (at g 0) (entry_of g))
 
 -- A line with a key, the numbers g and the bytes bs, in a session s, on the words ws, the memory q and m, the node words vs and the desk d. Behind the
 -- colon stand what they are then, in the same order, with the answer's numbers behind the session.
@@ -70,7 +66,7 @@ pub data Plays (s : Session) (key : ℕ) (g bs ws q m vs : List ℕ) (d : Desk) 
       key ≡ 105 →
       {ns : List ℕ} {d' : Desk} →
       d' ≡ desk_written d g →
-      ns ≡ write_numbers (write_reply (take (min d.length 100) d.bytes) (at g 0) (entry_of g)) →
+      ns ≡ write_numbers (write_reply d.bytes.items (at g 0) (entry_of g)) →
       Plays s key g bs ws q m vs d s ns ws q m vs d'
   -- S
   start :

@@ -2,7 +2,7 @@
 // number; and the bytes of the desk's buffer.
 #![tactic(auto)]
 
-ghost use Rattle.std.specs.Prelude.{◌≡◌, false, min, replicate, take};
+ghost use Rattle.std.specs.Prelude.{◌≡◌, false, [], replicate, take};
 ghost use Rattle.calls.specs.Values.{at, entry_of};
 ghost use Rattle.calls.specs.Calls.{Starts, write_numbers};
 ghost use Rattle.entries.specs.Desk.{write_reply};
@@ -10,15 +10,15 @@ ghost use Rattle.session.specs.Session.{lent_number};
 ghost use Rattle.played.specs.Played.{started_by, numbered_by, Changes, desk, desk_written, Plays};
 
 use answers::Numbers;
+use arrayvec::ArrayVec;
 use head::state::Head;
 use patterns::Given;
 use session::{Places, Session};
 
-// As many bytes as a desk's buffer may have, and how many of them it has.
+// The bytes of the desk's buffer, of which there may be 100.
 #[derive(Drop)]
 pub struct Desk {
-    pub bytes: [u8; 100],
-    pub length: usize,
+    pub bytes: ArrayVec<u8, 100>,
 }
 
 // What the lines of a script are played on: what they have set up, the head with its memory, the places of the run, the desk's buffer; and the numbers
@@ -35,28 +35,28 @@ pub struct Station {
 }
 
 impl Desk {
-    // The bytes that were read; how many they are is the first number of the line.
-    pub fn lay(&mut self, bytes: &[u8; 6000], given: Given)
-        ensures { self.new ≡ desk (take 100 bytes.now) (min (at given 0) 100) }
+    // The bytes that were read, in place of those that it has.
+    pub fn lay(&mut self, bytes: &[u8])
+        ensures { self.new ≡ desk (take 100 bytes.now) }
     {
-        self.bytes.copy_from_slice(&bytes[..100]);
-        self.length = (given[0] as usize).min(100);
+        self.bytes.clear();
+        let front = &bytes[..100.min(bytes.len())];
+        self.bytes.try_extend_from_slice(front).unwrap();
     }
 
     // The bytes that it has.
     pub fn front(&self) -> &[u8]
-        ensures { result.now ≡ take (min self.now.length 100) self.now.bytes }
+        ensures { result.now ≡ self.now.bytes.items }
     {
-        &self.bytes[..self.length.min(100)]
+        self.bytes.as_slice()
     }
 
     // Writes an entry into the bytes that it has.
     fn write(&mut self, given: Given, answer: &mut Numbers)
         ensures desk { self.new ≡ desk_written self.old given }
-        ensures answer { answer.new ≡ write_numbers (write_reply (take (min self.old.length 100) self.old.bytes) (at given 0) (entry_of given)) }
+        ensures answer { answer.new ≡ write_numbers (write_reply self.old.bytes.items (at given 0) (entry_of given)) }
     {
-        let count = self.length.min(100);
-        calls::entry_write(&mut self.bytes[..count], given, answer)
+        calls::entry_write(self.bytes.as_mut_slice(), given, answer)
     }
 }
 
@@ -93,7 +93,7 @@ impl Station {
         ensures queue { result.queue ≡ replicate 640 0 }
         ensures history { result.history ≡ replicate 5080 0 }
         ensures nodes { result.places ≡ record { nodes = replicate 96 0; rest = replicate 24 0 } }
-        ensures desk { result.desk ≡ desk (replicate 100 0) 0 }
+        ensures desk { result.desk ≡ desk [] }
     {
         Station {
             session: Session::new(),
@@ -102,8 +102,7 @@ impl Station {
             history: [0; 5080],
             places: Places::new(),
             desk: Desk {
-                bytes: [0; 100],
-                length: 0,
+                bytes: ArrayVec::new(),
             },
             answer: [0; 21],
         }

@@ -1,10 +1,9 @@
 // What is printed of the desk's buffer and of an entry.
 use played::Desk;
 use printed::Buffer;
-use script::EntryBuffer;
 
 // The entry in the bytes that were read.
-pub(crate) fn entry_read(out: &mut Buffer, bytes: &EntryBuffer) {
+pub(crate) fn entry_read(out: &mut Buffer, bytes: &[u8]) {
     out.say_form(
         b"(taken (entry (status #) (queue #) (mode #) (profile #) (code @) (seconds #) (ns #) (additional #)))\n",
         &shown::entry(bytes),

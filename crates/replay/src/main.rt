@@ -11,6 +11,7 @@ use forms::output::Output;
 use lines::Input;
 use played::Station;
 use printed::Buffer;
+use script::EntryBuffer;
 use script::lines::Line;
 use std::io;
 
@@ -19,13 +20,13 @@ fn main(rt: HostRuntime) -> io::Result<()> {
     let mut input = Input::new(rt.stdin());
     let mut line = Line::new();
     let mut given = [0u64; 18];
-    let mut bytes = [0u8; 6000];
+    let mut bytes = EntryBuffer::new();
     let mut station = Station::new();
     let mut out = Buffer::new(Output::new(rt.stdout()));
     for place in 1..u64::MAX {
         input.next_line(&mut line, &mut out);
         let read = script::read(&line, &mut given, &mut bytes);
-        play::play(&mut station, read, place, given, &bytes, &mut out);
+        play::play(&mut station, read, place, given, bytes.as_slice(), &mut out);
         if !line.whole {
             break;
         }

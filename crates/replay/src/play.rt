@@ -5,7 +5,6 @@ use crate::show::show;
 use patterns::Given;
 use played::Station;
 use printed::Buffer;
-use script::EntryBuffer;
 
 // The line at a place of the script, with the key that was read.
 pub(crate) fn play(
@@ -13,7 +12,7 @@ pub(crate) fn play(
     read: Option<u8>,
     place: u64,
     given: Given,
-    bytes: &EntryBuffer,
+    bytes: &[u8],
     out: &mut Buffer,
 ) {
     let session = station.session;
@@ -26,7 +25,7 @@ pub(crate) fn play(
             station.session = session.arrange(key, given, &mut station.places);
         }
         b'p' => show(out, station),
-        b'D' => station.desk.lay(bytes, given),
+        b'D' => station.desk.lay(bytes),
         b'r' => entry_read(out, bytes),
         b'o' => hand_out(out, station),
         b'b' => say_bitmap(out, &station.places.nodes, session.lent()),

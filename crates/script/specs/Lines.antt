@@ -1,23 +1,24 @@
 -- The gathering of a line from a part of the script, up to its newline.
 -- Assumes nothing.
-use Rattle.std.specs.Prelude.{ℕ, ◌+◌, Bool, true, false, List, [], ◌∷◌, eqb, ltb, set}
+use Rattle.std.specs.Prelude.{ℕ, ◌+◌, Bool, true, false, List, [], ◌∷◌, ◌++◌, eqb, ltb, length}
 use Rattle.types.specs.Pick.{pick}
 use Rattle.script.specs.declared.lines.Line.{Line}
 
-abbrev pub line : List ℕ → ℕ → Bool → Line
-line text length whole = record { text = text; length = length; whole = whole }
+-- a line that is gathered: its characters, whether it has more, and whether a newline ended it
+abbrev pub line : List ℕ → Bool → Bool → Line
+line text long whole = record { text = record { items = text }; long = long; whole = whole }
 
 -- the next line
-abbrev pub begun : Line → Line
-begun l = line l.text 0 false
+abbrev pub begun : Line
+begun = line [] false false
 
 -- a newline ended it
 abbrev pub ended : Line → Line
-ended l = line l.text l.length true
+ended l = line l.text.items l.long true
 
--- a character more, while there is room; then the length is one above it
+-- a character more, while there is room for 16,384
 abbrev pub kept : Line → ℕ → Line
-kept l c = pick (ltb l.length 16384) (line (set l.text l.length c) (l.length + 1) l.whole) (line l.text 16385 l.whole)
+kept l c = pick (ltb (length l.text.items) 16384) (line (l.text.items ++ (c ∷ [])) l.long l.whole) (line l.text.items true l.whole)
 
 -- the line, and how many characters of the part were taken
 pub record Gathers : Type 0 where

@@ -1,45 +1,54 @@
 // Bytes that stand in a line as two hexadecimal digits each.
-ghost use Rattle.std.specs.Prelude.{◌≡◌, ◌+◌, ◌*◌, ◌≤◌, length, is_some};
-ghost use Rattle.script.specs.Script.{got, bytes_at, entries_at};
+ghost use Rattle.std.specs.Prelude.{◌≡◌, ◌+◌, ◌*◌, ◌/◌, ◌≤◌, length, is_some};
+ghost use Rattle.script.specs.Script.{got, byte_of, bytes_at, word_at, entries_at};
 
 use crate::EntryBuffer;
-use patterns::digit_of;
 
-// Reads as many bytes as are asked for, two digits each from a place on, which become those from `first` on; None where one is no digit.
-pub(crate) fn read_bytes(
-    line: &[u8],
-    at: usize,
-    count: usize,
-    bytes: &mut [u8],
-    first: usize,
-) -> Option<()>
-    requires { (at + 2 * count ≤ length line.now) × (first + count ≤ length bytes.old) }
-    ensures { got (is_some result) bytes.new ≡ bytes_at count line.now at bytes.old first }
+// The byte of two digits.
+fn byte_of(high: u8, low: u8) -> Option<u8>
+    ensures { result ≡ byte_of high low }
 {
-    for i in 0..count {
-        let high = digit_of(line[at + 2 * i])?;
-        let low = digit_of(line[at + 2 * i + 1])?;
-        bytes[first + i] = 16 * high + low;
+    let high = char::from(high).to_digit(16)?;
+    let low = char::from(low).to_digit(16)?;
+    Some((16 * high + low) as u8)
+}
+
+// Reads the bytes whose digits a line is; None where one is no digit, or is left over.
+#[tactic(auto, unfolding(crate::specs::Script::bytes_at))]
+pub(crate) fn read_bytes(line: &[u8], bytes: &mut EntryBuffer) -> Option<()>
+    requires { length bytes.old.items + length line.now / 2 ≤ 6000 }
+    ensures read { got (is_some result) bytes.new.items ≡ bytes_at line.now bytes.old.items }
+    ensures short { length bytes.new.items ≤ length bytes.old.items + length line.now / 2 }
+{
+    for pair in line.chunks(2) {
+        let [high, low] = pair else {
+            return None;
+        };
+        bytes.push(byte_of(*high, *low)?);
     }
     Some(())
 }
 
-// Reads as many entries as follow a place, each behind a space; None where one of them is no entry.
-pub(crate) fn read_entries(
-    line: &[u8],
-    at: usize,
-    count: usize,
-    bytes: &mut EntryBuffer,
-) -> Option<()>
-    requires { (at + 41 * count ≤ length line.now) × (count ≤ 300) }
-    ensures { got (is_some result) bytes.new ≡ entries_at count line.now at bytes.old 0 }
+// Reads the bytes of a word behind its space.
+fn read_word(word: &[u8], bytes: &mut EntryBuffer) -> Option<()>
+    requires { length bytes.old.items + length word.now / 2 ≤ 6000 }
+    ensures read { got (is_some result) bytes.new.items ≡ word_at word.now bytes.old.items }
+    ensures short { length bytes.new.items ≤ length bytes.old.items + length word.now / 2 }
 {
-    for i in 0..count {
-        let from = at + 41 * i;
-        if line[from] != b' ' {
-            return None;
-        }
-        read_bytes(line, from + 1, 20, bytes, 20 * i)?;
+    match word {
+        [b' ', digits @ ..] => read_bytes(digits, bytes),
+        _ => None,
+    }
+}
+
+// Reads the entries that a line is; None where one of them is no entry.
+#[tactic(auto, unfolding(crate::specs::Script::entries_at))]
+pub(crate) fn read_entries(line: &[u8], bytes: &mut EntryBuffer) -> Option<()>
+    requires { length bytes.old.items + length line.now / 41 * 20 ≤ 6000 }
+    ensures { got (is_some result) bytes.new.items ≡ entries_at (length line.now / 41) line.now bytes.old.items }
+{
+    for word in line.chunks_exact(41) {
+        read_word(word, bytes)?;
     }
     Some(())
 }

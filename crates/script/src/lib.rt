@@ -2,20 +2,21 @@
 // a desk D, of the reading of an entry r, and the others stand in `TABLE`.
 #![tactic(auto)]
 
-ghost use Rattle.std.specs.Prelude.{◌≡◌, List, ℕ, ◌≤◌, length, take, map};
+ghost use Rattle.std.specs.Prelude.{◌≡◌, List, ℕ, [], map};
 ghost use Rattle.script.specs.Script.{says, key_by, table_says, desk_says, entry_says, line_says, text_says};
 
 mod digits;
 pub mod lines;
 mod load;
 
+use arrayvec::ArrayVec;
 use digits::read_bytes;
 use lines::Line;
 use load::read_load;
-use patterns::{Given, UNREADABLE, match_at};
+use patterns::{Given, match_at};
 
-// The bytes of as many entries as a load may have, 300.
-pub type EntryBuffer = [u8; 6000];
+// The bytes that a line gives, of as many entries as a load may have, 300.
+pub type EntryBuffer = ArrayVec<u8, 6000>;
 
 // The keys of the lines that a pattern reads whole; the last one is that of the empty line. A key is its letter, no enum: the functions that
 // take one answer for every letter, and an enum would ask more of their callers.
@@ -48,93 +49,86 @@ const TABLE: [(u8, &[u8]); 25] = [
 ];
 
 // Reads a line by a table, whose rows are a key and a pattern: the first pattern that the whole line matches.
-fn read_by(mut rows: &[(u8, &[u8])], line: &[u8], given: &mut Given) -> Option<u8>
-    ensures { (bs : List ℕ) → says result given.new bs ≡ key_by (map (λ row. (row.0, row.1.now)) rows.entry.now) line.now given.old bs }
+fn read_by(rows: &[(u8, &[u8])], line: &[u8], given: &mut Given) -> Option<u8>
+    ensures { (bs : List ℕ) → says result given.new bs ≡ key_by (map (λ row. (row.0, row.1.now)) rows.now) line.now given.old bs }
 {
-    while let [row, rest @ ..] = rows {
-        if match_at(row.1, line, 0, given, 0) == line.len() {
+    for row in rows {
+        if let Some([]) = match_at(row.1, line, given, 0) {
             return Some(row.0);
         }
-        rows = rest;
     }
     None
 }
 
+#[tactic(auto, unfolding(crate::specs::Script::table_says))]
 fn read_table(line: &[u8], given: &mut Given) -> Option<u8>
     ensures { (bs : List ℕ) → says result given.new bs ≡ table_says line.now given.old bs }
 {
     read_by(&TABLE, line, given)
 }
 
-// Reads the bytes that stand from a place to the line's end, at most 100 of them; how many they are becomes the first number. No bytes
-// are `-`.
-fn read_desk(line: &[u8], at: usize, given: &mut Given, bytes: &mut EntryBuffer) -> Option<u8>
-    ensures { says result given.new bytes.new ≡ desk_says line.now at given.old bytes.old }
+// Reads the bytes that a line is, at most 100 of them; how many they are becomes the first number. No bytes are `-`.
+#[tactic(auto, unfolding(crate::specs::Script::desk_says))]
+fn read_desk(line: &[u8], given: &mut Given, bytes: &mut EntryBuffer) -> Option<u8>
+    requires { bytes.old.items ≡ [] }
+    ensures { says result given.new bytes.new.items ≡ desk_says line.now given.old }
 {
-    if line.len() <= at {
+    if line.is_empty() {
         return None;
     }
-    let count = (line.len() - at) / 2;
+    let count = line.len() / 2;
     given[0] = count as u64;
-    if count == 0 {
-        if line[at] != b'-' {
-            return None;
-        }
+    if let [b'-'] = line {
         return Some(b'D');
-    }
-    if at + 2 * count != line.len() {
-        return None;
     }
     if 100 < count {
         return None;
     }
-    read_bytes(line, at, count, bytes, 0)?;
+    read_bytes(line, bytes)?;
     Some(b'D')
 }
 
 // Reads the 20 bytes of an entry.
-fn read_entry(line: &[u8], at: usize, bytes: &mut EntryBuffer) -> Option<u8>
-    ensures { (g : List ℕ) → says result g bytes.new ≡ entry_says line.now at g bytes.old }
+#[tactic(auto, unfolding(crate::specs::Script::entry_says))]
+fn read_entry(line: &[u8], bytes: &mut EntryBuffer) -> Option<u8>
+    requires { bytes.old.items ≡ [] }
+    ensures { (g : List ℕ) → says result g bytes.new.items ≡ entry_says line.now g }
 {
-    if line.len() < at {
+    if line.len() != 40 {
         return None;
     }
-    if line.len() - at != 40 {
-        return None;
-    }
-    read_bytes(line, at, 20, bytes, 0)?;
+    read_bytes(line, bytes)?;
     Some(b'r')
 }
 
 // Reads a line that is no comment. Each of the first three is read in its own way, so they are no rows of the table.
+#[tactic(auto, unfolding(crate::specs::Script::line_says))]
 fn read_line(line: &[u8], given: &mut Given, bytes: &mut EntryBuffer) -> Option<u8>
-    ensures { says result given.new bytes.new ≡ line_says line.now given.old bytes.old }
+    requires { bytes.old.items ≡ [] }
+    ensures { says result given.new bytes.new.items ≡ line_says line.now given.old }
 {
-    let load = match_at(b"load", line, 0, given, 0);
-    if load != UNREADABLE {
-        return read_load(line, load, given, bytes);
+    if let Some(load) = match_at(b"load", line, given, 0) {
+        return read_load(load, given, bytes);
     }
-    let desk = match_at(b"desk ", line, 0, given, 0);
-    if desk != UNREADABLE {
-        return read_desk(line, desk, given, bytes);
+    if let Some(desk) = match_at(b"desk ", line, given, 0) {
+        return read_desk(desk, given, bytes);
     }
-    let entry = match_at(b"entryread ", line, 0, given, 0);
-    if entry != UNREADABLE {
-        return read_entry(line, entry, bytes);
+    if let Some(entry) = match_at(b"entryread ", line, given, 0) {
+        return read_entry(entry, bytes);
     }
     read_table(line, given)
 }
 
-// Reads a line of some length. One that is longer than the buffer may still be a comment. Of an empty line the first character is of
-// an earlier one; if that is a comment, both are passed over alike.
+// Reads a line. One that is longer than the buffer may still be a comment.
 pub fn read(line: &Line, given: &mut Given, bytes: &mut EntryBuffer) -> Option<u8>
-    ensures { says result given.new bytes.new ≡ text_says line.now.text line.now.length given.old bytes.old }
+    ensures { says result given.new bytes.new.items ≡ text_says line.now.text.items line.now.long given.old }
 {
-    if line.text[0] == b'#' {
+    bytes.clear();
+    if let [b'#', ..] = line.text.as_slice() {
         return Some(b' ');
     }
-    if 16384 < line.length {
+    if line.long {
         return None;
     }
-    read_line(&line.text[..line.length], given, bytes)
+    read_line(line.text.as_slice(), given, bytes)
 }

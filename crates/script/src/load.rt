@@ -1,70 +1,63 @@
 // Reading a `load`: the values that it names, and the entries of its history, each a word of 40 hexadecimal digits.
-ghost use Rattle.std.specs.Prelude.{◌≡◌, ◌≤◌};
-ghost use Rattle.patterns.specs.Patterns.{matched};
-ghost use Rattle.script.specs.Script.{says, value, values, history_says, load_says};
+ghost use Rattle.std.specs.Prelude.{◌≡◌, ◌≤◌, [], length};
+ghost use Rattle.script.specs.Script.{says, left, value, values, history_says, load_says};
 
 use crate::EntryBuffer;
 use crate::digits::read_entries;
-use patterns::{Given, KEPT, UNREADABLE, match_at};
+use patterns::{Given, KEPT, match_at};
 
-// Reads a value that may be named at a place; the place behind. One match answers the place and sets the number, so no Option stands between.
-fn read_value(row: &[u8], line: &[u8], at: usize, given: &mut Given, place: usize) -> usize
+// Reads a value that may be named; the rest of the line.
+#[tactic(auto, unfolding(crate::specs::Script::value))]
+fn read_value<'a>(row: &[u8], line: &'a [u8], given: &mut Given, place: usize) -> &'a [u8]
     requires { place ≤ 17 }
-    ensures { matched result given.new ≡ value row.now line.now place (matched at given.old) }
+    ensures { left result.now given.new ≡ value row.now place (left line.now given.old) }
 {
-    let end = match_at(row, line, at, given, place);
-    if end == UNREADABLE {
+    let Some(rest) = match_at(row, line, given, place) else {
         given[place] = KEPT;
-        return at;
-    }
-    end
+        return line;
+    };
+    rest
 }
 
-// Reads the values that are named, in their order; the place behind them.
-fn read_values(line: &[u8], from: usize, given: &mut Given) -> usize
-    ensures { matched result given.new ≡ values line.now (matched from given.old) }
+// Reads the values that are named, in their order; the rest of the line.
+#[tactic(auto, unfolding(crate::specs::Script::values))]
+fn read_values<'a>(line: &'a [u8], given: &mut Given) -> &'a [u8]
+    ensures { left result.now given.new ≡ values (left line.now given.old) }
 {
-    let register = read_value(b" register B", line, from, given, 0);
-    let cycle = read_value(b" cycle O", line, register, given, 1);
-    let tolerance = read_value(b" tolerance O", line, cycle, given, 2);
-    let c1 = read_value(b" c1 W", line, tolerance, given, 3);
-    let c2 = read_value(b" c2 W", line, c1, given, 4);
-    let c3 = read_value(b" c3 W", line, c2, given, 5);
-    read_value(b" c5 W", line, c3, given, 6)
+    let line = read_value(b" register B", line, given, 0);
+    let line = read_value(b" cycle O", line, given, 1);
+    let line = read_value(b" tolerance O", line, given, 2);
+    let line = read_value(b" c1 W", line, given, 3);
+    let line = read_value(b" c2 W", line, given, 4);
+    let line = read_value(b" c3 W", line, given, 5);
+    read_value(b" c5 W", line, given, 6)
 }
 
-// Reads the history, which goes up to the line's end.
-fn read_history(line: &[u8], at: usize, given: &mut Given, bytes: &mut EntryBuffer) -> Option<u8>
-    ensures { says result given.new bytes.new ≡ history_says line.now at given.old bytes.old }
+// Reads the history, which is the rest of the line.
+#[tactic(auto, unfolding(crate::specs::Script::history_says))]
+fn read_history(line: &[u8], given: &mut Given, bytes: &mut EntryBuffer) -> Option<u8>
+    requires { bytes.old.items ≡ [] }
+    ensures { says result given.new bytes.new.items ≡ history_says line.now given.old }
 {
-    if line.len() < at {
-        return None;
-    }
-    let count = (line.len() - at) / 41;
-    if at + 41 * count != line.len() {
-        return None;
-    }
-    if 300 < count {
+    let count = line.len() / 41;
+    if line.len() % 41 != 0 || 300 < count {
         return None;
     }
     given[7] = 20 * count as u64;
-    read_entries(line, at, count, bytes)?;
+    read_entries(line, bytes)?;
     Some(b'l')
 }
 
-pub(crate) fn read_load(
-    line: &[u8],
-    at: usize,
-    given: &mut Given,
-    bytes: &mut EntryBuffer,
-) -> Option<u8>
-    ensures { says result given.new bytes.new ≡ load_says line.now at given.old bytes.old }
+#[tactic(auto, unfolding(crate::specs::Script::load_says))]
+pub(crate) fn read_load(line: &[u8], given: &mut Given, bytes: &mut EntryBuffer) -> Option<u8>
+    requires { bytes.old.items ≡ [] }
+    ensures { says result given.new bytes.new.items ≡ load_says line.now given.old }
 {
-    let behind = read_values(line, at, given);
+    let rest = read_values(line, given);
     given[7] = KEPT;
-    if behind == line.len() {
+    if rest.is_empty() {
         return Some(b'l');
     }
-    let from = match_at(b" history", line, behind, given, 7);
-    read_history(line, from, given, bytes)
+    let history = match_at(b" history", rest, given, 7)?;
+    read_history(history, given, bytes)
 }

@@ -1,14 +1,10 @@
--- `patterns::digits` meets its contract. The loop's invariant: the number so far, with what follows, is the whole.
--- Assumes nothing.
-use Prim.Native.Nat.{◌-◌}
-use mathlib.Core.Path.{◌≡◌}
-use lib.ListN.{drop}
-use Rattle.patterns.specs.Patterns.{digits_from, digits_at}
+-- The number so far, with what is left of the line, is the whole.
+use Rattle.std.proofs.Common.{◌≡◌, option_copied, length}
+use Rattle.patterns.specs.Patterns.{number, digits_from, digits_at}
 use Rattle.patterns.proofs.digits.Given as goal
 
-abbrev pub invariant-loop-at : goal.invariant-loop-at
-invariant-loop-at l =
-    digits_from l.base l.number l.at (drop l.at l.line) ≡ digits_at l.line l.from l.base
+abbrev pub invariant-loop-left : goal.invariant-loop-left
+invariant-loop-left l = digits_from l.base (number l.number.n (option_copied l.number.rest)) l.left ≡ digits_at l.base l.line
 
-abbrev pub decreases-loop-at : goal.decreases-loop-at
-decreases-loop-at l = l.at-end - l.at
+abbrev pub decreases-loop-left : goal.decreases-loop-left
+decreases-loop-left l = length l.left

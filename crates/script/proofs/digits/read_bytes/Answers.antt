@@ -1,43 +1,16 @@
--- `script::digits::read_bytes` meets its contract: the bytes one behind another. The loop's invariant: what follows, from here, is the whole.
--- Assumes nothing.
-use Prim.Native.Nat.{◌+◌, ◌-◌, ◌*◌}
-use mathlib.Core.Path.{◌≡◌, refl, ◌∙◌}
-use Rattle.std.specs.Prelude.{None}
-use native.Mathlib.Omega.{arith}
-use Rattle.script.proofs.Reading.{no_digit, a_digit, bytes_first, bytes_none, bytes_high, bytes_low, bytes_goes}
-use borrow.Author.Rules.{rules}
+-- A turn: two digits more are read, and a byte is behind those that are there.
+use Rattle.std.proofs.Common.{◌≡◌, ◌+◌, ◌∙◌, length, sym, ap, arith}
+use Rattle.std.proofs.lemmas.List.{length-append}
+use Rattle.script.proofs.Reading.{bytes_goes}
 use Rattle.script.proofs.digits.read_bytes.Goals as goal
 
-pub loop-i-init : goal.loop-i-init
-loop-i-init c =
-    let a = c.args in (bytes_first a.line.now a.count a.at a.bytes.now a.first, refl, c.requires.1)
-
-pub returns-in_err-high : goal.returns-in_err-high
-returns-in_err-high c =
-    let l = c.loop-i in
-    let a = c.args in
-    let r : c.from_residual.result ≡ None = search rules in
-    rw r (bytes_high a.line.now (a.count - l.i) (a.at + 2 * l.i) l.bytes (a.first + l.i) (a.count - (l.i + 1)) (omega (arith, c.loop-i-test.true)) _ _ refl refl (no_digit c.digit_of.ensures c.in_err-high.was) ∙ l.invariant.0)
-
-pub returns-in_err-low : goal.returns-in_err-low
-returns-in_err-low c =
-    let l = c.loop-i in
-    let a = c.args in
-    let r : c.from_residual-in_err-low.result ≡ None = search rules in
-    let high = a_digit c.digit_of.ensures c.in_ok-high.was in
-    rw r (bytes_low a.line.now (a.count - l.i) (a.at + 2 * l.i) l.bytes (a.first + l.i) (a.count - (l.i + 1)) (omega (arith, c.loop-i-test.true)) _ _ high.0 refl high.1 (no_digit c.digit_of-in-loop-i.ensures c.in_err-low.was) ∙ l.invariant.0)
-
-pub loop-i-preserved : goal.loop-i-preserved
-loop-i-preserved c =
-    let l = c.loop-i in
-    let a = c.args in
-    let high = a_digit c.digit_of.ensures c.in_ok-high.was in
-    let low = a_digit c.digit_of-in-loop-i.ensures c.in_ok-low.was in (
-      bytes_goes a.line.now (a.count - l.i) (a.at + 2 * l.i) l.bytes (a.first + l.i) (a.count - (l.i + 1)) (omega (arith, c.loop-i-test.true)) _ _ high.0 low.0 high.1 low.1 _ _ (omega arith) (omega arith) ∙ l.invariant.0,
-      search rules,
-      search rules,
+pub loop-pair-preserved : goal.loop-pair-preserved
+loop-pair-preserved c =
+    let l = c.loop-pair in
+    let n = c.in-Some.ensures.steps in
+    let two : length c.in-Some.pair.now ≡ 2 = omega (arith, c.in-len2.len_at_least, c.in-len2.len_below) in
+    let parts : length l.pair-iterator.rest.now ≡ length c.in-Some.pair.now + length c.next.new.self.rest.now = ap length n.1.0 ∙ length-append c.in-Some.pair.now c.next.new.self.rest.now in (
+      bytes_goes _ _ _ l.bytes.items _ _ n.1.0 two (sym c.byte_of.ensures ∙ c.in_ok-byte_of.was) c.push.ensures.items ∙ l.invariant.0,
+      omega (arith, parts, two, c.push.ensures.len, l.invariant.1),
+      n.0 ∙ l.invariant.2,
     )
-
-pub returns : goal.returns
-returns c =
-    let l = c.loop-i in let a = c.args in bytes_none a.line.now (a.count - l.i) (a.at + 2 * l.i) l.bytes (a.first + l.i) (omega (arith, c.loop-i-test.false)) ∙ l.invariant.0

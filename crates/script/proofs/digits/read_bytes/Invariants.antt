@@ -1,11 +1,8 @@
--- `script::digits::read_bytes` meets its contract: the bytes one behind another. The loop's invariant: what follows, from here, is the whole.
--- Assumes nothing.
-use Prim.Native.Nat.{◌+◌, ◌-◌, ◌*◌, ◌≤◌}
-use mathlib.Core.Path.{◌≡◌}
-use lib.ListN.{length}
+-- What is left of the line, read from here, is the whole.
+use Rattle.std.proofs.Common.{◌≡◌, ◌+◌, ◌/◌, ◌≤◌, length}
 use Rattle.script.specs.Script.{bytes_at}
 use Rattle.script.proofs.digits.read_bytes.Given as goal
 
-abbrev pub invariant-loop-i : goal.invariant-loop-i
-invariant-loop-i l =
-    (bytes_at (l.count - l.i) l.line (l.at + 2 * l.i) l.bytes (l.first + l.i) ≡ bytes_at l.count l.line l.at l.initial.bytes l.first) × (length l.bytes ≡ length l.initial.bytes) × (l.first + l.count ≤ length l.initial.bytes)
+abbrev pub invariant-loop-pair : goal.invariant-loop-pair
+invariant-loop-pair l =
+    (bytes_at l.pair-iterator.rest.now l.bytes.items ≡ bytes_at l.line l.initial.bytes.items) × (length l.bytes.items + length l.pair-iterator.rest.now / 2 ≤ length l.initial.bytes.items + length l.line / 2) × (l.pair-iterator.size ≡ 2)

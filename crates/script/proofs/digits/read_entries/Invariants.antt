@@ -1,9 +1,8 @@
--- `script::digits::read_entries` meets its contract: the entries one behind another. The loop's invariant: what follows, from here, is the whole.
--- Assumes nothing.
-use Prim.Native.Nat.{◌+◌, ◌-◌, ◌*◌}
-use mathlib.Core.Path.{◌≡◌}
+-- What is left of the line, read from here, is the whole.
+use Rattle.std.proofs.Common.{◌≡◌, ◌+◌, ◌*◌, ◌/◌, ◌≤◌, length}
 use Rattle.script.specs.Script.{entries_at}
 use Rattle.script.proofs.digits.read_entries.Given as goal
 
-abbrev pub invariant-loop-i : goal.invariant-loop-i
-invariant-loop-i l = entries_at (l.count - l.i) l.line (l.at + 41 * l.i) l.bytes (20 * l.i) ≡ entries_at l.count l.line l.at l.initial.bytes 0
+abbrev pub invariant-loop-word : goal.invariant-loop-word
+invariant-loop-word l =
+    (entries_at (length l.word-iterator.rest.now / 41) l.word-iterator.rest.now l.bytes.items ≡ entries_at (length l.line / 41) l.line l.initial.bytes.items) × (length l.bytes.items + length l.word-iterator.rest.now / 41 * 20 ≤ 6000) × (l.word-iterator.size ≡ 41)
