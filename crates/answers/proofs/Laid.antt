@@ -5,8 +5,14 @@ use mathlib.Core.Path.{◌≡◌, refl, ap, subst, ◌∙◌}
 use mathlib.Core.Bool.{Bool, true, false}
 use mir.Val.{bool_byte}
 use mathlib.Core.List.{List, [], map}
-use lib.ListN.{set}
+use lib.ListN.{set, replicate}
 use lib.IntN.{ℤ, pos, negsuc}
+use Rattle.std.specs.Prelude.{MatchOption}
+use Rattle.std.specs.Option.{is_some}
+use Rattle.std.specs.declared.option.Option.{Option}
+use Rattle.std.specs.declared.option.Option.TheVariants.{Some, None}
+use Rattle.entries.specs.Entry.{entry_bytes}
+use Rattle.entries.specs.declared.status_response.ErrorEntry.{ErrorEntry}
 use Rattle.types.specs.States.{state_number}
 use Rattle.types.specs.Errors.{action_number, reported}
 use Rattle.types.specs.declared.frame.error.types.DllErrors.{DllErrors}
@@ -19,7 +25,7 @@ use Rattle.head.specs.Words.{one}
 use Rattle.node.specs.declared.range.SocVerdict.{SocVerdict}
 use Rattle.node.specs.declared.range.SocVerdict.TheVariants as verdict
 use Rattle.node.specs.Plain.{taken, nmt_answer, error_answer, range_answer, margin_answer}
-use Rattle.answers.specs.Numbers.{nothing, errors_numbers, ranges_numbers, node_asked, laid, numbers_of}
+use Rattle.answers.specs.Numbers.{nothing, errors_numbers, ranges_numbers, node_asked, is_found, bytes_of, laid, numbers_of}
 use Rattle.answers.specs.Put.{error_put, errors_put, reset_put, verdict_put, margin_put}
 
 errors_laid :
@@ -80,6 +86,15 @@ reset_taken es r p q s = s ∙ ap (λ (l : List ℕ). reset_put l r) (errors_tak
 pub said_taken : (v : ℕ) {ns : List ℕ} {said : ℕ} → ns ≡ numbers_of taken → said ≡ v → set ns 3 said ≡ laid 0 nothing nothing v [] [] []
 unfolding numbers_of
 said_taken v p q = (λ i. set (p i) 3 (q i))
+
+-- whether there is an entry, and its bytes
+pub found_is : (e : Option ErrorEntry) → bool_byte (is_some e) ≡ is_found e
+found_is (Some x) = refl
+found_is None = refl
+
+pub bytes_are : (e : Option ErrorEntry) {r : List ℕ} → MatchOption e (r ≡ replicate 20 0) (λ x. r ≡ entry_bytes x) → r ≡ bytes_of e
+bytes_are (Some x) h = h
+bytes_are None h = h
 
 -- an answer of a verdict, or of a margin
 pub verdict_taken : (v : SocVerdict) {ns ms : List ℕ} → ns ≡ numbers_of taken → ms ≡ verdict_put ns v → ms ≡ numbers_of (range_answer v)

@@ -4,10 +4,9 @@
 
 ghost use Rattle.std.specs.Prelude.{◌≡◌, ◌≤◌, length};
 ghost use Rattle.types.specs.Refusals.{refusal_number};
-ghost use Rattle.head.specs.Words.{one};
 ghost use Rattle.node.specs.Plain.{Answer, taken, refused, cycle_answer, hand_out_answer, range_answer, margin_answer};
 ghost use Rattle.node.specs.InPlace.{answered, nmt_says, dll_says, error_says};
-ghost use Rattle.answers.specs.Numbers.{carries, node_asked, is_found, of_node, said_of, numbers_of, bytes_of};
+ghost use Rattle.answers.specs.Numbers.{carries, node_asked, of_node, said_of, numbers_of, bytes_of};
 ghost use Rattle.answers.specs.Put.{error_put, errors_put, states_put, range_put, ranges_put, reset_put, verdict_put, margin_put};
 
 use entries::status_response::ErrorEntry;
@@ -90,21 +89,28 @@ fn said_of(number: Option<u8>) -> u64
     number.map_or(NOTHING, u64::from)
 }
 
+// The refusal, 0 where there is none, and nothing else.
+#[tactic(auto, unfolding(crate::specs::Numbers::numbers_of))]
+fn put_refusal(numbers: &mut Numbers, number: u64)
+    ensures { numbers.new ≡ numbers_of (refused number) }
+{
+    *numbers = [NOTHING; 21];
+    numbers[REFUSAL] = number;
+}
+
 // Of a call that was taken, before anything else is written.
+#[tactic(auto, unfolding(crate::specs::Numbers::numbers_of))]
 fn put_taken(numbers: &mut Numbers)
     ensures { numbers.new ≡ numbers_of taken }
 {
-    *numbers = [NOTHING; 21];
-    numbers[REFUSAL] = 0;
+    put_refusal(numbers, 0);
 }
 
 // A declined call.
-#[tactic(auto, unfolding(crate::specs::Numbers::numbers_of))]
 pub fn declined(refusal: Refusal, numbers: &mut Numbers)
     ensures { numbers.new ≡ numbers_of (refused (refusal_number refusal)) }
 {
-    *numbers = [NOTHING; 21];
-    numbers[REFUSAL] = u64::from(refusal.number());
+    put_refusal(numbers, u64::from(refusal.number()));
 }
 
 #[tactic(auto, unfolding(crate::specs::Put::error_put))]
@@ -266,28 +272,13 @@ pub fn cycle(cleared: bool, numbers: &mut Numbers)
     numbers[YES] = u64::from(cleared);
 }
 
-// Whether there is an entry, whose bytes are written.
-pub fn found(entry: Option<ErrorEntry>, bytes: &mut [u8; 20]) -> bool
-    ensures { (one result ≡ is_found entry) × (bytes.new ≡ bytes_of entry) }
-{
-    match entry {
-        Some(entry) => {
-            *bytes = entry.serialize();
-            true
-        }
-        None => {
-            *bytes = [0; 20];
-            false
-        }
-    }
-}
-
 // An entry that was handed out goes to the bytes.
 pub fn handed_out(entry: Option<ErrorEntry>, numbers: &mut Numbers, bytes: &mut [u8; 20])
     ensures { (numbers.new ≡ numbers_of (hand_out_answer entry)) × (bytes.new ≡ bytes_of entry) }
 {
     put_taken(numbers);
-    numbers[YES] = u64::from(found(entry, bytes));
+    numbers[YES] = u64::from(entry.is_some());
+    *bytes = entry.map_or([0; 20], ErrorEntry::serialize);
 }
 
 // Of a range: 1 at the place of the verdict, in the places of the states.
