@@ -18,6 +18,7 @@ use start::start::{Setup, start};
 use tick::tick::process_tick;
 use types::refusals::Refusal;
 use watched::nodes::NodeWords;
+use watched::record::NodeRecord;
 
 // Which call a row is. A row of `Lend` is none: it says which watched nodes are lent next.
 #[derive(Clone, Copy)]
@@ -167,10 +168,12 @@ fn lend(nodes: &mut NodeWords, row: Row)
     ensures { nodes.new ≡ lent_by row nodes.old }
 {
     if row.a < 32 {
-        let at = 3 * row.a as usize;
-        nodes[at] = row.b;
-        nodes[at + 1] = row.c;
-        nodes[at + 2] = row.d;
+        let node = NodeRecord {
+            node: row.b,
+            timeout: row.c,
+            last_heard: row.d,
+        };
+        node.put(nodes, row.a as usize);
         return;
     }
 }

@@ -26,6 +26,7 @@ use types::nmt::flags::FeatureFlags;
 use types::nmt::states::NmtState;
 use types::types::NodeId;
 use watched::nodes::NodeWords;
+use watched::record::NodeRecord;
 
 // The error register and the counters 1, 2, 3 and 5.
 pub fn values(
@@ -181,7 +182,10 @@ pub fn watching(nodes: &mut NodeWords, last_heard: u64)
     ensures { run (nodes_of nodes.new) 1 ≡ watching_one last_heard }
 {
     *nodes = [0; 96];
-    nodes[0] = 5;
-    nodes[1] = 50;
-    nodes[2] = last_heard;
+    let node = NodeRecord {
+        node: 5,
+        timeout: 50,
+        last_heard,
+    };
+    node.put(nodes, 0);
 }

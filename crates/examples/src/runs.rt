@@ -11,12 +11,7 @@ fn is_blank(nodes: &NodeWords, place: usize) -> bool
     requires { place < 32 }
     ensures { result ≡ blank (node_at nodes.now place) }
 {
-    NodeRecord::at(nodes, place)
-        == NodeRecord {
-            node: 0,
-            timeout: 0,
-            last_heard: 0,
-        }
+    NodeRecord::at(nodes, place) == NodeRecord::NONE
 }
 
 // Every place behind the first.

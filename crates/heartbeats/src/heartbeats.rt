@@ -6,7 +6,7 @@ ghost use Rattle.node.specs.Tick.{is_late, looked, late_ones, beat, beat_all};
 ghost use Rattle.node.specs.Refines.{plain};
 ghost use Rattle.heartbeats.specs.Parts.{looked_first};
 ghost use Rattle.head.specs.Words.{head_of};
-ghost use Rattle.watched.specs.Nodes.{node_of, nodes_of, never, soonest};
+ghost use Rattle.watched.specs.Nodes.{node_of, nodes_of, never, soonest, moment_of};
 ghost use Rattle.heartbeats.specs.PartWords.{looked_time, looked_words, beat_words, beat_all_words};
 ghost use Rattle.heartbeats.specs.PartsIn.{TicksIn};
 
@@ -16,7 +16,7 @@ use node::calls::handled;
 use node::timing::time_since;
 use types::frame::error::types::{DllError, DllErrors};
 use types::types::NodeId;
-use watched::nodes::{Formed, NEVER, NodeWords};
+use watched::nodes::{Formed, NEVER, NodeWords, moment, set_heard};
 use watched::record::NodeRecord;
 
 // A node that was heard once, and then not for longer than its timeout.
@@ -37,20 +37,20 @@ pub fn looked(node: NodeRecord, time: u64) -> u64
 }
 
 // All nodes, and the soonest moment at which one would be late then. It writes them, so they are no Formed, which is lent to be read.
-pub fn look_all(nodes: &mut NodeWords, count: usize, time: u64) -> u64
+pub fn look_all(nodes: &mut NodeWords, count: usize, time: u64) -> Option<u64>
     requires { well_formed (watched_of (nodes_of nodes.old) count) ≡ true }
     ensures { (nodes.new ≡ looked_words time count nodes.old)
         × (nodes_of nodes.new ≡ looked_first time count (nodes_of nodes.old))
-        × (result ≡ soonest never (map (looked time) (watched_of (nodes_of nodes.old) count))) }
+        × (result ≡ moment_of (soonest never (map (looked time) (watched_of (nodes_of nodes.old) count)))) }
 {
     let mut early = NEVER;
     for i in 0..count {
         let mut node = NodeRecord::at(nodes, i);
         node.last_heard = looked(node, time);
-        nodes[3 * i + 2] = node.last_heard;
+        set_heard(nodes, i, node.last_heard);
         early = early.min(node.three_before());
     }
-    early.saturating_add(3)
+    moment(early.saturating_add(3))
 }
 
 // The error of a late node: neither counter 1 nor an entry follows from it.

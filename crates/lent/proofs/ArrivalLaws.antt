@@ -17,7 +17,7 @@ use Rattle.counters.specs.Counters.{new_counter}
 use Rattle.head.specs.Written.{earliest_written}
 use Rattle.watched.specs.declared.nodes.WatchedNode.{WatchedNode}
 use Rattle.watched.specs.Watched.{all_of, fits, well_formed, no_node, watched_node, is_watched, heard_at, place_of, watched_of, Run, run, watching, well_lent}
-use Rattle.watched.specs.Nodes.{rising, never, soonest}
+use Rattle.watched.specs.Nodes.{rising, never, soonest, moment_of}
 use Rattle.watched.proofs.Lists.{rising_all, watched_nowhere}
 use Rattle.std.specs.Prelude.{is_some}
 use Rattle.std.specs.declared.option.Option.{Option}
@@ -25,7 +25,6 @@ use Rattle.std.specs.declared.option.Option.TheVariants.{Some, None}
 use Rattle.std.specs.declared.result.Result.{Result}
 use Rattle.std.specs.declared.result.Result.TheVariants.{Ok, Err}
 use Rattle.node.specs.Steps.{earliest, removed}
-use Rattle.node.specs.InPlace.{moment_of}
 use Rattle.node.proofs.Moments.{all_fit, heard_fits, moment_of_lem}
 use Rattle.partners.specs.Partners.{add_answer, remove_answer, AddedOn, RemovedOn}
 use Rattle.partners.specs.Walks.{carried, closed}

@@ -27,9 +27,8 @@ use Rattle.watched.proofs.Lists.{each_nodes, heard_nodes}
 use Rattle.node.specs.Plain.{heard}
 use Rattle.node.specs.Steps.{earliest}
 use Rattle.node.specs.Tick.{checks_heartbeats, looked, tick_taken}
-use Rattle.watched.specs.Nodes.{not_before, never, soonest}
+use Rattle.watched.specs.Nodes.{not_before, never, soonest, moment_of}
 use Rattle.node.specs.Refines.{plain}
-use Rattle.node.specs.InPlace.{moment_of}
 use Rattle.node.specs.Heard.{heard_answer, HeardOn}
 use Rattle.node.proofs.Moments.{all_fit, heard_fits}
 use Rattle.node.proofs.OnRuns.{run_declined}
@@ -145,11 +144,13 @@ module _ (ws q m : List ℕ) (vs : List WatchedNode) (k t : ℕ) (g : Findings) 
     found = seen_found k 0 t Y (beats_at ws) vs o e s p
 
     pub tick_unasked :
-        C ≡ false → (a : Result DllErrors Refusal) (ws' q' m' : List ℕ) → StillTicks ws q m t s.soonest a ws' q' m' → TickedOn ws q m R t a ws' q' m' R
-    tick_unasked c a ws' q' m' h =
+        C ≡ false → (x : Option ℕ) → x ≡ moment_of s.soonest → (a : Result DllErrors Refusal) (ws' q' m' : List ℕ) → StillTicks ws q m t x a ws' q' m' → TickedOn ws q m R t a ws' q' m' R
+    tick_unasked c x g a ws' q' m' h =
         h R well (ap (λ (c : Bool). is_still c t (watched_of vs k)) c)
+        (g
+        ∙ ap moment_of
         (ap (λ (f : Findings). f.soonest) found ∙ soonest_all (for_tick ws t) (watched_of vs k)
-        ∙ ap (λ (c : Bool). soonest never (map (settled (pick c (Looked t) Nothing)) (watched_of vs k))) c ∙ ap (soonest never) (settled_none (watched_of vs k)))
+        ∙ ap (λ (c : Bool). soonest never (map (settled (pick c (Looked t) Nothing)) (watched_of vs k))) c ∙ ap (soonest never) (settled_none (watched_of vs k))))
 
     pub tick_late : in_time t ≡ false → TickedOn ws q m R t (Err TimeLimit) ws q m R
     tick_late b = run_late ws q m R t well b

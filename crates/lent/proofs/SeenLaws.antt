@@ -15,9 +15,8 @@ use Rattle.watched.specs.declared.nodes.WatchedNode.{WatchedNode}
 use Rattle.entries.proofs.Rings.{listed_long}
 use Rattle.watched.specs.Watched.{all_of, ascending, fits, well_formed, no_node, heard_now, is_watched, heard_at, watched_of, run, well_lent, first}
 use Rattle.node.specs.Steps.{earliest}
-use Rattle.node.specs.InPlace.{moment_of}
 use Rattle.node.proofs.Moments.{moment_of_lem}
-use Rattle.watched.specs.Nodes.{not_before, rising, never, soonest}
+use Rattle.watched.specs.Nodes.{not_before, rising, never, soonest, moment_of}
 use Rattle.watched.proofs.Lists.{rising_all, watched_take, few}
 use Rattle.lentlaws.specs.Fold.{folded}
 use Rattle.lentlaws.specs.Scan.{scanned}

@@ -1,7 +1,7 @@
 // Heartbeat partners arrive and leave, over a lent run of records: a walk finds out what the tests ask, and a walk that carries the displaced record sets
 // the places, from the first for an add, from the last for a removal.
 ghost use Rattle.std.specs.Prelude.{◌≡◌};
-ghost use Rattle.watched.specs.Watched.{no_node, run};
+ghost use Rattle.watched.specs.Watched.{run};
 ghost use Rattle.partners.specs.Partners.{AddedOn, RemovedOn};
 ghost use Rattle.lent.specs.Arrivals.{carry_next, carried_all, moved_down, close_next, closed_all};
 
@@ -9,10 +9,9 @@ use crate::run::{for_heard, survey};
 use head::parts::set_earliest;
 use head::state::Head;
 use lentlaws::{scan, scan_back};
-use node::heard::moment;
 use partners::{is_known, try_add, try_remove};
 use types::refusals::Refusal;
-use watched::nodes::WatchedNode;
+use watched::nodes::{WatchedNode, moment};
 
 // The record that takes the next place: so many of the places ahead are watched.
 #[derive(Clone, Copy)]
@@ -30,25 +29,19 @@ pub struct Closing {
     pub next: WatchedNode,
 }
 
-// A place that holds no node; a derived default would not say which record that is.
-fn no_node() -> WatchedNode
-    ensures { result ≡ no_node }
-{
-    WatchedNode {
-        node: 0,
-        timeout: 0,
-        last_heard: 0,
-    }
-}
-
 // One place, and what is carried on: the record that is carried takes the place of one above it, or the first past the number, which is cleared from there on.
 pub fn carry_next(carrying: Carrying, w: WatchedNode) -> (WatchedNode, Carrying)
     ensures { result ≡ carry_next carrying w }
 {
     let Carrying { left, node } = carrying;
     if left == 0 {
-        let next = no_node();
-        return (node, Carrying { left, node: next });
+        return (
+            node,
+            Carrying {
+                left,
+                node: WatchedNode::NONE,
+            },
+        );
     }
     let left = left - 1;
     if node.node < w.node {
@@ -70,7 +63,7 @@ impl Closing {
         ensures { result ≡ moved_down self.left self.number self.node self.next w }
     {
         if self.number <= self.left {
-            return no_node();
+            return WatchedNode::NONE;
         }
         if w.node < self.node {
             return w;
@@ -111,9 +104,9 @@ pub fn add(
     let count = *number;
     let known = is_known(node);
     let Some(found) = survey(nodes, count, for_heard(node, 0)) else {
-        return try_add(known, false, timeout, false, count);
+        return try_add(known, None, timeout, count);
     };
-    try_add(known, true, timeout, found.watched, count)?;
+    try_add(known, Some(found.watched), timeout, count)?;
     let added = WatchedNode {
         node,
         timeout,
@@ -140,14 +133,14 @@ pub fn remove(
 {
     let count = *number;
     let Some(found) = survey(nodes, count, for_heard(node, 0)) else {
-        return try_remove(false, false);
+        return try_remove(None);
     };
-    try_remove(true, found.watched)?;
+    try_remove(Some(found.watched))?;
     let closing = Closing {
         left: 32,
         number: count,
         node,
-        next: no_node(),
+        next: WatchedNode::NONE,
     };
     close(nodes, closing);
     *number = count - 1;

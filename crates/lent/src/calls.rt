@@ -6,10 +6,10 @@ ghost use Rattle.start.specs.Started.{StartedOn};
 use crate::run::{Setting, ask, for_heard, settle, survey};
 use head::parts::set_earliest;
 use head::state::Head;
-use node::heard::{moment, try_heard};
+use node::heard::try_heard;
 use start::start::{Setup, begin};
 use types::refusals::Refusal;
-use watched::nodes::WatchedNode;
+use watched::nodes::{WatchedNode, moment};
 
 // A watched node was heard.
 pub fn heard(
@@ -24,7 +24,7 @@ pub fn heard(
     let Some(found) = survey(nodes, number, for_heard(node, time)) else {
         return Err(Refusal::WatchedNodes);
     };
-    try_heard(true, time, found.watched)?;
+    try_heard(Some(found.watched), time)?;
     settle(nodes, number, Setting::Heard(node, time));
     set_earliest(head, moment(found.soonest));
     Ok(())

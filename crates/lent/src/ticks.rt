@@ -16,13 +16,12 @@ use counters::counters::CounterKind;
 use head::parts::{set_counter, set_earliest, state_at};
 use head::state::Head;
 use heartbeats::dealt::{Dealt, finish, signal};
-use node::heard::moment;
 use tick::deadline::by_deadline;
 use tick::tick::{checks_heartbeats, tick_still};
 use types::frame::error::types::{DllError, DllErrors};
 use types::refusals::Refusal;
 use types::types::NodeId;
-use watched::nodes::WatchedNode;
+use watched::nodes::{WatchedNode, moment};
 use watched::time::Time;
 
 // What the errors of the late nodes leave: the heartbeat counter, and, where one crossed, what a crossing brings.
@@ -80,8 +79,9 @@ pub fn process_tick(
     let Some(found) = survey(nodes, number, for_tick(head, time)) else {
         return Err(Refusal::WatchedNodes);
     };
+    let soonest = moment(found.soonest);
     if !checks_heartbeats(state_at(head)) {
-        return tick_still(head, queue, history, time, found.soonest);
+        return tick_still(head, queue, history, time, soonest);
     }
     let now = Time::try_from(time)?;
     if !found.after {
@@ -89,6 +89,6 @@ pub fn process_tick(
     }
     let dealt = phases(head, queue, history, found.beats, now);
     settle(nodes, number, Setting::Looked(time));
-    set_earliest(head, moment(found.soonest));
+    set_earliest(head, soonest);
     Ok(dealt.logged)
 }

@@ -13,7 +13,9 @@ use lib.ListN.{length, set}
 use Rattle.types.specs.declared.refusals.Refusal.{Refusal}
 use Rattle.types.specs.declared.refusals.Refusal.TheVariants.{WatchedNodes, TimeLimit, NotWatched}
 use Rattle.std.specs.declared.result.Result.{Result}
+use Rattle.std.specs.Bool.{then_some}
 use Rattle.std.specs.declared.option.Option.{Option}
+use Rattle.std.specs.declared.option.Option.TheVariants.{Some, None}
 use Rattle.std.specs.declared.result.Result.TheVariants.{Ok, Err}
 use Rattle.head.specs.Written.{earliest_written}
 use Rattle.watched.specs.declared.nodes.WatchedNode.{WatchedNode}
@@ -22,12 +24,27 @@ use Rattle.node.specs.Plain.{Plain, heard}
 use Rattle.node.specs.Steps.{declines, leaves, earliest}
 use Rattle.node.specs.Run.{step}
 use Rattle.watched.proofs.Lists.{watched_there, watched_nowhere, heard_stored, heard_nodes, few}
-use Rattle.watched.specs.Nodes.{never, nodes_of, soonest}
+use Rattle.watched.specs.Nodes.{never, nodes_of, soonest, moment_of}
 use Rattle.watched.proofs.Watching.{places, lent_words, heard_written}
-use Rattle.node.specs.InPlace.{moment_of}
 use Rattle.node.specs.Heard.{heard_answer, HeardOn, Heard}
 use Rattle.node.proofs.Moments.{moment_of_lem, all_fit, heard_fits}
 use Rattle.node.proofs.OnRuns.{run_declined, run_taken}
+
+-- what was found of the nodes: whether they pass number 3, and then whether a node is among them
+module _ (a : Option Bool) (f w : Bool) (e : a ≡ then_some f w) where
+  pub found_none : a ≡ None → f ≡ false
+  found_none h = by f (sym h ∙ e)
+    where
+      by : (f : Bool) → None ≡ then_some f w → f ≡ false
+      by true x = cc
+      by false x = refl
+
+  pub found_some : (x : Bool) → a ≡ Some x → (f ≡ true) × (w ≡ x)
+  found_some y h = by f (sym h ∙ e)
+    where
+      by : (f : Bool) → Some y ≡ then_some f w → (f ≡ true) × (w ≡ y)
+      by true x = (refl, cc)
+      by false x = (cc, cc)
 
 -- heard, by what its tests say, on a run in whatever form
 module _ (ws : List ℕ) (r : Run) (n t : ℕ) (f w : Bool) (e : f ≡ well_lent r) (d : w ≡ is_watched n (watching r)) where
@@ -107,17 +124,16 @@ module _ (ws ns : List ℕ) (k n t : ℕ) where
 
     pub there :
         r ≡ (Ok tt) → length ws ≡ 60 → length ns ≡ 96 → (ns' : List ℕ) → ns' ≡ set ns (3 * p + 2) t →
-        (s : ℕ) → s ≡ soonest never (heard_at n t vs) → (m : Option ℕ) → m ≡ moment_of s →
+        (m : Option ℕ) → m ≡ moment_of (soonest never (heard_at n t vs)) →
         (ws' : List ℕ) → ws' ≡ earliest_written ws m → Left (Ok tt) ws' ns'
-    there g long places-long ns' s u v m y ws' o =
+    there g long places-long ns' s m y ws' o =
         let c = inside g in
         let i : in_time t ≡ true = (taken_passed ws lent_run n t true w lent among (sym g ∙ x)).1 in
         let stored = ap nodes_of s ∙ heard_written ns places-long p (omega (arith, c, below)) t ∙ heard_stored (nodes_of ns) k (places ns) below n t p e no_node c in
         let left : watched_of (nodes_of ns') k ≡ heard_at n t vs =
         ap (λ (l : List WatchedNode). watched_of l k) stored ∙ heard_nodes (nodes_of ns) k (places ns) below n t in
         let moment : m ≡ earliest (watched_of (nodes_of ns') k) =
-        y ∙ ap moment_of v
-        ∙ moment_of_lem (heard_at n t vs) (heard_fits n t vs i (all_fit vs a)) ∙ ap earliest (sym left) in
+        y ∙ moment_of_lem (heard_at n t vs) (heard_fits n t vs i (all_fit vs a)) ∙ ap earliest (sym left) in
         record {
           on =
               heard_taken ws lent_run n t true w lent among (sym g ∙ x) long (run (nodes_of ns') k) (ap (λ (l : List WatchedNode). run l k) stored)

@@ -15,10 +15,9 @@ use Rattle.std.specs.declared.option.Option.{Option}
 use Rattle.std.specs.declared.option.Option.TheVariants.{Some, None}
 use Rattle.watched.specs.declared.nodes.WatchedNode.{WatchedNode}
 use Rattle.watched.specs.Watched.{latest, in_time, all_of, ascending, fits, well_formed, heard_now, heard_at}
-use Rattle.watched.specs.Nodes.{never, sooner_by, soonest}
+use Rattle.watched.specs.Nodes.{never, sooner_by, soonest, moment_of}
 use Rattle.watched.proofs.Watching.{times_fit}
 use Rattle.node.specs.Steps.{late_from, smaller, earliest}
-use Rattle.node.specs.InPlace.{moment_of}
 
 smaller_then : (a b c : Option ℕ) → smaller (smaller a b) c ≡ smaller a (smaller b c)
 smaller_then None b c = refl

@@ -1,6 +1,6 @@
 -- What a call on a head in words has to leave: the one predicate of their contracts, what each answers, and every word that it leaves.
 -- Assumes nothing.
-use Rattle.std.specs.Prelude.{ℤ, ℕ, ◌≡◌, Bool, List, eqb, set}
+use Rattle.std.specs.Prelude.{ℤ, ℕ, ◌≡◌, Bool, List, set}
 use Rattle.types.specs.Pick.{pick}
 use Rattle.types.specs.States.{same_state}
 use Rattle.types.specs.Errors.{reported}
@@ -8,9 +8,7 @@ use Rattle.types.specs.Refusals.{refusal_number}
 use Rattle.types.specs.declared.nmt.states.NmtState.TheVariants.{NmtReadyToOperate}
 use Rattle.types.specs.declared.nmt.events.NmtEvent.{NmtEvent}
 use Rattle.std.specs.declared.result.Result.{Result}
-use Rattle.std.specs.declared.option.Option.{Option}
 use Rattle.std.specs.declared.result.Result.TheVariants.{Ok, Err}
-use Rattle.std.specs.declared.option.Option.TheVariants.{Some, None}
 use Rattle.types.specs.declared.refusals.Refusal.{Refusal}
 use Rattle.types.specs.declared.frame.cs_state_machine.DllCsEvent.{DllCsEvent}
 use Rattle.types.specs.declared.frame.error.types.DllError.{DllError}
@@ -23,7 +21,6 @@ use Rattle.counters.specs.Counters as Counters
 use Rattle.entries.specs.Queue.{handed_out}
 use Rattle.node.specs.Plain.{Call, Answer, refused, taken, nmt_answer, dll_answer, error_answer, range_answer, margin_answer}
 use Rattle.watched.specs.Watched.{in_time, Run, watching}
-use Rattle.watched.specs.Nodes.{never}
 use Rattle.node.specs.Steps.{no_run, earliest, armed}
 use Rattle.node.specs.Refines.{Refines, SamePlaces, left}
 use Rattle.node.specs.declared.calls.NmtTaken.{NmtTaken}
@@ -86,10 +83,6 @@ pub record OnRun (ws : List ℕ) (c : Call) (a : Result (Unit {0}) Refusal) (ws'
   pub refines : (q m : List ℕ) → Refines (head_of ws) q m c (left (head_of ws') (said a)) q m r
   pub places : SamePlaces (head_of ws) (head_of ws')
   pub words : ws' ≡ unless_refused a ws (earliest_written ws (earliest (watching r)))
-
--- the moment that a walk's number stands for
-abbrev pub moment_of : ℕ → Option ℕ
-moment_of n = pick (eqb n never) None (Some n)
 
 -- the words after each call
 abbrev pub withdraw_words : List ℕ → List ℕ

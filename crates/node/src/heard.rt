@@ -1,39 +1,21 @@
 // Heard: the last-heard time of one watched node, and the earliest moment at which one would be late.
-ghost use Rattle.std.specs.Prelude.{◌≡◌, ◌+◌, ◌*◌, ◌<◌, set};
-ghost use Rattle.node.specs.InPlace.{moment_of};
+ghost use Rattle.std.specs.Prelude.{◌≡◌, Bool};
+ghost use Rattle.std.specs.Bool.{then_some};
 ghost use Rattle.node.specs.Heard.{heard_answer, Heard};
 
 use head::parts::set_earliest;
 use head::state::Head;
 use types::refusals::Refusal;
-use watched::nodes::{NEVER, NodeWords, find};
+use watched::nodes::{NodeWords, find, set_heard};
 use watched::time::in_time;
 
-// The moment that a walk found.
-pub fn moment(soonest: u64) -> Option<u64>
-    ensures { result ≡ moment_of soonest }
+// Numbers 3, 5 and 7, by what was found of the watched nodes: whether the node is among them, where they pass number 3.
+pub fn try_heard(watched: Option<bool>, time: u64) -> Result<(), Refusal>
+    ensures { (formed among : Bool) → watched ≡ then_some formed among → result ≡ heard_answer formed time among }
 {
-    if soonest == NEVER {
-        return None;
-    }
-    Some(soonest)
-}
-
-// The time of the node at a place is set.
-fn set_heard(nodes: &mut NodeWords, place: usize, time: u64)
-    requires { place < 32 }
-    ensures { nodes.new ≡ set nodes.old (3 * place + 2) time }
-{
-    nodes[3 * place + 2] = time;
-}
-
-// Numbers 3, 5 and 7, by what was found of the watched nodes: whether they pass number 3, and whether the node is among them.
-pub fn try_heard(formed: bool, time: u64, watched: bool) -> Result<(), Refusal>
-    ensures { result ≡ heard_answer formed time watched }
-{
-    if !formed {
+    let Some(watched) = watched else {
         return Err(Refusal::WatchedNodes);
-    }
+    };
     if !in_time(time) {
         return Err(Refusal::TimeLimit);
     }
@@ -56,8 +38,8 @@ pub fn heard(
     let Some((place, soonest)) = find(nodes, count, node as u64, time) else {
         return Err(Refusal::WatchedNodes);
     };
-    try_heard(true, time, place < count)?;
+    try_heard(Some(place < count), time)?;
     set_heard(nodes, place, time);
-    set_earliest(head, moment(soonest));
+    set_earliest(head, soonest);
     Ok(())
 }

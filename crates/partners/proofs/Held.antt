@@ -14,10 +14,9 @@ use Rattle.std.specs.declared.option.Option.{Option}
 use Rattle.std.specs.declared.option.Option.TheVariants.{Some, None}
 use Rattle.watched.specs.declared.nodes.WatchedNode.{WatchedNode}
 use Rattle.watched.specs.Watched.{well_formed, no_node, watched_node, is_watched, heard_now, heard_at, Run, watching, well_lent, inserted, without, holding}
-use Rattle.watched.specs.Nodes.{never, soonest}
+use Rattle.watched.specs.Nodes.{never, soonest, moment_of}
 use Rattle.watched.proofs.Lists.{watched_take}
 use Rattle.node.specs.Steps.{late_from, smaller, earliest, added, removed}
-use Rattle.node.specs.InPlace.{moment_of}
 use Rattle.node.proofs.Moments.{moment_of_lem, all_fit, heard_fits}
 
 pub held : (ws : List WatchedNode) → watching (holding ws) ≡ ws

@@ -19,11 +19,11 @@ use Rattle.types.specs.declared.refusals.Refusal.TheVariants.{NodeNumber, Watche
 use Rattle.head.specs.Written.{earliest_written}
 use Rattle.watched.specs.declared.nodes.WatchedNode.{WatchedNode}
 use Rattle.watched.specs.Watched.{well_formed, is_watched, heard_at, place_of, watched_node, watched_of, Run, run, watching, well_lent}
-use Rattle.watched.specs.Nodes.{never, nodes_of, soonest}
+use Rattle.watched.specs.Nodes.{never, nodes_of, soonest, moment_of}
 use Rattle.watched.proofs.Lists.{watched_there, watched_nowhere}
 use Rattle.watched.proofs.Watching.{places, few, lent_words}
 use Rattle.node.specs.Steps.{earliest, added}
-use Rattle.node.specs.InPlace.{moment_of, unless_refused}
+use Rattle.node.specs.InPlace.{unless_refused}
 use Rattle.partners.specs.Partners.{add_answer, remove_answer, words_of, Added, Removed}
 use Rattle.partners.specs.Walks.{carried, closed}
 use Rattle.partners.proofs.Left.{add_left, remove_left}
@@ -90,15 +90,15 @@ module _ (ws ns : List ℕ) (k n : ℕ) where
 
       pub add_taken :
           c ≡ (Ok tt) → length ws ≡ 60 → (ns' : List ℕ) → nodes_of ns' ≡ carried k (watched_node n o 0) ps → length ns' ≡ 96 →
-          (s : ℕ) → s ≡ soonest never (heard_at n 0 vs) → (m : Option ℕ) → m ≡ moment_of s →
+          (m : Option ℕ) → m ≡ moment_of (soonest never (heard_at n 0 vs)) →
           (ws' : List ℕ) → ws' ≡ earliest_written ws m → Added ws ns k n o (Ok tt) ws' ns' (k + 1)
-      add_taken g long ns' u all s h m y ws' q =
+      add_taken g long ns' u all m y ws' q =
           let left = add_left ps k n (places ns) f o (add_room g) (nodes_of ns') u in
           let none : is_watched n vs ≡ false = sym among ∙ (Adding.add_passed v true o w k (sym g ∙ x)).3 in
           record {
             on =
                 Adding.add_taken ws r n o v a true w (sym lent) among (sym g ∙ x) long (run (nodes_of ns') (k + 1)) left m
-                (y ∙ ap moment_of h ∙ added_moment r n lent o none ∙ ap (λ (r : Run). earliest (watching r)) (sym left)) ws' q;
+                (y ∙ added_moment r n lent o none ∙ ap (λ (r : Run). earliest (watching r)) (sym left)) ws' q;
             nodes = words_of_lem ns' all ∙ ap (λ (r : Run). words_of r.places) left;
           }
 
@@ -112,13 +112,13 @@ module _ (ws ns : List ℕ) (k n : ℕ) where
 
       pub remove_taken :
           c ≡ (Ok tt) → length ws ≡ 60 → (ns' : List ℕ) → nodes_of ns' ≡ take p ps ++ closed (k - p) (drop p ps) → length ns' ≡ 96 →
-          (s : ℕ) → s ≡ soonest never (heard_at n 0 vs) → (m : Option ℕ) → m ≡ moment_of s →
+          (m : Option ℕ) → m ≡ moment_of (soonest never (heard_at n 0 vs)) →
           (ws' : List ℕ) → ws' ≡ earliest_written ws m → Removed ws ns k n (Ok tt) ws' ns' (k - 1)
-      remove_taken g long ns' u all s h m y ws' q =
+      remove_taken g long ns' u all m y ws' q =
           let left = remove_left ps k n (places ns) f p e (remove_inside g).0 (nodes_of ns') u in
           record {
             on =
                 Removing.remove_taken ws r n true w (sym lent) among (sym g ∙ x) long (run (nodes_of ns') (k - 1)) left m
-                (y ∙ ap moment_of h ∙ removed_moment r n lent ∙ ap (λ (r : Run). earliest (watching r)) (sym left)) ws' q;
+                (y ∙ removed_moment r n lent ∙ ap (λ (r : Run). earliest (watching r)) (sym left)) ws' q;
             nodes = words_of_lem ns' all ∙ ap (λ (r : Run). words_of r.places) left;
           }

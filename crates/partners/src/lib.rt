@@ -2,7 +2,8 @@
 // are lent, three words each, with the number of the first ones that are watched.
 #![tactic(auto)]
 
-ghost use Rattle.std.specs.Prelude.{◌≡◌, ◌++◌, ◌-◌, ◌≤◌, ◌<◌, take, drop};
+ghost use Rattle.std.specs.Prelude.{◌≡◌, ◌++◌, ◌-◌, ◌≤◌, ◌<◌, Bool, take, drop};
+ghost use Rattle.std.specs.Bool.{then_some};
 ghost use Rattle.types.specs.Types.{is_node};
 ghost use Rattle.watched.specs.Nodes.{node_of, nodes_of};
 ghost use Rattle.partners.specs.Walks.{carried, closed};
@@ -10,19 +11,11 @@ ghost use Rattle.partners.specs.Partners.{add_answer, remove_answer, Added, Remo
 
 use head::parts::set_earliest;
 use head::state::Head;
-use node::heard::moment;
 use types::refusals::Refusal;
 use types::types::NodeId;
 use watched::nodes::{NodeWords, find};
 use watched::record::NodeRecord;
 use watched::time::in_time;
-
-// What a place past the watched nodes holds.
-const NO_NODE: NodeRecord = NodeRecord {
-    node: 0,
-    timeout: 0,
-    last_heard: 0,
-};
 
 // A node takes its place: those above it move up by one, and the places past them are cleared.
 fn insert(nodes: &mut NodeWords, count: usize, node: NodeRecord)
@@ -33,7 +26,7 @@ fn insert(nodes: &mut NodeWords, count: usize, node: NodeRecord)
         let next = NodeRecord::at(nodes, i);
         if count <= i {
             carried.put(nodes, i);
-            carried = NO_NODE;
+            carried = NodeRecord::NONE;
         } else if carried.node < next.node {
             carried.put(nodes, i);
             carried = next;
@@ -51,7 +44,7 @@ fn close(nodes: &mut NodeWords, count: usize, place: usize)
         let next = if here < last {
             NodeRecord::at(nodes, here + 1)
         } else {
-            NO_NODE
+            NodeRecord::NONE
         };
         next.put(nodes, here);
     }
@@ -64,22 +57,21 @@ pub fn is_known(node: u8) -> bool
     NodeId::try_from(node).is_ok()
 }
 
-// Numbers 1, 3, 10 and 9, by what was found: whether a node has the number, whether the watched nodes pass number 3, and whether the node is among them.
+// Numbers 1, 3, 10 and 9, by what was found: whether a node has the number, and whether the node is among the watched ones, where they pass number 3.
 pub fn try_add(
     known: bool,
-    formed: bool,
+    watched: Option<bool>,
     timeout: u64,
-    watched: bool,
     number: usize,
 ) -> Result<(), Refusal>
-    ensures { result ≡ add_answer known formed timeout watched number }
+    ensures { (formed among : Bool) → watched ≡ then_some formed among → result ≡ add_answer known formed timeout among number }
 {
     if !known {
         return Err(Refusal::NodeNumber);
     }
-    if !formed {
+    let Some(watched) = watched else {
         return Err(Refusal::WatchedNodes);
-    }
+    };
     if !in_time(timeout) {
         return Err(Refusal::WatchedNodes);
     }
@@ -93,12 +85,12 @@ pub fn try_add(
 }
 
 // Numbers 3 and 7.
-pub fn try_remove(formed: bool, watched: bool) -> Result<(), Refusal>
-    ensures { result ≡ remove_answer formed watched }
+pub fn try_remove(watched: Option<bool>) -> Result<(), Refusal>
+    ensures { (formed among : Bool) → watched ≡ then_some formed among → result ≡ remove_answer formed among }
 {
-    if !formed {
+    let Some(watched) = watched else {
         return Err(Refusal::WatchedNodes);
-    }
+    };
     if !watched {
         return Err(Refusal::NotWatched);
     }
@@ -118,9 +110,9 @@ pub fn add(
     let number = *count;
     let known = is_known(node);
     let Some((place, soonest)) = find(nodes, number, node as u64, 0) else {
-        return try_add(known, false, timeout, false, number);
+        return try_add(known, None, timeout, number);
     };
-    try_add(known, true, timeout, place < number, number)?;
+    try_add(known, Some(place < number), timeout, number)?;
     let added = NodeRecord {
         node: node as u64,
         timeout,
@@ -128,7 +120,7 @@ pub fn add(
     };
     insert(nodes, number, added);
     *count = number + 1;
-    set_earliest(head, moment(soonest));
+    set_earliest(head, soonest);
     Ok(())
 }
 
@@ -143,11 +135,11 @@ pub fn remove(
 {
     let number = *count;
     let Some((place, soonest)) = find(nodes, number, node as u64, 0) else {
-        return try_remove(false, false);
+        return try_remove(None);
     };
-    try_remove(true, place < number)?;
+    try_remove(Some(place < number))?;
     close(nodes, number, place);
     *count = number - 1;
-    set_earliest(head, moment(soonest));
+    set_earliest(head, soonest);
     Ok(())
 }

@@ -12,7 +12,7 @@ use nmt::cn_state_machine::CnNmtStateMachine;
 use types::nmt::flags::FeatureFlags;
 use types::refusals::Refusal;
 use types::types::NodeId;
-use watched::nodes::{NodeWords, well_formed};
+use watched::nodes::{NodeWords, set_heard, well_formed};
 
 // What a fresh head is made from.
 #[derive(Clone, Copy, PartialEq, Eq)]
@@ -48,7 +48,7 @@ fn unheard(nodes: &mut NodeWords, count: usize)
     ensures { (nodes.new ≡ unheard_words count nodes.old) × (nodes_of nodes.new ≡ unheard_first count (nodes_of nodes.old)) }
 {
     for i in 0..count {
-        nodes[3 * i + 2] = 0;
+        set_heard(nodes, i, 0);
     }
 }
 

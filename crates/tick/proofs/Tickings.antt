@@ -11,7 +11,9 @@ use Rattle.types.specs.Pick.{pick}
 use Rattle.types.specs.Errors.{reported}
 use Rattle.types.proofs.Tests.{both_second}
 use Rattle.std.specs.declared.result.Result.{Result}
+use Rattle.std.specs.Option.{ok_or}
 use Rattle.std.specs.declared.option.Option.{Option}
+use Rattle.std.specs.declared.option.Option.TheVariants.{Some, None}
 use Rattle.std.specs.declared.result.Result.TheVariants.{Ok, Err}
 use Rattle.types.specs.declared.frame.error.types.DllErrors.{DllErrors}
 use Rattle.types.specs.declared.refusals.Refusal.{Refusal}
@@ -20,7 +22,6 @@ use Rattle.head.specs.Written.{earliest_written}
 use Rattle.head.proofs.Laws.{earliest_written_lem}
 use Rattle.node.specs.Plain.{tick_answer}
 use Rattle.node.specs.Steps.{earliest}
-use Rattle.node.specs.InPlace.{moment_of}
 use Rattle.node.proofs.Moments.{moment_of_lem, all_fit}
 use Rattle.types.specs.declared.refusals.Refusal.TheVariants.{WatchedNodes, TimeLimit, BeforeHeard}
 use Rattle.watched.specs.declared.nodes.WatchedNode.{WatchedNode}
@@ -31,7 +32,7 @@ use Rattle.heartbeats.specs.Parts.{looked_first}
 use Rattle.watched.proofs.Lists.{each_nodes}
 use Rattle.tick.proofs.TickRefines.{tick_idle, tick_ended, tick_goes_on, TickLeft, tick_unformed, tick_late, tick_before, tick_accepted}
 use Rattle.head.specs.Words.{nmt_of, soc_of, head_of}
-use Rattle.watched.specs.Nodes.{nodes_of, rests, not_before, never, soonest}
+use Rattle.watched.specs.Nodes.{nodes_of, rests, not_before, never, soonest, moment_of}
 use Rattle.types.specs.declared.nmt.states.NmtState.{NmtState}
 use Rattle.watched.specs.declared.nodes.Seen.{Seen}
 use Rattle.watched.specs.declared.nodes.Seen.TheVariants as seen
@@ -43,6 +44,22 @@ use Rattle.heartbeats.specs.PartsIn.{dealt_of, TicksIn}
 use Rattle.tick.specs.TickIn.{is_still, roused_of, tick_leaves, TickedOn, TickedIn, StillTicks}
 use Rattle.heartbeats.proofs.Beatings.{all_looked_fit, rest_before, rest_late, rest_words_lem, rest_run}
 use Rattle.tick.proofs.Passings.{on}
+
+-- what a first look that saw something says, and one that saw nothing
+module _ (a : Option Seen) (y : Result Seen Refusal) (e : y ≡ ok_or a WatchedNodes) where
+  pub told : (x : Seen) → y ≡ Ok x → a ≡ Some x
+  told x h = by a (sym h ∙ e)
+    where
+      by : (a : Option Seen) → Ok x ≡ ok_or a WatchedNodes → a ≡ Some x
+      by (Some z) f = cc
+      by None f = cc
+
+  pub untold : (r : Refusal) → y ≡ Err r → (a ≡ None) × (r ≡ WatchedNodes)
+  untold r h = by a (sym h ∙ e)
+    where
+      by : (a : Option Seen) → Err r ≡ ok_or a WatchedNodes → (a ≡ None) × (r ≡ WatchedNodes)
+      by (Some z) f = (cc, cc)
+      by None f = (refl, cc)
 
 -- the phases
 module _ (ws q m : List ℕ) (t : ℕ) (vs : List WatchedNode) where
@@ -164,19 +181,19 @@ module _ (ws q m : List ℕ) (r : Run) (t : ℕ) where
           record { refines = y.0; rings = y.1; words = w ∙ (λ i. earliest_written (h.words i) (e i)) }
 
 -- where no node asks for anything
-module _ (ws q m : List ℕ) (t s : ℕ) where
+module _ (ws q m : List ℕ) (t : ℕ) (s : Option ℕ) where
   pub still_late : in_time t ≡ false → StillTicks ws q m t s (Err TimeLimit) ws q m
   still_late b r a h e = run_late ws q m r t a b
 
   pub still_accepted :
       in_time t ≡ true → (d : Dealt) (ws₁ q' m' : List ℕ) →
       TicksIn ws q m (by_deadline (plain (head_of ws) q m) t (soc_of ws).next_tick_us) d ws₁ q' m' (rest_words ws q m t) →
-      length ws₁ ≡ 60 → (x : Option ℕ) → x ≡ moment_of s → (ws' : List ℕ) → ws' ≡ earliest_written ws₁ x → StillTicks ws q m t s (Ok d.logged) ws' q' m'
-  still_accepted b d ws₁ q' m' k long x y ws' w r a h e =
+      length ws₁ ≡ 60 → (ws' : List ℕ) → ws' ≡ earliest_written ws₁ s → StillTicks ws q m t s (Ok d.logged) ws' q' m'
+  still_accepted b d ws₁ q' m' k long ws' w r a h e =
       let f : well_formed (watching r) ≡ true = both_second (eqb (length r.places) 32) (well_formed (watching r)) a in
       run_accepted ws q m r t a b (still_times ws q m t (watching r) h) d ws₁ q' m' (still_phases ws q m t (watching r) h d ws₁ q' m' k) long r
       (still_choice ws q m t (watching r) h (changing (map (looked t)) r) r (λ z. sym (rest_run t r (lent_inside r a) z)))
-      x (y ∙ ap moment_of e ∙ moment_of_lem (watching r) (all_fit (watching r) f)) ws' w
+      s (e ∙ moment_of_lem (watching r) (all_fit (watching r) f)) ws' w
 
 -- the nodes in words
 module _ (ws q m ns : List ℕ) (k t : ℕ) where
@@ -187,21 +204,21 @@ module _ (ws q m ns : List ℕ) (k t : ℕ) where
   lent_run = run (nodes_of ns) k
 
   -- what the first look answers
-  module _ (c : Bool) (s : NmtState) (e : c ≡ checks_heartbeats s) (f : s ≡ (nmt_of ws).current_state) (a : Seen) (g : a ≡ roused_of c t vs) where
+  module _ (c : Bool) (s : NmtState) (e : c ≡ checks_heartbeats s) (f : s ≡ (nmt_of ws).current_state) (a : Option Seen) (g : a ≡ roused_of c t vs) where
     same_checks : c ≡ checks_heartbeats (nmt_of ws).current_state
     same_checks = e ∙ ap checks_heartbeats f
 
-    pub unformed : a ≡ seen.Unformed → TickedIn ws q m ns k t (Err WatchedNodes) ws q m ns
+    pub unformed : a ≡ None → TickedIn ws q m ns k t (Err WatchedNodes) ws q m ns
     unformed h =
         record {
-          on = run_unformed ws q m lent_run t (lent_words ns k ∙ seen_unformed (well_formed vs) (is_still c t vs) (all_of (not_before t) vs) (soonest never vs) a g h);
+          on = run_unformed ws q m lent_run t (lent_words ns k ∙ seen_unformed (well_formed vs) (is_still c t vs) (all_of (not_before t) vs) (moment_of (soonest never vs)) a g h);
           nodes = refl;
         }
 
     pub is_roused :
-        (y : Bool) → a ≡ seen.Roused y → (well_formed vs ≡ true) × (checks_heartbeats (nmt_of ws).current_state ≡ true) × (y ≡ all_of (not_before t) vs)
+        (y : Bool) → a ≡ Some (seen.Roused y) → (well_formed vs ≡ true) × (checks_heartbeats (nmt_of ws).current_state ≡ true) × (y ≡ all_of (not_before t) vs)
     is_roused y h =
-        let x = seen_roused (well_formed vs) (is_still c t vs) (all_of (not_before t) vs) (soonest never vs) a g y h in
+        let x = seen_roused (well_formed vs) (is_still c t vs) (all_of (not_before t) vs) (moment_of (soonest never vs)) a g y h in
         (x.0, sym same_checks ∙ by c x.1, x.2)
       where
         by : (c : Bool) → is_still c t vs ≡ false → c ≡ true
@@ -209,10 +226,10 @@ module _ (ws q m ns : List ℕ) (k t : ℕ) where
         by false z = absurd (true≢false z)
 
     pub is_still_lem :
-        (x : ℕ) → a ≡ seen.Resting x → (z : Result DllErrors Refusal) (ws' q' m' : List ℕ) → StillTicks ws q m t x z ws' q' m' →
+        (x : Option ℕ) → a ≡ Some (seen.Resting x) → (z : Result DllErrors Refusal) (ws' q' m' : List ℕ) → StillTicks ws q m t x z ws' q' m' →
         TickedIn ws q m ns k t z ws' q' m' ns
     is_still_lem x h z ws' q' m' y =
-        let o = seen_resting (well_formed vs) (is_still c t vs) (all_of (not_before t) vs) (soonest never vs) a g x h in
+        let o = seen_resting (well_formed vs) (is_still c t vs) (all_of (not_before t) vs) (moment_of (soonest never vs)) a g x h in
         let still : is_still (checks_heartbeats (nmt_of ws).current_state) t vs ≡ true =
         ap (λ (c : Bool). is_still c t vs) (sym same_checks) ∙ o.1 in
         record { on = y lent_run (lent_words ns k ∙ o.0) still o.2; nodes = stay z still (few ns k o.0) }
@@ -242,16 +259,16 @@ module _ (ws q m ns : List ℕ) (k t : ℕ) where
           (d : Dealt) (ws₁ q' m' : List ℕ) →
           TicksIn ws q m (tick_taken (plain (head_of ws) q m) t vs) d ws₁ q' m' (tick_words ws q m t vs) →
           length ws₁ ≡ 60 →
-          (ns' : List ℕ) (s : ℕ) →
-          (ns' ≡ looked_words t k ns) × (nodes_of ns' ≡ looked_first t k (nodes_of ns)) × (s ≡ soonest never (map (looked t) vs)) →
-          (x : Option ℕ) → x ≡ moment_of s → (ws' : List ℕ) → ws' ≡ earliest_written ws₁ x →
+          (ns' : List ℕ) (x : Option ℕ) →
+          (ns' ≡ looked_words t k ns) × (nodes_of ns' ≡ looked_first t k (nodes_of ns)) × (x ≡ moment_of (soonest never (map (looked t) vs))) →
+          (ws' : List ℕ) → ws' ≡ earliest_written ws₁ x →
           TickedIn ws q m ns k t (Ok d.logged) ws' q' m' ns'
-      accepted f d ws₁ q' m' h long ns' s l x y ws' w =
+      accepted f d ws₁ q' m' h long ns' x l ws' w =
           let below : k ≤ 32 = few ns k a in
           let left : watched_of (nodes_of ns') k ≡ map (looked t) vs =
           ap (λ (l : List WatchedNode). watched_of l k) l.1 ∙ each_nodes (nodes_of ns) k (places ns) below (looked t) in
           let moment : x ≡ earliest (watched_of (nodes_of ns') k) =
-          y ∙ ap moment_of l.2 ∙ moment_of_lem (map (looked t) vs) (all_looked_fit t vs b (all_fit vs a)) ∙ ap earliest (sym left) in
+          l.2 ∙ moment_of_lem (map (looked t) vs) (all_looked_fit t vs b (all_fit vs a)) ∙ ap earliest (sym left) in
           record {
             on =
                 run_accepted ws q m lent_run t lent b (checked (all_of (not_before t) vs) true ∙ f) d ws₁ q' m' h long (run (nodes_of ns') k)

@@ -13,11 +13,13 @@ use Rattle.node.specs.InPlace.{answered}
 use Rattle.node.specs.Refines.{plain, left, rings, joins_all, Refines}
 use Rattle.tick.specs.Ticks.{Loses}
 use Rattle.head.specs.Words.{nmt_of, head_of}
-use Rattle.watched.specs.Nodes.{nodes_of, rests, not_before, never, soonest}
+use Rattle.watched.specs.Nodes.{nodes_of, rests, not_before, never, soonest, moment_of}
 use Rattle.head.specs.Written.{earliest_written}
 use Rattle.watched.specs.declared.nodes.WatchedNode.{WatchedNode}
 use Rattle.watched.specs.declared.nodes.Seen.{Seen}
 use Rattle.watched.specs.declared.nodes.Seen.TheVariants as seen
+use Rattle.std.specs.declared.option.Option.{Option}
+use Rattle.std.specs.declared.option.Option.TheVariants.{Some, None}
 use Rattle.std.specs.declared.result.Result.{Result}
 use Rattle.std.specs.declared.result.Result.TheVariants.{Ok, Err}
 use Rattle.types.specs.declared.refusals.Refusal.{Refusal}
@@ -33,11 +35,11 @@ abbrev pub is_still : Bool → ℕ → List WatchedNode → Bool
 is_still c t vs = pick c (all_of (rests t) vs) true
 
 -- number 3; and of nodes that pass it, whether one asks for something, and then whether they pass number 6
-abbrev pub roused_of : Bool → ℕ → List WatchedNode → Seen
+abbrev pub roused_of : Bool → ℕ → List WatchedNode → Option Seen
 roused_of c t vs =
     pick (well_formed vs)
-    (pick (is_still c t vs) (seen.Resting (soonest never vs)) (seen.Roused (all_of (not_before t) vs)))
-    seen.Unformed
+    (Some (pick (is_still c t vs) (seen.Resting (moment_of (soonest never vs))) (seen.Roused (all_of (not_before t) vs))))
+    None
 
 -- what a tick answers
 abbrev pub tick_says : DllErrors → Answer
@@ -65,7 +67,7 @@ pub record TickedIn (ws q m ns : List ℕ) (k t : ℕ) (a : Result DllErrors Ref
   pub nodes : ns' ≡ tick_leaves a ns (pick (checks_heartbeats (nmt_of ws).current_state) (looked_words t k ns) ns)
 
 -- Of a tick at which no node asks for anything, where s is the soonest moment at which one would be late: any run stays as it is.
-abbrev pub StillTicks : List ℕ → List ℕ → List ℕ → ℕ → ℕ → Result DllErrors Refusal → List ℕ → List ℕ → List ℕ → Type 0
+abbrev pub StillTicks : List ℕ → List ℕ → List ℕ → ℕ → Option ℕ → Result DllErrors Refusal → List ℕ → List ℕ → List ℕ → Type 0
 StillTicks ws q m t s a ws' q' m' =
-    (r : Run) → well_lent r ≡ true → is_still (checks_heartbeats (nmt_of ws).current_state) t (watching r) ≡ true → s ≡ soonest never (watching r) →
+    (r : Run) → well_lent r ≡ true → is_still (checks_heartbeats (nmt_of ws).current_state) t (watching r) ≡ true → s ≡ moment_of (soonest never (watching r)) →
     TickedOn ws q m r t a ws' q' m' r

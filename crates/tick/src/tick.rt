@@ -16,7 +16,6 @@ use head::parts::{set_earliest, state_at};
 use head::state::Head;
 use heartbeats::dealt::Dealt;
 use heartbeats::heartbeats::{beat_all, look_all};
-use node::heard::moment;
 use types::frame::error::types::DllErrors;
 use types::nmt::states::NmtState;
 use types::refusals::Refusal;
@@ -31,16 +30,13 @@ pub fn checks_heartbeats(state: NmtState) -> bool
 }
 
 // Number 3, and whether some node asks for something: where heartbeats are not checked, none does.
-fn roused(checks: bool, nodes: &NodeWords, count: usize, time: u64) -> Seen
+fn roused(checks: bool, nodes: &NodeWords, count: usize, time: u64) -> Option<Seen>
     ensures { result ≡ roused_of checks time (watched_of (nodes_of nodes.now) count) }
 {
     if checks {
         return look(nodes, count, time);
     }
-    match try_nodes(nodes, count) {
-        Some(soonest) => Seen::Resting(soonest),
-        None => Seen::Unformed,
-    }
+    Some(Seen::Resting(try_nodes(nodes, count)?))
 }
 
 // The heartbeats, and what follows where no crossing ended the tick.
@@ -82,7 +78,7 @@ fn tick_roused(
     }
     let dealt = phases(head, queue, history, Formed { nodes, count }, time);
     let soonest = look_all(nodes, count, time.us);
-    set_earliest(head, moment(soonest));
+    set_earliest(head, soonest);
     Ok(dealt.logged)
 }
 
@@ -92,13 +88,13 @@ pub fn tick_still(
     queue: &mut [u8; 640],
     history: &mut [u8; 5080],
     time: u64,
-    late: u64,
+    late: Option<u64>,
 ) -> Result<DllErrors, Refusal>
     ensures { StillTicks head.old queue.old history.old time late result head.new queue.new history.new }
 {
     let time = Time::try_from(time)?;
     let dealt = by_deadline(head, queue, history, time);
-    set_earliest(head, moment(late));
+    set_earliest(head, late);
     Ok(dealt.logged)
 }
 
@@ -113,9 +109,9 @@ pub fn process_tick(
 ) -> Result<DllErrors, Refusal>
     ensures { TickedIn head.old queue.old history.old nodes.old count time result head.new queue.new history.new nodes.new }
 {
-    match roused(checks_heartbeats(state_at(head)), nodes, count, time) {
+    let seen = roused(checks_heartbeats(state_at(head)), nodes, count, time);
+    match seen.ok_or(Refusal::WatchedNodes)? {
         Seen::Roused(heard) => tick_roused(head, queue, history, nodes, count, time, heard),
         Seen::Resting(soonest) => tick_still(head, queue, history, time, soonest),
-        Seen::Unformed => Err(Refusal::WatchedNodes),
     }
 }

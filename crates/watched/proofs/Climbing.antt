@@ -12,8 +12,8 @@ use borrow.Author.Tests.{ltb-true, leb-true, le-leb}
 use Rattle.types.specs.Pick.{pick, both}
 use Rattle.types.specs.Types.{is_node}
 use Rattle.types.proofs.Tests.{both_first, both_second}
+use Rattle.std.specs.declared.option.Option.TheVariants.{Some, None}
 use Rattle.watched.specs.declared.nodes.WatchedNode.{WatchedNode}
-use Rattle.watched.specs.declared.nodes.Seen.TheVariants as seen
 use Rattle.watched.specs.Watched.{latest, in_time, timed, fits, all_of, no_node}
 use Rattle.watched.specs.Nodes.{node_at, nodes_of, not_before, rising, climbing, numbered, roused_from}
 use Rattle.watched.proofs.Lists.{at_end}
@@ -198,8 +198,8 @@ module _ (n : ℕ) (ws : List WatchedNode) where
   pub is_rising : climbing n ws ≡ true → all_of numbered ws ≡ true → rising n ws ≡ true
   is_rising = rising_by true true
 
-  pub roused_not : (t : ℕ) → rising n ws ≡ false → seen.Unformed ≡ roused_from n t ws
-  roused_not t e = sym (ap (λ (b : Bool). pick b (seen.Roused (all_of (not_before t) ws)) seen.Unformed) e)
+  pub roused_not : (t : ℕ) → rising n ws ≡ false → None ≡ roused_from n t ws
+  roused_not t e = sym (ap (λ (b : Bool). pick b (Some (all_of (not_before t) ws)) None) e)
 
-  pub roused_all : (t : ℕ) (y : Bool) → y ≡ all_of (not_before t) ws → rising n ws ≡ true → seen.Roused y ≡ roused_from n t ws
-  roused_all t y g e = ap seen.Roused g ∙ sym (ap (λ (b : Bool). pick b (seen.Roused (all_of (not_before t) ws)) seen.Unformed) e)
+  pub roused_all : (t : ℕ) (y : Bool) → y ≡ all_of (not_before t) ws → rising n ws ≡ true → Some y ≡ roused_from n t ws
+  roused_all t y g e = ap Some g ∙ sym (ap (λ (b : Bool). pick b (Some (all_of (not_before t) ws)) None) e)

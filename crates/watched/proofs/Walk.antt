@@ -17,7 +17,7 @@ use Rattle.watched.specs.declared.nodes.Climbed.{Climbed}
 use Rattle.std.specs.declared.option.Option.{Option}
 use Rattle.std.specs.declared.option.Option.TheVariants.{Some, None}
 use Rattle.watched.specs.Watched.{latest, in_time, all_of, timed, heard_now, heard_at, place_of, watched_of}
-use Rattle.watched.specs.Nodes.{node_at, nodes_of, climbing, numbered, never, sooner_by, soonest, found_of}
+use Rattle.watched.specs.Nodes.{node_at, nodes_of, climbing, numbered, never, moment_of, sooner_by, soonest, found_of}
 use Rattle.watched.specs.Climb.{one_less, sum_of, three_before, climbed, over, climb_of, climbed_of, first_heard, heard_climbed}
 use Rattle.watched.proofs.Lists.{at_end, whole}
 use Rattle.watched.proofs.Climbing.{both_false, both_assoc, climb_head, not_climbing, not_numbered, is_rising}
@@ -28,33 +28,31 @@ module _ (ns : List ℕ) (k : ℕ) (below : k ≤ 32) where
   abbrev left : ℕ → List WatchedNode
   left i = drop i (take k (nodes_of ns))
 
-  module _ (m i n t s : ℕ) (a : Climbed) (e : a ≡ climb_of m (climbed i n t s) (left i)) where
-    pub walk_ends : k ≤ i → climbed i n t s ≡ a
-    walk_ends h = sym (e ∙ ap (climb_of m (climbed i n t s)) (at_end (nodes_of ns) k (places ns) below i h))
+  module _ (m i : ℕ) (c a : Climbed) (e : a ≡ climb_of m c (left i)) where
+    pub walk_ends : k ≤ i → c ≡ a
+    walk_ends h = sym (e ∙ ap (climb_of m c) (at_end (nodes_of ns) k (places ns) below i h))
 
     module _ (inside : i < k) (w : WatchedNode) (is : w ≡ node_at ns i) where
       abbrev next : Climbed
-      next = climb_of m (over (climbed i n t s) w) (left (i + 1))
+      next = climb_of m (over c w) (left (i + 1))
 
-      walk_turn : a ≡ pick (leb w.node n) (climbed i n t s) (pick (eqb w.node m) (climbed i n t s) next)
-      walk_turn = e ∙ ap (climb_of m (climbed i n t s)) (turn_read ns k below i inside w is)
+      walk_turn : a ≡ pick (leb w.node c.last) c (pick (eqb w.node m) c next)
+      walk_turn = e ∙ ap (climb_of m c) (turn_read ns k below i inside w is)
 
-      pub walk_low : w.node ≤ n → climbed i n t s ≡ a
-      walk_low h = sym (walk_turn ∙ ap (λ (b : Bool). pick b (climbed i n t s) (pick (eqb w.node m) (climbed i n t s) next)) (le-leb w.node n h))
+      pub walk_low : w.node ≤ c.last → c ≡ a
+      walk_low h = sym (walk_turn ∙ ap (λ (b : Bool). pick b c (pick (eqb w.node m) c next)) (le-leb w.node c.last h))
 
-      module _ (up : n < w.node) where
-        up_turn : a ≡ pick (eqb w.node m) (climbed i n t s) next
-        up_turn = walk_turn ∙ ap (λ (b : Bool). pick b (climbed i n t s) (pick (eqb w.node m) (climbed i n t s) next)) (lt-leb w.node n up)
+      module _ (up : c.last < w.node) where
+        up_turn : a ≡ pick (eqb w.node m) c next
+        up_turn = walk_turn ∙ ap (λ (b : Bool). pick b c (pick (eqb w.node m) c next)) (lt-leb w.node c.last up)
 
-        pub walk_found : w.node ≡ m → climbed i n t s ≡ a
-        walk_found h = sym (up_turn ∙ ap (λ (b : Bool). pick b (climbed i n t s) next) (eq-eqb w.node m h))
+        pub walk_found : w.node ≡ m → c ≡ a
+        walk_found h = sym (up_turn ∙ ap (λ (b : Bool). pick b c next) (eq-eqb w.node m h))
 
-        pub walk_next :
-            (w.node ≡ m → ⊥) → (x : ℕ) → x ≡ min s (three_before w) →
-            a ≡ climb_of m (climbed (i + 1) w.node (bit_or (bit_or t w.timeout) w.last_heard) x) (left (i + 1))
+        pub walk_next : (w.node ≡ m → ⊥) → (x : Climbed) → x ≡ over c w → a ≡ climb_of m x (left (i + 1))
         walk_next h x g =
-            up_turn ∙ ap (λ (b : Bool). pick b (climbed i n t s) next) (ne_eqb w.node m h)
-            ∙ ap (λ (x : ℕ). climb_of m (climbed (i + 1) w.node (bit_or (bit_or t w.timeout) w.last_heard) x) (left (i + 1))) (sym g)
+            up_turn ∙ ap (λ (b : Bool). pick b c next) (ne_eqb w.node m h)
+            ∙ ap (λ (x : Climbed). climb_of m x (left (i + 1))) (sym g)
 
 -- all times together are within their limit where each is
 or_least : (a b : ℕ) → a ≤ bit_or a b
@@ -360,7 +358,7 @@ module _ (ns : List ℕ) (k : ℕ) (below : k ≤ 32) (m t : ℕ) (r : Climbed) 
       pub seek_unnumbered : all_of numbered all ≡ false → None ≡ found_of m t vs
       seek_unnumbered n = find_unformed ns k m t (formed_begins ns k below ∙ not_numbered 0 all seek_climbs n)
 
-      pub seek_found : all_of numbered all ≡ true → Some (r.place, x) ≡ found_of m t vs
+      pub seek_found : all_of numbered all ≡ true → Some (r.place, moment_of x) ≡ found_of m t vs
       seek_found n =
           let w : vs ≡ all = whole (nodes_of ns) k (places ns) below in
           let p : place_of m all ≡ r.place = omega (arith, sought_at ns k below m 0 0 r e formed.0) in

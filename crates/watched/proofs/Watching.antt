@@ -22,7 +22,7 @@ use Rattle.std.specs.declared.option.Option.{Option}
 use Rattle.std.specs.declared.option.Option.TheVariants.{Some, None}
 use Rattle.watched.specs.declared.nodes.Seen.{Seen}
 use Rattle.watched.specs.declared.nodes.Seen.TheVariants as seen
-use Rattle.watched.specs.Nodes.{node_at, nodes_of, rests, not_before, rising, never, sooner_by, soonest, roused_from, nodes_tried, found_of, seen_of}
+use Rattle.watched.specs.Nodes.{node_at, nodes_of, rests, not_before, rising, never, moment_of, sooner_by, soonest, roused_from, nodes_tried, found_of, seen_of}
 
 -- the item at an index of a list that is given by index
 pub listed_at : {A : Type 0} (f : ℕ → A) (n i : ℕ) (d : A) → i < n → get_or (listed f n) i d ≡ f i
@@ -41,8 +41,8 @@ listed_set f g (suc n) (suc i) h same =
     rw (same 0 (λ e. omega arith))
     (ap (λ (l : List _). f 0 ∷ l) (listed_set (λ (j : ℕ). f (suc j)) (λ (j : ℕ). g (suc j)) n i (omega arith) (λ j apart. same (suc j) (λ e. apart (omega arith)))))
 
--- what an answer of climb_from or try_nodes says
-module _ (b : Bool) (s : ℕ) (a : Option ℕ) (e : a ≡ pick b (Some s) None) where
+-- what an answer of climb_from, roused, try_nodes or look says
+module _ {A : Type 0} (b : Bool) (s : A) (a : Option A) (e : a ≡ pick b (Some s) None) where
   pub tried_unformed : a ≡ None → b ≡ false
   tried_unformed h = by b (sym h ∙ e)
     where
@@ -50,7 +50,7 @@ module _ (b : Bool) (s : ℕ) (a : Option ℕ) (e : a ≡ pick b (Some s) None) 
       by true x = cc
       by false x = refl
 
-  pub tried_formed : (x : ℕ) → a ≡ Some x → (b ≡ true) × (x ≡ s)
+  pub tried_formed : (x : A) → a ≡ Some x → (b ≡ true) × (x ≡ s)
   tried_formed y h = by b (sym h ∙ e)
     where
       by : (b : Bool) → Some y ≡ pick b (Some s) None → (b ≡ true) × (y ≡ s)
@@ -58,30 +58,23 @@ module _ (b : Bool) (s : ℕ) (a : Option ℕ) (e : a ≡ pick b (Some s) None) 
       by false x = (cc, cc)
 
 -- what an answer of look says
-module _ (b r q : Bool) (s : ℕ) (a : Seen) (e : a ≡ pick b (pick r (seen.Resting s) (seen.Roused q)) seen.Unformed) where
-  pub seen_unformed : a ≡ seen.Unformed → b ≡ false
-  seen_unformed h = by b r (sym h ∙ e)
-    where
-      by : (b r : Bool) → seen.Unformed ≡ pick b (pick r (seen.Resting s) (seen.Roused q)) seen.Unformed → b ≡ false
-      by true true x = cc
-      by true false x = cc
-      by false r x = refl
+module _ (b r q : Bool) (s : Option ℕ) (a : Option Seen) (e : a ≡ pick b (Some (pick r (seen.Resting s) (seen.Roused q))) None) where
+  pub seen_unformed : a ≡ None → b ≡ false
+  seen_unformed = tried_unformed b (pick r (seen.Resting s) (seen.Roused q)) a e
 
-  pub seen_roused : (y : Bool) → a ≡ seen.Roused y → (b ≡ true) × (r ≡ false) × (y ≡ q)
-  seen_roused y h = by b r (sym h ∙ e)
+  pub seen_roused : (y : Bool) → a ≡ Some (seen.Roused y) → (b ≡ true) × (r ≡ false) × (y ≡ q)
+  seen_roused y h = let x = tried_formed b (pick r (seen.Resting s) (seen.Roused q)) a e _ h in let z = by r x.1 in (x.0, z.0, z.1)
     where
-      by : (b r : Bool) → seen.Roused y ≡ pick b (pick r (seen.Resting s) (seen.Roused q)) seen.Unformed → (b ≡ true) × (r ≡ false) × (y ≡ q)
-      by true true x = (refl, cc, cc)
-      by true false x = (refl, refl, cc)
-      by false r x = (cc, cc, cc)
+      by : (r : Bool) → seen.Roused y ≡ pick r (seen.Resting s) (seen.Roused q) → (r ≡ false) × (y ≡ q)
+      by true x = (cc, cc)
+      by false x = (refl, cc)
 
-  pub seen_resting : (x : ℕ) → a ≡ seen.Resting x → (b ≡ true) × (r ≡ true) × (x ≡ s)
-  seen_resting y h = by b r (sym h ∙ e)
+  pub seen_resting : (x : Option ℕ) → a ≡ Some (seen.Resting x) → (b ≡ true) × (r ≡ true) × (x ≡ s)
+  seen_resting y h = let x = tried_formed b (pick r (seen.Resting s) (seen.Roused q)) a e _ h in let z = by r x.1 in (x.0, z.0, z.1)
     where
-      by : (b r : Bool) → seen.Resting y ≡ pick b (pick r (seen.Resting s) (seen.Roused q)) seen.Unformed → (b ≡ true) × (r ≡ true) × (y ≡ s)
-      by true true x = (refl, refl, cc)
-      by true false x = (refl, cc, cc)
-      by false r x = (cc, cc, cc)
+      by : (r : Bool) → seen.Resting y ≡ pick r (seen.Resting s) (seen.Roused q) → (r ≡ true) × (y ≡ s)
+      by true x = (refl, cc)
+      by false x = (cc, cc)
 
 -- the numbers of nodes above 240
 pub no_high_node : (n : ℕ) → 240 < n → 2 < n % 253 → false ≡ is_node n
@@ -292,15 +285,15 @@ module _ (ws : List ℕ) where
               all_next = all_turn true
 
     pub nodes_unformed : well_formed vs ≡ false → None ≡ nodes_tried vs
-    nodes_unformed h = sym (ap (λ (b : Bool). pick b (Some (soonest never vs)) None) h)
+    nodes_unformed h = sym (ap (λ (b : Bool). pick b (Some (moment_of (soonest never vs))) None) h)
 
-    pub nodes_formed : well_formed vs ≡ true → (x : ℕ) → soonest never vs ≡ x → Some x ≡ nodes_tried vs
-    nodes_formed h x e = sym (ap₂ (λ (b : Bool) (x : ℕ). pick b (Some x) None) h e)
+    pub nodes_formed : well_formed vs ≡ true → (x : ℕ) → soonest never vs ≡ x → Some (moment_of x) ≡ nodes_tried vs
+    nodes_formed h x e = sym (ap₂ (λ (b : Bool) (x : ℕ). pick b (Some (moment_of x)) None) h e)
 
     -- what find answers, and what that says
     module _ (n t : ℕ) where
-      abbrev found_by : Bool → ℕ → ℕ → Option (ℕ × ℕ)
-      found_by b p s = pick b (Some (p, s)) None
+      abbrev found_by : Bool → ℕ → ℕ → Option (ℕ × Option ℕ)
+      found_by b p s = pick b (Some (p, moment_of s)) None
 
       abbrev soonest_heard : ℕ
       soonest_heard = soonest never (heard_at n t vs)
@@ -308,38 +301,38 @@ module _ (ws : List ℕ) where
       pub find_unformed : well_formed vs ≡ false → None ≡ found_of n t vs
       find_unformed h = sym (ap (λ (b : Bool). found_by b (place_of n vs) soonest_heard) h)
 
-      pub find_formed : well_formed vs ≡ true → (p s : ℕ) → place_of n vs ≡ p → soonest_heard ≡ s → Some (p, s) ≡ found_of n t vs
+      pub find_formed : well_formed vs ≡ true → (p s : ℕ) → place_of n vs ≡ p → soonest_heard ≡ s → Some (p, moment_of s) ≡ found_of n t vs
       find_formed h p s e f = sym (λ i. found_by (h i) (e i) (f i))
 
-      module _ (a : Option (ℕ × ℕ)) (e : a ≡ found_of n t vs) where
+      module _ (a : Option (ℕ × Option ℕ)) (e : a ≡ found_of n t vs) where
         pub found_unformed : a ≡ None → well_formed vs ≡ false
-        found_unformed h = by (well_formed vs) (sym h ∙ e)
-          where
-            by : (b : Bool) → None ≡ found_by b (place_of n vs) soonest_heard → b ≡ false
-            by true x = cc
-            by false x = refl
+        found_unformed = tried_unformed (well_formed vs) (place_of n vs, moment_of soonest_heard) a e
 
-        pub found_formed : (p s : ℕ) → a ≡ Some (p, s) → (well_formed vs ≡ true) × (p ≡ place_of n vs) × (s ≡ soonest_heard)
-        found_formed p s h = by (well_formed vs) (sym h ∙ e)
-          where
-            by : (b : Bool) → Some (p, s) ≡ found_by b (place_of n vs) soonest_heard → (b ≡ true) × (p ≡ place_of n vs) × (s ≡ soonest_heard)
-            by true x = let q : (p, s) ≡ (place_of n vs, soonest_heard) = cc in (refl, ap (λ (z : ℕ × ℕ). z.0) q, ap (λ (z : ℕ × ℕ). z.1) q)
-            by false x = let z : ◌≡◌ {A = ℕ} 0 1 = cc in absurd (omega arith)
+        pub found_formed : (p : ℕ) (s : Option ℕ) → a ≡ Some (p, s) → (well_formed vs ≡ true) × (p ≡ place_of n vs) × (s ≡ moment_of soonest_heard)
+        found_formed p s h =
+            let x = tried_formed (well_formed vs) (place_of n vs, moment_of soonest_heard) a e (p, s) h in
+            (x.0, ap (λ (z : ℕ × Option ℕ). z.0) x.1, ap (λ (z : ℕ × Option ℕ). z.1) x.1)
 
     -- what look answers
     module _ (t : ℕ) where
-      abbrev seen_by : Bool → Bool → Bool → ℕ → Seen
-      seen_by b r q s = pick b (pick r (seen.Resting s) (seen.Roused q)) seen.Unformed
+      abbrev seen_by : Bool → Bool → Bool → ℕ → Option Seen
+      seen_by b r q s = pick b (Some (pick r (seen.Resting (moment_of s)) (seen.Roused q))) None
 
-      pub look_unformed : well_formed vs ≡ false → seen.Unformed ≡ seen_of t vs
+      pub look_unformed : well_formed vs ≡ false → None ≡ seen_of t vs
       look_unformed h = sym (ap (λ (b : Bool). seen_by b (all_of (rests t) vs) (all_of (not_before t) vs) (soonest never vs)) h)
 
       pub look_roused :
           (n : ℕ) (ws : List WatchedNode) → well_formed vs ≡ rising n ws → all_of (rests t) vs ≡ false → all_of (not_before t) vs ≡ all_of (not_before t) ws →
-          roused_from n t ws ≡ seen_of t vs
-      look_roused n ws h e f = sym (λ i. seen_by (h i) (e i) (f i) (soonest never vs))
+          (a : Option Bool) → a ≡ roused_from n t ws → (x : Bool) → a ≡ Some x → Some (seen.Roused x) ≡ seen_of t vs
+      look_roused n ws h e f a g x d =
+          let y = tried_formed (rising n ws) (all_of (not_before t) ws) a g x d in
+          sym (λ i. seen_by ((h ∙ y.0) i) (e i) ((f ∙ sym y.1) i) (soonest never vs))
 
-      pub look_rests : well_formed vs ≡ true → all_of (rests t) vs ≡ true → (s : ℕ) → soonest never vs ≡ s → seen.Resting s ≡ seen_of t vs
+      pub look_none :
+          (n : ℕ) (ws : List WatchedNode) → well_formed vs ≡ rising n ws → (a : Option Bool) → a ≡ roused_from n t ws → a ≡ None → None ≡ seen_of t vs
+      look_none n ws h a g d = look_unformed (h ∙ tried_unformed (rising n ws) (all_of (not_before t) ws) a g d)
+
+      pub look_rests : well_formed vs ≡ true → all_of (rests t) vs ≡ true → (s : ℕ) → soonest never vs ≡ s → Some (seen.Resting (moment_of s)) ≡ seen_of t vs
       look_rests h e s f = sym (λ i. seen_by (h i) (e i) (all_of (not_before t) vs) (f i))
 
     -- nodes that pass number 3 are at most 32

@@ -51,6 +51,10 @@ numbered w = is_node w.node
 abbrev pub never : ℕ
 never = 18446744073709551615
 
+-- the moment that a walk's number stands for
+abbrev pub moment_of : ℕ → Option ℕ
+moment_of n = pick (eqb n never) None (Some n)
+
 -- "the smallest of last heard + timeout + 1, over nodes where both are above 0" (document 02, No. 1), and of s
 abbrev pub sooner_by : ℕ → WatchedNode → ℕ
 sooner_by s w = pick (both (ltb 0 w.timeout) (ltb 0 w.last_heard)) (min s (w.last_heard + w.timeout + 1)) s
@@ -64,18 +68,18 @@ soonest s [] = s
 soonest s (w ∷ ws) = soonest (sooner_by s w) ws
 
 -- the nodes behind one of number n, of which one does not rest at t: whether t is before none's last-heard time (number 6)
-abbrev pub roused_from : ℕ → ℕ → List WatchedNode → Seen
-roused_from n t ws = pick (rising n ws) (seen.Roused (all_of (not_before t) ws)) seen.Unformed
+abbrev pub roused_from : ℕ → ℕ → List WatchedNode → Option Bool
+roused_from n t ws = pick (rising n ws) (Some (all_of (not_before t) ws)) None
 
--- of nodes that pass number 3: their soonest; where the node n is, and the soonest with it heard at t; and whether one does not rest at t
-abbrev pub nodes_tried : List WatchedNode → Option ℕ
-nodes_tried vs = pick (well_formed vs) (Some (soonest never vs)) None
+-- of nodes that pass number 3: their soonest moment; where the node n is, and the soonest with it heard at t; and whether one does not rest at t
+abbrev pub nodes_tried : List WatchedNode → Option (Option ℕ)
+nodes_tried vs = pick (well_formed vs) (Some (moment_of (soonest never vs))) None
 
-abbrev pub found_of : ℕ → ℕ → List WatchedNode → Option (ℕ × ℕ)
-found_of n t vs = pick (well_formed vs) (Some (place_of n vs, soonest never (heard_at n t vs))) None
+abbrev pub found_of : ℕ → ℕ → List WatchedNode → Option (ℕ × Option ℕ)
+found_of n t vs = pick (well_formed vs) (Some (place_of n vs, moment_of (soonest never (heard_at n t vs)))) None
 
-abbrev pub seen_of : ℕ → List WatchedNode → Seen
+abbrev pub seen_of : ℕ → List WatchedNode → Option Seen
 seen_of t vs =
     pick (well_formed vs)
-    (pick (all_of (rests t) vs) (seen.Resting (soonest never vs)) (seen.Roused (all_of (not_before t) vs)))
-    seen.Unformed
+    (Some (pick (all_of (rests t) vs) (seen.Resting (moment_of (soonest never vs))) (seen.Roused (all_of (not_before t) vs))))
+    None

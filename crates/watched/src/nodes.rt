@@ -1,9 +1,9 @@
 // The watched nodes in lent words, three a node: its number, its timeout, when it was last heard. 32 places, of which the first so many are
 // watched.
-ghost use Rattle.std.specs.Prelude.{◌≡◌, ◌≤◌, true};
+ghost use Rattle.std.specs.Prelude.{◌≡◌, ◌≤◌, ◌<◌, ◌+◌, ◌*◌, set, true};
 ghost use Rattle.watched.specs.Watched.{all_of, well_formed, watched_of};
-ghost use Rattle.watched.specs.Climb.{climbed, climb_of, climbed_of, heard_climbed, nodes_from};
-ghost use Rattle.watched.specs.Nodes.{never, climbing, numbered, roused_from, nodes_tried, found_of, seen_of, nodes_of};
+ghost use Rattle.watched.specs.Climb.{climbed, over, climb_of, climbed_of, heard_climbed, nodes_from};
+ghost use Rattle.watched.specs.Nodes.{never, moment_of, climbing, numbered, roused_from, nodes_tried, found_of, seen_of, node_of, nodes_of};
 
 use crate::record::NodeRecord;
 use crate::time::in_time;
@@ -20,8 +20,35 @@ pub struct WatchedNode {
     pub last_heard: u64,
 }
 
-// No moment: the walks carry the earliest one as a number, since a least number takes no test.
+impl WatchedNode {
+    // What a place past the watched nodes holds.
+    pub const NONE: Self = Self {
+        node: 0,
+        timeout: 0,
+        last_heard: 0,
+    };
+}
+
+// No moment, as long as a walk goes on: it carries the earliest one as a number, since a least number takes no test.
 pub const NEVER: u64 = 18446744073709551615;
+
+// The moment that a walk ends with.
+pub fn moment(soonest: u64) -> Option<u64>
+    ensures { result ≡ moment_of soonest }
+{
+    if soonest == NEVER {
+        return None;
+    }
+    Some(soonest)
+}
+
+// The time of the node at a place.
+pub fn set_heard(nodes: &mut NodeWords, place: usize, time: u64)
+    requires { place < 32 }
+    ensures { nodes.new ≡ set nodes.old (3 * place + 2) time }
+{
+    nodes[3 * place + 2] = time;
+}
 
 // Where a walk ended, and of the nodes before that place: the last one's number, all times one over the other, and the soonest of what is three before
 // their moments.
@@ -31,6 +58,21 @@ struct Climbed {
     last: u64,
     times: u64,
     soonest: u64,
+}
+
+impl Climbed {
+    // With the node at its place.
+    fn over(self, node: NodeRecord) -> Self
+        requires { self.place < 32 }
+        ensures { result ≡ over self (node_of node) }
+    {
+        Climbed {
+            place: self.place + 1,
+            last: node.node,
+            times: self.times | node.timeout | node.last_heard,
+            soonest: self.soonest.min(node.three_before()),
+        }
+    }
 }
 
 // The nodes from a place on, where `last` is the number before them.
@@ -45,33 +87,27 @@ struct Ahead<'a> {
 
 impl<'a> Ahead<'a> {
     // Walks the nodes as long as their numbers climb and none is the one sought. What is asked of their times is asked of all together, behind the walk: it
-    // has no other test, and is as fast whatever the times are. It counts by hand, since where it ends is its answer.
+    // has no other test, and is as fast whatever the times are.
     fn climb(self, sought: u64) -> Climbed
         ensures { result ≡ climb_of sought (climbed self.entry.place self.entry.last 0 never) (nodes_from self.entry.place self.entry.count self.entry.nodes.now) }
     {
-        let mut above = self.last;
-        let mut times: u64 = 0;
-        let mut soonest = NEVER;
-        let mut i = self.place;
-        'walk: while i < self.count {
+        let mut climbed = Climbed {
+            place: self.place,
+            last: self.last,
+            times: 0,
+            soonest: NEVER,
+        };
+        for i in self.place..self.count {
             let node = NodeRecord::at(self.nodes, i);
-            if node.node <= above {
-                break 'walk;
+            if node.node <= climbed.last {
+                return climbed;
             }
             if node.node == sought {
-                break 'walk;
+                return climbed;
             }
-            times = times | node.timeout | node.last_heard;
-            soonest = soonest.min(node.three_before());
-            above = node.node;
-            i += 1;
+            climbed = climbed.over(node);
         }
-        Climbed {
-            place: i,
-            last: above,
-            times,
-            soonest,
-        }
+        climbed
     }
 
     // Whether they climb, and the soonest moment then, where `before` is the soonest one of the nodes before them.
@@ -129,8 +165,8 @@ impl<'a> Ahead<'a> {
         rest.climb_from(heard.sooner(before))
     }
 
-    // From one on that does not rest: no moment is worked out, since the look will work it out.
-    fn roused(self, time: u64) -> Seen
+    // From one on that does not rest, whether the time is before no last-heard time: no moment is worked out, since the look will work it out.
+    fn roused(self, time: u64) -> Option<bool>
         ensures { result ≡ roused_from self.entry.last time (nodes_from self.entry.place self.entry.count self.entry.nodes.now) }
     {
         let mut above = self.last;
@@ -138,20 +174,20 @@ impl<'a> Ahead<'a> {
         for i in self.place..self.count {
             let node = NodeRecord::at(self.nodes, i);
             if !node.climbs(above) {
-                return Seen::Unformed;
+                return None;
             }
             heard = heard && node.heard_by(time);
             above = node.node;
         }
         if !self.have_numbers() {
-            return Seen::Unformed;
+            return None;
         }
-        Seen::Roused(heard)
+        Some(heard)
     }
 }
 
 // Whether the first nodes are few enough, ascending, and each within its limits; and their soonest moment.
-pub fn try_nodes(nodes: &NodeWords, count: usize) -> Option<u64>
+pub fn try_nodes(nodes: &NodeWords, count: usize) -> Option<Option<u64>>
     ensures { result ≡ nodes_tried (watched_of (nodes_of nodes.now) count) }
 {
     if 32 < count {
@@ -167,7 +203,7 @@ pub fn try_nodes(nodes: &NodeWords, count: usize) -> Option<u64>
     if !all.have_numbers() {
         return None;
     }
-    Some(soonest)
+    Some(moment(soonest))
 }
 
 // Nodes that pass number 3, lent to be read.
@@ -185,7 +221,7 @@ pub fn well_formed(nodes: &NodeWords, count: usize) -> bool
 }
 
 // Up to the node that is sought in one walk, behind it in another.
-pub fn find(nodes: &NodeWords, count: usize, node: u64, time: u64) -> Option<(usize, u64)>
+pub fn find(nodes: &NodeWords, count: usize, node: u64, time: u64) -> Option<(usize, Option<u64>)>
     ensures { result ≡ found_of node time (watched_of (nodes_of nodes.now) count) }
 {
     if 32 < count {
@@ -211,31 +247,30 @@ pub fn find(nodes: &NodeWords, count: usize, node: u64, time: u64) -> Option<(us
     if !all.have_numbers() {
         return None;
     }
-    Some((front.place, soonest))
+    Some((front.place, moment(soonest)))
 }
 
 // Whether some of well formed nodes does not rest, so that a tick is to look at them, and then whether its time is before no last-heard time (number 6);
-// where all rest, the soonest moment. Three cases that a caller tells apart in one match; a Result of the last two would be a match within a match.
+// where all rest, the soonest moment.
 #[derive(Clone, Copy)]
 pub enum Seen {
-    Unformed,
     Roused(bool),
-    Resting(u64),
+    Resting(Option<u64>),
 }
 
 // Up to a node that does not rest each is read once; from that one on all are tried by roused.
-pub fn look(nodes: &NodeWords, count: usize, time: u64) -> Seen
+pub fn look(nodes: &NodeWords, count: usize, time: u64) -> Option<Seen>
     ensures { result ≡ seen_of time (watched_of (nodes_of nodes.now) count) }
 {
     if 32 < count {
-        return Seen::Unformed;
+        return None;
     }
     let mut last: u64 = 0;
     let mut soonest = NEVER;
     for i in 0..count {
         let node = NodeRecord::at(nodes, i);
         if !node.follows(last) {
-            return Seen::Unformed;
+            return None;
         }
         let Some(until) = node.rest_until(soonest, time) else {
             let rest = Ahead {
@@ -244,10 +279,10 @@ pub fn look(nodes: &NodeWords, count: usize, time: u64) -> Seen
                 place: i,
                 last,
             };
-            return rest.roused(time);
+            return Some(Seen::Roused(rest.roused(time)?));
         };
         soonest = until;
         last = node.node;
     }
-    Seen::Resting(soonest)
+    Some(Seen::Resting(moment(soonest)))
 }

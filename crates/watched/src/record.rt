@@ -1,5 +1,5 @@
 // What three words of a node stand for, as they lie in the words of 32 places.
-ghost use Rattle.std.specs.Prelude.{◌≡◌, ◌<◌, ltb, set, true};
+ghost use Rattle.std.specs.Prelude.{◌≡◌, ◌<◌, ◌+◌, ◌*◌, ltb, set, true};
 ghost use Rattle.types.specs.Pick.{both};
 ghost use Rattle.watched.specs.Watched.{timed, fits};
 ghost use Rattle.watched.specs.Climb.{one_less, three_before};
@@ -38,6 +38,13 @@ fn one_less(time: u64) -> u64
 }
 
 impl NodeRecord {
+    // What a place past the watched nodes holds.
+    pub const NONE: Self = Self {
+        node: 0,
+        timeout: 0,
+        last_heard: 0,
+    };
+
     // The node at a place.
     pub fn at(nodes: &NodeWords, place: usize) -> Self
         requires { place < 32 }
@@ -54,7 +61,8 @@ impl NodeRecord {
     // The words of one place.
     pub fn put(self, nodes: &mut NodeWords, place: usize)
         requires { place < 32 }
-        ensures { nodes_of nodes.new ≡ set (nodes_of nodes.old) place (node_of self) }
+        ensures { (nodes.new ≡ set (set (set nodes.old (3 * place) self.node) (3 * place + 1) self.timeout) (3 * place + 2) self.last_heard)
+            × (nodes_of nodes.new ≡ set (nodes_of nodes.old) place (node_of self)) }
     {
         let at = 3 * place;
         nodes[at] = self.node;

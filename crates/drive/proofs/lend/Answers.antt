@@ -5,7 +5,7 @@ use Rattle.drive.proofs.lend.Goals as goal
 
 pub returns-then-row-lt32 : goal.returns-then-row-lt32
 returns-then-row-lt32 c =
-    rw (lt-ltb c.args.row.a 32 c.if-row-lt32.true)
+    rw (lt-ltb c.args.row.a 32 c.if-row-lt32.true) c.put.ensures.0
 
 pub returns : goal.returns
 returns c =

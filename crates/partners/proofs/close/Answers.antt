@@ -17,8 +17,8 @@ loop-here-preserved c =
     let l = c.loop-here in
     let k = c.requires in (
       elim c.if-here-last.branch [
-        | then-here-last w ↦ closed_shifts l.nodes l.here c.args.count _ l.invariant.0 c.loop-here-test.true (omega (arith, w.if-here-last.true, k.0)) k.1 (node_of c.if-here-last.next) (ap node_of w.next-is ∙ w.at-next.ensures) _ c.put.ensures
-        | else-here-last w ↦ closed_clears l.nodes l.here c.args.count _ l.invariant.0 c.loop-here-test.true (omega (arith, w.if-here-last.false, k.0)) _ (c.put.ensures ∙ ap (λ r. set (nodes_of l.nodes) l.here (node_of r)) w.next-is)
+        | then-here-last w ↦ closed_shifts l.nodes l.here c.args.count _ l.invariant.0 c.loop-here-test.true (omega (arith, w.if-here-last.true, k.0)) k.1 (node_of c.if-here-last.next) (ap node_of w.next-is ∙ w.at-next.ensures) _ c.put.ensures.1
+        | else-here-last w ↦ closed_clears l.nodes l.here c.args.count _ l.invariant.0 c.loop-here-test.true (omega (arith, w.if-here-last.false, k.0)) _ (c.put.ensures.1 ∙ ap (λ r. set (nodes_of l.nodes) l.here (node_of r)) w.next-is)
       ],
       l.invariant.1,
     )

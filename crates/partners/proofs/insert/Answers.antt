@@ -14,8 +14,8 @@ pub loop-i-preserved : goal.loop-i-preserved
 loop-i-preserved c =
     let l = c.loop-i in
     elim c.if-count-i.branch [
-      | then-count-i w ↦ rw (w.nodes-is, w.carried-is) (carried_passes l.nodes l.i c.args.count (node_of l.carried) _ l.invariant c.loop-i-test.true (node_of c.at-next.result) c.at-next.ensures w.if-count-i.true _ w.put.ensures)
-      | else-count-i+then-carried-next w ↦ rw (w.nodes-is, w.carried-is) (carried_swaps l.nodes l.i c.args.count (node_of l.carried) _ l.invariant c.loop-i-test.true (node_of c.at-next.result) c.at-next.ensures (omega (arith, w.if-count-i.false)) w.if-carried-next.true _ w.put-then-carried-next.ensures)
+      | then-count-i w ↦ rw (w.nodes-is, w.carried-is) (carried_passes l.nodes l.i c.args.count (node_of l.carried) _ l.invariant c.loop-i-test.true (node_of c.at-next.result) c.at-next.ensures w.if-count-i.true _ w.put.ensures.1)
+      | else-count-i+then-carried-next w ↦ rw (w.nodes-is, w.carried-is) (carried_swaps l.nodes l.i c.args.count (node_of l.carried) _ l.invariant c.loop-i-test.true (node_of c.at-next.result) c.at-next.ensures (omega (arith, w.if-count-i.false)) w.if-carried-next.true _ w.put-then-carried-next.ensures.1)
       | else-count-i+else-carried-next w ↦ rw (w.nodes-is, w.carried-is) (carried_stays l.nodes l.i c.args.count (node_of l.carried) _ l.invariant c.loop-i-test.true (node_of c.at-next.result) c.at-next.ensures (omega (arith, w.if-count-i.false)) w.if-carried-next.false)
     ]
 

@@ -1,6 +1,7 @@
 -- `partners::remove` meets its contract: its tests, then the walk, and the earliest moment.
 -- Assumes nothing.
 use mathlib.Core.Path.{◌≡◌, refl}
+use mathlib.Core.Bool.{true, false}
 use Rattle.std.proofs.Common.{rules, Err}
 use native.Mathlib.Omega.{arith}
 use Rattle.watched.proofs.Watching.{found_unformed, found_formed}
@@ -12,31 +13,31 @@ returns-in_default c =
     let a = c.args in
     remove_unformed a.head.now a.nodes.now a.count.now a.node
     (found_unformed a.nodes.now a.count.now a.node 0 c.find.result c.find.ensures c.in_default.is)
-    c.try_remove.result c.try_remove.ensures
+    c.try_remove.result (c.try_remove.ensures false false refl)
 
 pub close-requires : goal.close-requires
 close-requires c =
     let a = c.args in
     let x = found_formed a.nodes.now a.count.now a.node 0 c.find.result c.find.ensures _ _ c.in-Some.is in
-    remove_inside a.head.now a.nodes.now a.count.now a.node x.0 _ x.1 _ refl c.try_remove-2.result c.try_remove-2.ensures c.in_ok-try_remove.was
+    remove_inside a.head.now a.nodes.now a.count.now a.node x.0 _ x.1 _ refl c.try_remove-2.result (c.try_remove-2.ensures true _ refl) c.in_ok-try_remove.was
 
 pub overflow_sub-count : goal.overflow_sub-count
 overflow_sub-count c =
     let a = c.args in
     let x = found_formed a.nodes.now a.count.now a.node 0 c.find.result c.find.ensures _ _ c.in-Some.is in
-    let r = remove_inside a.head.now a.nodes.now a.count.now a.node x.0 _ x.1 _ refl c.try_remove-2.result c.try_remove-2.ensures c.in_ok-try_remove.was in
+    let r = remove_inside a.head.now a.nodes.now a.count.now a.node x.0 _ x.1 _ refl c.try_remove-2.result (c.try_remove-2.ensures true _ refl) c.in_ok-try_remove.was in
     omega (arith, r.0)
 
 pub returns : goal.returns
 returns c =
     let a = c.args in
     let x = found_formed a.nodes.now a.count.now a.node 0 c.find.result c.find.ensures _ _ c.in-Some.is in
-    remove_taken a.head.now a.nodes.now a.count.now a.node x.0 _ x.1 _ refl c.try_remove-2.result c.try_remove-2.ensures c.in_ok-try_remove.was
-    (omega arith) _ c.close.ensures (omega arith) _ x.2 c.moment.result c.moment.ensures _ c.set_earliest.ensures
+    remove_taken a.head.now a.nodes.now a.count.now a.node x.0 _ x.1 _ refl c.try_remove-2.result (c.try_remove-2.ensures true _ refl) c.in_ok-try_remove.was
+    (omega arith) _ c.close.ensures (omega arith) _ x.2 _ c.set_earliest.ensures
 
 pub returns-in_err-try_remove : goal.returns-in_err-try_remove
 returns-in_err-try_remove c =
     let a = c.args in
     let x = found_formed a.nodes.now a.count.now a.node 0 c.find.result c.find.ensures _ _ c.in-Some.is in
     let r : c.from_residual.result ≡ Err c.in_err-try_remove.field-0.0 = search rules in
-    rw r (remove_declined a.head.now a.nodes.now a.count.now a.node x.0 _ x.1 _ refl c.try_remove-2.result c.try_remove-2.ensures _ c.in_err-try_remove.was)
+    rw r (remove_declined a.head.now a.nodes.now a.count.now a.node x.0 _ x.1 _ refl c.try_remove-2.result (c.try_remove-2.ensures true _ refl) _ c.in_err-try_remove.was)

@@ -1,9 +1,8 @@
 -- `examples::heads::watching` meets its contract: three words are written.
 -- Assumes nothing.
-use mathlib.Core.Path.{refl}
 use Rattle.examples.proofs.Writing.{watching_written}
 use Rattle.examples.proofs.heads.watching.Goals as goal
 
 pub returns : goal.returns
 returns c =
-    watching_written c.args.last_heard _ refl
+    watching_written c.args.last_heard _ c.put.ensures.0

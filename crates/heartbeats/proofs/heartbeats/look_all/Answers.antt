@@ -1,10 +1,10 @@
 -- `heartbeats::heartbeats::look_all` meets its contract.
 -- Assumes nothing.
-use Rattle.std.proofs.Common.{◌≡◌, ◌<◌, ℕ, refl, sym, ap, ◌∙◌, arith}
+use Rattle.std.proofs.Common.{◌≡◌, ◌<◌, ℕ, refl, sym, ap, ◌∙◌, arith, length, length-set}
 use Prim.Native.Nat.{min}
 use Rattle.watched.specs.Climb.{sum_of, three_before}
 use Rattle.watched.specs.Watched.{heard_now}
-use Rattle.watched.specs.Nodes.{node_of, nodes_of}
+use Rattle.watched.specs.Nodes.{node_of, nodes_of, moment_of}
 use Rattle.watched.proofs.Watching.{few}
 use Rattle.heartbeats.specs.Parts.{looked_first}
 use Rattle.heartbeats.specs.PartWords.{looked_words}
@@ -22,9 +22,10 @@ loop-i-preserved c =
     let a = c.args in
     let h : l.i < 32 = omega (arith, c.loop-i-test.true, l.invariant.3) in
     let w = node_of c.at-node.result in
+    let long : length l.nodes ≡ 96 = sym (length-set l.nodes _ _) ∙ sym (ap length c.set_heard.ensures) ∙ c.set_heard.array_long in
     let e : c.min-early.result ≡ min l.early (three_before (heard_now c.looked.result w)) = c.min-early.ensures ∙ ap (min l.early) c.three_before.ensures in (
-      look_words_lem a.time a.nodes.now l.nodes l.i h (omega arith) w c.at-node.ensures c.looked.result c.looked.ensures l.invariant.0,
-      look_nodes a.time a.nodes.now l.nodes l.i h (omega arith) w c.at-node.ensures c.looked.result c.looked.ensures l.invariant.1,
+      c.set_heard.ensures ∙ look_words_lem a.time a.nodes.now l.nodes l.i h long w c.at-node.ensures c.looked.result c.looked.ensures l.invariant.0,
+      ap nodes_of c.set_heard.ensures ∙ look_nodes a.time a.nodes.now l.nodes l.i h long w c.at-node.ensures c.looked.result c.looked.ensures l.invariant.1,
       look_sooner a.time a.nodes.now l.nodes a.count l.i c.requires c.loop-i-test.true l.invariant.1 w c.at-node.ensures c.looked.result c.looked.ensures
           _ (sum_of l.early 3) l.invariant.2 (sum_of c.min-early.result 3)
           (ap (λ (n : ℕ). sum_of n 3) e ∙ sym (sooner_joined l.early (heard_now c.looked.result w))),
@@ -39,5 +40,5 @@ returns c =
     let e : l.i ≡ a.count = omega arith in (
       l.invariant.0 ∙ ap (λ (k : ℕ). looked_words a.time k a.nodes.now) e,
       l.invariant.1 ∙ ap (λ (k : ℕ). looked_first a.time k (nodes_of a.nodes.now)) e,
-      s ∙ sooner_ends a.time a.nodes.now a.count c.requires l.i _ (sum_of l.early 3) l.invariant.2 c.loop-i-test.false,
+      c.moment.ensures ∙ ap moment_of (s ∙ sooner_ends a.time a.nodes.now a.count c.requires l.i _ (sum_of l.early 3) l.invariant.2 c.loop-i-test.false),
     )

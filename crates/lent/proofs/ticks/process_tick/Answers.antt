@@ -15,7 +15,7 @@ pub returns-then-not-checks_heartbeats : goal.returns-then-not-checks_heartbeats
 returns-then-not-checks_heartbeats c =
     let a = c.args in
     tick_unasked a.head.now a.queue.now a.history.now a.nodes.now a.number a.time _ c.for_tick.ensures c.survey.result c.survey.ensures _ c.in-Some.is
-    (sym (c.checks_heartbeats.ensures ∙ ap checks_heartbeats c.state_at.ensures) ∙ c.if-not-checks_heartbeats.true) c.tick_still.result _ _ _ c.tick_still.ensures
+    (sym (c.checks_heartbeats.ensures ∙ ap checks_heartbeats c.state_at.ensures) ∙ c.if-not-checks_heartbeats.true) c.moment-soonest.result c.moment-soonest.ensures c.tick_still.result _ _ _ c.tick_still.ensures
 
 pub returns-in_err-now : goal.returns-in_err-now
 returns-in_err-now c =
@@ -39,4 +39,4 @@ returns c =
     tick_accepted a.head.now a.queue.now a.history.now a.nodes.now a.number a.time _ c.for_tick.ensures c.survey.result c.survey.ensures _ c.in-Some.is
     (sym (c.checks_heartbeats.ensures ∙ ap checks_heartbeats c.state_at.ensures) ∙ c.if-not-checks_heartbeats.false) c.in_ok-now.ensures.1
     _ c.settle.ensures c.if-not-found.false c.in_ok-now.now.us c.in_ok-now.ensures.0
-    c.phases-dealt.result _ _ _ c.phases-dealt.ensures c.phases-dealt.array_long c.moment.result c.moment.ensures _ c.set_earliest.ensures
+    c.phases-dealt.result _ _ _ c.phases-dealt.ensures c.phases-dealt.array_long c.moment-soonest.result c.moment-soonest.ensures _ c.set_earliest.ensures

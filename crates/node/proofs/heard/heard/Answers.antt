@@ -1,6 +1,7 @@
 -- `node::heard::heard` meets its contract: its tests, then one store, and the earliest moment.
 -- Assumes nothing.
 use mathlib.Core.Path.{◌≡◌, refl}
+use mathlib.Core.Bool.{true}
 use borrow.Author.Rules.{rules}
 use native.Mathlib.Omega.{arith}
 use Rattle.std.specs.declared.result.Result.TheVariants.{Err}
@@ -19,19 +20,17 @@ pub set_heard-requires : goal.set_heard-requires
 set_heard-requires c =
     let a = c.args in
     let x = found_formed a.nodes.now a.count a.node a.time c.find.result c.find.ensures _ _ c.in-Some.is in
-    omega (arith, few a.nodes.now a.count x.0, inside a.head.now a.nodes.now a.count a.node a.time x.0 _ x.1 _ refl c.try_heard.result c.try_heard.ensures c.in_ok-try_heard.was)
+    omega (arith, few a.nodes.now a.count x.0, inside a.head.now a.nodes.now a.count a.node a.time x.0 _ x.1 _ refl c.try_heard.result (c.try_heard.ensures true _ refl) c.in_ok-try_heard.was)
 
 pub returns : goal.returns
 returns c =
     let a = c.args in
     let x = found_formed a.nodes.now a.count a.node a.time c.find.result c.find.ensures _ _ c.in-Some.is in
-    there a.head.now a.nodes.now a.count a.node a.time x.0 _ x.1 _ refl c.try_heard.result c.try_heard.ensures c.in_ok-try_heard.was c.told-head c.told-nodes _ c.set_heard.ensures _
-    x.2
-    c.moment.result c.moment.ensures _ c.set_earliest.ensures
+    there a.head.now a.nodes.now a.count a.node a.time x.0 _ x.1 _ refl c.try_heard.result (c.try_heard.ensures true _ refl) c.in_ok-try_heard.was c.told-head c.told-nodes _ c.set_heard.ensures _ x.2 _ c.set_earliest.ensures
 
 pub returns-in_err-try_heard : goal.returns-in_err-try_heard
 returns-in_err-try_heard c =
     let a = c.args in
     let x = found_formed a.nodes.now a.count a.node a.time c.find.result c.find.ensures _ _ c.in-Some.is in
     let r : c.from_residual.result ≡ Err c.in_err-try_heard.field-0.0 = search rules in
-    rw r (declined a.head.now a.nodes.now a.count a.node a.time x.0 _ x.1 _ refl c.try_heard.result c.try_heard.ensures _ c.in_err-try_heard.was)
+    rw r (declined a.head.now a.nodes.now a.count a.node a.time x.0 _ x.1 _ refl c.try_heard.result (c.try_heard.ensures true _ refl) _ c.in_err-try_heard.was)

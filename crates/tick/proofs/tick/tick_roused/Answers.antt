@@ -32,4 +32,4 @@ returns c =
     let a = c.args in
     accepted a.head.now a.queue.now a.history.now a.nodes.now a.count a.time c.requires.0 c.requires.1 c.in_ok-time.ensures.1
     (sym c.requires.2 ∙ c.if-not-heard.false)
-    c.phases-dealt.result _ _ _ (rw c.in_ok-time.ensures.0 at c.phases-dealt.ensures) c.phases-dealt.array_long _ c.look_all-soonest.result (rw c.in_ok-time.ensures.0 at c.look_all-soonest.ensures) c.moment.result c.moment.ensures _ c.set_earliest.ensures
+    c.phases-dealt.result _ _ _ (rw c.in_ok-time.ensures.0 at c.phases-dealt.ensures) c.phases-dealt.array_long _ c.look_all-soonest.result (rw c.in_ok-time.ensures.0 at c.look_all-soonest.ensures) _ c.set_earliest.ensures

@@ -1,9 +1,13 @@
 -- `watched::nodes::look` meets its contract: node by node up to one that does not rest.
 -- Assumes nothing.
-use mathlib.Core.Path.{◌∙◌}
+use Prim.Native.Nat.{ℕ}
+use mathlib.Core.Path.{ap, ◌∙◌}
+use Rattle.std.specs.declared.option.Option.{Option}
+use Rattle.std.specs.declared.option.Option.TheVariants.{Some}
+use Rattle.watched.specs.declared.nodes.Seen.TheVariants.{Resting}
 use Rattle.watched.specs.Nodes.{node_of, rests, not_before}
 use Rattle.watched.specs.Climb.{nodes_from}
-use Rattle.watched.proofs.Watching.{many, formed_begins, formed_stops, formed_next, formed_ends, soonest_begins, soonest_next, soonest_ends, all_begins, all_stops, all_next, all_ends, rests_heard, tried_unformed, tried_formed, look_unformed, look_roused, look_rests}
+use Rattle.watched.proofs.Watching.{many, formed_begins, formed_stops, formed_next, formed_ends, soonest_begins, soonest_next, soonest_ends, all_begins, all_stops, all_next, all_ends, rests_heard, tried_unformed, tried_formed, look_unformed, look_roused, look_none, look_rests}
 use Rattle.watched.proofs.nodes.look.Goals as goal
 
 pub returns-then-count-gt32 : goal.returns-then-count-gt32
@@ -33,11 +37,17 @@ returns-in_default c =
     let l = c.loop-i in
     let a = c.args in
     let k = c.if-count-gt32.false in
-    c.roused.ensures
-    ∙ look_roused a.nodes.now a.count a.time l.last (nodes_from l.i a.count a.nodes.now) l.invariant.0
+    look_roused a.nodes.now a.count a.time l.last (nodes_from l.i a.count a.nodes.now) l.invariant.0
     (all_stops a.nodes.now a.count k l.i c.loop-i-test.true (node_of c.at-node.result) c.at-node.ensures (rests a.time) _ l.invariant.1
     (tried_unformed _ _ c.rest_until.result c.rest_until.ensures c.in_default.is))
-    l.invariant.3
+    l.invariant.3 c.roused.result c.roused.ensures _ c.in_ok-roused.was
+
+pub returns-in_err-roused : goal.returns-in_err-roused
+returns-in_err-roused c =
+    let l = c.loop-i in
+    let a = c.args in
+    c.from_residual.ensures
+    ∙ look_none a.nodes.now a.count a.time l.last (nodes_from l.i a.count a.nodes.now) l.invariant.0 c.roused.result c.roused.ensures c.in_err-roused.was
 
 pub loop-i-preserved : goal.loop-i-preserved
 loop-i-preserved c =
@@ -57,6 +67,7 @@ returns c =
     let l = c.loop-i in
     let a = c.args in
     let k = c.if-count-gt32.false in
-    look_rests a.nodes.now a.count a.time (formed_ends a.nodes.now a.count k l.i _ l.last l.invariant.0 c.loop-i-test.false)
+    ap (λ (m : Option ℕ). Some (Resting m)) c.moment.ensures
+    ∙ look_rests a.nodes.now a.count a.time (formed_ends a.nodes.now a.count k l.i _ l.last l.invariant.0 c.loop-i-test.false)
     (all_ends a.nodes.now a.count k l.i (rests a.time) _ l.invariant.1 c.loop-i-test.false) l.soonest
     (soonest_ends a.nodes.now a.count k l.i _ l.soonest l.invariant.2 c.loop-i-test.false)

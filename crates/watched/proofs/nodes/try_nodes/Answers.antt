@@ -1,6 +1,7 @@
 -- `watched::nodes::try_nodes` meets its contract: how many; then all nodes climb, and have numbers.
 -- Assumes nothing.
-use mathlib.Core.Path.{sym, ◌∙◌}
+use mathlib.Core.Path.{sym, ap, ◌∙◌}
+use Rattle.std.specs.declared.option.Option.TheVariants.{Some}
 use Rattle.watched.specs.Climb.{nodes_from}
 use Rattle.watched.proofs.Watching.{many, tried_unformed, tried_formed, formed_begins, soonest_begins, nodes_unformed, nodes_formed}
 use Rattle.watched.proofs.Climbing.{not_climbing, not_numbered, is_rising}
@@ -35,5 +36,6 @@ returns c =
     let k = c.if-count-gt32.false in
     let ws = nodes_from 0 a.count a.nodes.now in
     let x = tried_formed _ _ c.climb_from.result c.climb_from.ensures _ c.in_ok-soonest.was in
-    nodes_formed a.nodes.now a.count (formed_begins a.nodes.now a.count k ∙ is_rising 0 ws x.0 (sym c.have_numbers.ensures ∙ c.if-not-have_numbers.false))
+    ap Some c.moment.ensures
+    ∙ nodes_formed a.nodes.now a.count (formed_begins a.nodes.now a.count k ∙ is_rising 0 ws x.0 (sym c.have_numbers.ensures ∙ c.if-not-have_numbers.false))
     _ (soonest_begins a.nodes.now a.count k ∙ sym x.1)

@@ -1,4 +1,4 @@
--- `node::heard::moment` meets its contract.
+-- `watched::nodes::moment` meets its contract.
 -- Assumes nothing.
 use mathlib.Core.Path.{sym, ap}
 use mathlib.Core.Bool.{Bool}
@@ -6,7 +6,7 @@ use borrow.Author.Tests.{eq-eqb, ne_eqb}
 use Rattle.types.specs.Pick.{pick}
 use Rattle.std.specs.declared.option.Option.TheVariants.{Some, None}
 use Rattle.watched.specs.Nodes.{never}
-use Rattle.node.proofs.heard.moment.Goals as goal
+use Rattle.watched.proofs.nodes.moment.Goals as goal
 
 pub returns-then-soonest-eq-NEVER : goal.returns-then-soonest-eq-NEVER
 returns-then-soonest-eq-NEVER c =
