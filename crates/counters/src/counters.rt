@@ -1,6 +1,6 @@
 // The threshold counters (EPSG DS 301, Section 4.7.4.1) and those of a controlled node (Section 4.7.8).
-ghost use Rattle.std.specs.Prelude.{◌≡◌, true, false};
-ghost use Rattle.counters.specs.Counters.{new_counter, incremented, decremented, after_check, after_error, active, new_counters, threshold_for, counter, replaced, replied, counted_error, effect, effect_of, handled, lowered, any_active, completed, same_for_all, thresholds_fit};
+ghost use Rattle.std.specs.Prelude.{◌≡◌, true, false, map};
+ghost use Rattle.counters.specs.Counters.{new_counter, incremented, decremented, after_check, after_error, active, new_counters, threshold_for, counter, counter_kinds, replaced, replied, counted_error, effect, effect_of, handled, lowered, any_active, completed, same_for_all, thresholds_fit};
 
 use types::frame::error::types::{DllError, DllErrors, NmtAction};
 
@@ -265,6 +265,21 @@ impl CnErrorCounters {
             CounterKind::Crc => self.crc_errors,
             CounterKind::HeartbeatTimeout => self.heartbeat_timeout,
         }
+    }
+
+    // The counters of the seven kinds, in the order of the kinds.
+    pub fn each(self) -> [ThresholdCounter; 7]
+        ensures { result ≡ map (λ k. counter k self) counter_kinds }
+    {
+        [
+            self.collision,
+            self.loss_of_soc,
+            self.loss_of_soa,
+            self.loss_of_preq,
+            self.soc_jitter,
+            self.crc_errors,
+            self.heartbeat_timeout,
+        ]
     }
 
     // That of a kind is replaced.

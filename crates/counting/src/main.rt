@@ -2,8 +2,7 @@
 // and of crossings after it, one form a line. The stored output was printed by the Rust (compare/), so a run shows that both agree.
 #![tactic(auto)]
 
-ghost use Rattle.std.specs.Prelude.{◌≡◌, map};
-ghost use Rattle.counters.specs.Counters.{counter, counter_kinds};
+ghost use Rattle.std.specs.Prelude.{◌≡◌};
 
 use counters::counters::{CnErrorCounters, ErrorTaken, ThresholdCounter, Thresholds};
 use forms::errors::ErrorsForm;
@@ -11,21 +10,6 @@ use forms::generator::Generator;
 use forms::output::Output;
 use std::io;
 use types::frame::error::types::DllError;
-
-// The counters of the seven kinds, in the order of the kinds.
-fn each(counters: CnErrorCounters) -> [ThresholdCounter; 7]
-    ensures { result ≡ map (λ k. counter k counters) counter_kinds }
-{
-    [
-        counters.collision,
-        counters.loss_of_soc,
-        counters.loss_of_soa,
-        counters.loss_of_preq,
-        counters.soc_jitter,
-        counters.crc_errors,
-        counters.heartbeat_timeout,
-    ]
-}
 
 // One number of each counter.
 fn say_each<F: Fn(ThresholdCounter) -> u32>(
@@ -37,7 +21,7 @@ fn say_each<F: Fn(ThresholdCounter) -> u32>(
     requires { F.IsAlwaysCallable number }
 {
     write!(out, " ({name}");
-    for counter in each(counters) {
+    for counter in counters.each() {
         write!(out, " {}", number(counter));
     }
     write!(out, ")");

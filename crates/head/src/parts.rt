@@ -247,16 +247,7 @@ pub fn set_links(head: &mut Head, links: u32)
 pub fn errors_of(head: &Head) -> CnErrorCounters
     ensures { result ≡ errors_of head.now }
 {
-    CnErrorCounters {
-        collision: counter_of(head, CounterKind::Collision),
-        loss_of_soc: counter_of(head, CounterKind::LossOfSoc),
-        loss_of_soa: counter_of(head, CounterKind::LossOfSoa),
-        loss_of_preq: counter_of(head, CounterKind::LossOfPreq),
-        soc_jitter: counter_of(head, CounterKind::SoCJitter),
-        crc_errors: counter_of(head, CounterKind::Crc),
-        heartbeat_timeout: counter_of(head, CounterKind::HeartbeatTimeout),
-        loss_of_link_cumulative: head[LOSS_OF_LINK],
-    }
+    CnErrorCounters::by_kind(|kind| counter_of(head, kind), head[LOSS_OF_LINK])
 }
 
 // A word of each counter, at one place of its four.

@@ -40,16 +40,7 @@ fn machines(head: &Head) -> [u64; 7]
 fn kinds(head: &Head) -> [ThresholdCounter; 7]
     ensures { result ≡ kinds_of (head_of head.now).errors }
 {
-    let counters = errors_of(head);
-    [
-        counters.collision,
-        counters.loss_of_soc,
-        counters.loss_of_soa,
-        counters.loss_of_preq,
-        counters.soc_jitter,
-        counters.crc_errors,
-        counters.heartbeat_timeout,
-    ]
+    errors_of(head).each()
 }
 
 // The level and the cumulative count of each kind, and the lost links: written out, as two numbers of a kind stand side by side.
