@@ -1,12 +1,12 @@
 -- From what a call ensures and the numbers of its answer to the call of a line.
 -- Assumes nothing.
-use Prim.Native.Nat.{ℕ, min, ◌≤◌, ◌-◌, ◌%◌}
+use Prim.Native.Nat.{ℕ, min, ◌≤◌, ◌%◌}
 use mathlib.Core.Path.{◌≡◌, refl, sym, ap, subst, ◌∙◌}
 use mathlib.Core.Bool.{Bool, true, false, not}
 use mathlib.Core.List.{List, []}
 use native.Mathlib.Omega.{arith}
 use lib.Dec.{eqb, ltb}
-use lib.ListN.{length, take, drop}
+use lib.ListN.{length, take}
 use lib.Seq.{take_all}
 use borrow.Author.Tests.{ne_eqb, ltb-true, ltb-false}
 use Rattle.std.specs.Prelude.{MatchOption}
@@ -37,6 +37,9 @@ use Rattle.node.specs.declared.load.DictionaryUpdate.{DictionaryUpdate}
 use Rattle.node.specs.Plain.{Call, nmt_event, dll_event, error, cycle_complete, withdraw, hand_out, load, arm, range, margin, add, remove, Answer, refused, taken, nmt_answer, dll_answer, error_answer, cycle_answer, hand_out_answer, tick_answer, range_answer, margin_answer}
 use Rattle.node.specs.Run.{step}
 use Rattle.node.specs.Refines.{plain, Refines, left, history_update}
+use Rattle.node.specs.Loaded.{bytes_named}
+use Rattle.std.specs.Bool.{then_some}
+use denote.Ref.{Bor}
 use Rattle.node.specs.InPlace.{said, dll_said}
 use Rattle.tick.specs.TickIn.{tick_said}
 use Rattle.start.specs.Started.{StartedIn}
@@ -114,12 +117,20 @@ take_min l n = by (ltb n (length l)) refl
         take_all (min n (length l)) l (omega (arith, h)) ∙ sym (take_all n l h)
 
 pub call_load :
-    (g bytes : List ℕ) (u : DictionaryUpdate) (size to : ℕ) →
+    (g bytes : List ℕ) (u : DictionaryUpdate) (to : ℕ) (r : Bor (List ℕ)) (o : Option (Bor (List ℕ))) →
     u ≡ updates_of g →
-    size ≡ at g 7 →
-    to ≡ min size (length bytes) →
-    load u (history_update (not (eqb size 8589934592)) (take (to - 0) (drop 0 bytes))) ≡ load_call g bytes
-call_load g bytes u size to e f h = let s : to - 0 ≡ min size (length bytes) = omega (arith, h) in rw (e, s, take_min bytes size, f)
+    to ≡ min (at g 7) (length bytes) →
+    r.now ≡ take to bytes →
+    o ≡ then_some (not (eqb (at g 7) 8589934592)) r →
+    load u (history_update (bytes_named o)) ≡ load_call g bytes
+call_load g bytes u to r o e h n f = rw (e, f, by (eqb (at g 7) 8589934592))
+  where
+    first : r.now ≡ take (at g 7) bytes
+    first = n ∙ ap (λ (x : ℕ). take x bytes) h ∙ take_min bytes (at g 7)
+
+    by : (b : Bool) → bytes_named (then_some (not b) r) ≡ pick b None (Some (take (at g 7) bytes))
+    by true = refl
+    by false = ap Some first
 
 module _ {adds : Bool} (g : List ℕ) (r : Run) {n : ℕ} (node : n ≡ byte_of (at g 0)) where
   pub call_add : adds ≡ true → {t : ℕ} → t ≡ at g 1 → add n t r ≡ change_call adds g r

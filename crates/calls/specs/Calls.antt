@@ -1,7 +1,8 @@
 -- The call that a line's key and numbers are, and what is left of it: the plain head's, with the answer as numbers.
 -- Assumes nothing.
-use Rattle.std.specs.Prelude.{ℕ, ◌≡◌, Bool, not, List, eqb, set, take}
+use Rattle.std.specs.Prelude.{ℕ, ◌≡◌, Bool, List, eqb, set, take}
 use Rattle.types.specs.Pick.{pick}
+use Rattle.std.specs.declared.option.Option.TheVariants.{Some, None}
 use Rattle.types.specs.Refusals.{refusal_number}
 use Rattle.types.specs.Flags.{flags}
 use Rattle.types.specs.States.{state_number, read_state}
@@ -35,7 +36,7 @@ head_call key g =
 
 -- a load, whose history is the first so many bytes as its eighth number says
 abbrev pub load_call : List ℕ → List ℕ → Call
-load_call g bytes = load (updates_of g) (history_update (not (eqb (at g 7) kept)) (take (at g 7) bytes))
+load_call g bytes = load (updates_of g) (history_update (pick (eqb (at g 7) kept) None (Some (take (at g 7) bytes))))
 
 -- a node is added, or removed
 abbrev pub change_call : Bool → List ℕ → Run → Call

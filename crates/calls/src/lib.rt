@@ -114,7 +114,8 @@ pub fn load(
 {
     let size = given[7];
     let to = size.min(bytes.len() as u64) as usize;
-    node::load::load(head, history, updates(given), size != KEPT, &bytes[0..to]);
+    let entries = (size != KEPT).then_some(&bytes[..to]);
+    node::load::load(head, history, updates(given), entries);
     answers::answer(Ok(()), answer)
 }
 

@@ -74,10 +74,10 @@ module _ {ws ws' : List ℕ} (q m ns : List ℕ) (k : ℕ) where
   made_hand_out r e = Made.hand_out r e
 
   pub made_load :
-      {m' : List ℕ} (u : DictionaryUpdate) (named : Bool) (s : List ℕ) →
-      LoadedIn ws m u named s ws' m' →
-      Made ws q m ns k (Call.load u (history_update named s)) (says_only taken) ws' q m' ns k
-  made_load u named s e = Made.load u named s e
+      {m' : List ℕ} (u : DictionaryUpdate) (es : Option (List ℕ)) →
+      LoadedIn ws m u es ws' m' →
+      Made ws q m ns k (Call.load u (history_update es)) (says_only taken) ws' q m' ns k
+  made_load u es e = Made.load u es e
 
   pub made_tick :
       {q' m' ns' : List ℕ} (t : ℕ) (r : Result DllErrors Refusal) →

@@ -2,10 +2,9 @@
 -- Assumes nothing.
 use Prim.Native.Nat.{ℕ}
 use mathlib.Core.Path.{◌≡◌, refl}
-use mathlib.Core.Bool.{true}
 use mathlib.Core.List.{List, [], ◌∷◌}
 use Rattle.node.specs.declared.load.DictionaryUpdate.{DictionaryUpdate}
-use Rattle.std.specs.declared.option.Option.TheVariants.{None}
+use Rattle.std.specs.declared.option.Option.TheVariants.{Some, None}
 use Rattle.watched.specs.Watched.{Run}
 use Rattle.node.specs.Plain.{error, heard, load, add, remove}
 use Rattle.node.specs.Refines.{history_update}
@@ -46,8 +45,8 @@ module _ (l : Run) (bytes : List ℕ) where
 -- two loads of one script, each with its own part; past the end there is none
 parts :
     (l : Run) →
-    (call_of (row_at (loads 1 2 (loads 3 9 [])) 0) l (10 ∷ 11 ∷ 12 ∷ 13 ∷ 14 ∷ []) ≡ load keeps (history_update true (11 ∷ 12 ∷ [])))
-    × (call_of (row_at (loads 1 2 (loads 3 9 [])) 1) l (10 ∷ 11 ∷ 12 ∷ 13 ∷ 14 ∷ []) ≡ load keeps (history_update true (13 ∷ 14 ∷ [])))
+    (call_of (row_at (loads 1 2 (loads 3 9 [])) 0) l (10 ∷ 11 ∷ 12 ∷ 13 ∷ 14 ∷ []) ≡ load keeps (history_update (Some (11 ∷ 12 ∷ []))))
+    × (call_of (row_at (loads 1 2 (loads 3 9 [])) 1) l (10 ∷ 11 ∷ 12 ∷ 13 ∷ 14 ∷ []) ≡ load keeps (history_update (Some (13 ∷ 14 ∷ []))))
 unfolding values_of
 parts l = (refl, refl)
 

@@ -248,8 +248,7 @@ impl Player<'_> {
                     self.head,
                     self.history,
                     values(row),
-                    row.h == 1,
-                    part(self.bytes, row),
+                    (row.h == 1).then_some(part(self.bytes, row)),
                 );
                 None
             }

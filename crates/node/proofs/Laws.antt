@@ -16,6 +16,7 @@ use Rattle.types.specs.declared.nmt.states.NmtState.{NmtState}
 use Rattle.types.specs.declared.nmt.states.NmtState.TheVariants.{NmtReadyToOperate}
 use Rattle.types.specs.declared.nmt.events.NmtEvent.{NmtEvent}
 use Rattle.std.specs.declared.result.Result.TheVariants.{Ok, Err}
+use Rattle.std.specs.declared.option.Option.{Option}
 use Rattle.std.specs.declared.option.Option.TheVariants.{Some, None}
 use Rattle.types.specs.declared.frame.cs_state_machine.DllCsEvent.{DllCsEvent}
 use Rattle.types.specs.declared.frame.error.types.DllError.{DllError}
@@ -224,20 +225,20 @@ hand_out_taken h q r e =
     )
 
 -- load: the values, and the history where it is named
-module _ (h : Head) (m s : List ℕ) (values : DictionaryUpdate) (o : Dictionary) (e : o ≡ updated h.od values) where
+module _ (h : Head) (m : List ℕ) (values : DictionaryUpdate) (o : Dictionary) (e : o ≡ updated h.od values) where
   pub load_taken :
-      (m' : List ℕ) (named : Bool) (k : ErrorHistory) →
-      k ≡ loaded_places named s h.history →
-      m' ≡ loaded_memory named m s →
-      ((q : List ℕ) → Refines h q m (load values (history_update named s)) (left (head_with_values h o k) taken) q m' no_run)
+      (m' : List ℕ) (es : Option (List ℕ)) (k : ErrorHistory) →
+      k ≡ loaded_places es h.history →
+      m' ≡ loaded_memory es m →
+      ((q : List ℕ) → Refines h q m (load values (history_update es)) (left (head_with_values h o k) taken) q m' no_run)
       × (h.queue ≡ h.queue)
-      × (k ≡ loaded_places named s h.history)
-      × (m' ≡ loaded_memory named m s)
-  load_taken m' named k places bytes = (
+      × (k ≡ loaded_places es h.history)
+      × (m' ≡ loaded_memory es m)
+  load_taken m' es k places bytes = (
     λ q.
-        let lists : History.history m' k ≡ updated_history (History.history m h.history) (history_update named s) =
-        listed_by named m' k places bytes in
-        refined h q m (load values (history_update named s)) _ q m' no_run (step (plain h q m) (load values (history_update named s))) refl
+        let lists : History.history m' k ≡ updated_history (History.history m h.history) (history_update es) =
+        listed_by es m' k places bytes in
+        refined h q m (load values (history_update es)) _ q m' no_run (step (plain h q m) (load values (history_update es))) refl
         (λ i. plain_of h.nmt h.dll.state h.errors h.soc (e i) (Queue.capacity_of h.queue) (Queue.waiting q h.queue) (lists i) h.earliest)
         refl refl,
     refl,
@@ -246,12 +247,12 @@ module _ (h : Head) (m s : List ℕ) (values : DictionaryUpdate) (o : Dictionary
   )
     where
       listed_by :
-          (named : Bool) (m' : List ℕ) (k : ErrorHistory) →
-          k ≡ loaded_places named s h.history →
-          m' ≡ loaded_memory named m s →
-          History.history m' k ≡ updated_history (History.history m h.history) (history_update named s)
-      listed_by true m' k a b = rw (a, b) (history_loaded m s)
-      listed_by false m' k a b = rw (a, b)
+          (es : Option (List ℕ)) (m' : List ℕ) (k : ErrorHistory) →
+          k ≡ loaded_places es h.history →
+          m' ≡ loaded_memory es m →
+          History.history m' k ≡ updated_history (History.history m h.history) (history_update es)
+      listed_by (Some s) m' k a b = rw (a, b) (history_loaded m s)
+      listed_by None m' k a b = rw (a, b)
 
 -- the watch armed, by whether there is a cycle
 module _ (s : SocWatch) (o : Dictionary) (t y : ℕ) (e : y ≡ cycle_of o) where

@@ -16,6 +16,7 @@ use Rattle.watched.specs.Watched.{run}
 use Rattle.node.specs.Plain.{Call, taken, cycle_answer, hand_out_answer}
 use Rattle.node.specs.Steps.{no_run}
 use Rattle.node.specs.Refines.{Refines, left, history_update}
+use Rattle.node.specs.Loaded.{bytes_named}
 use Rattle.head.specs.Words.{head_of}
 use Rattle.watched.specs.Nodes.{nodes_of}
 use Rattle.node.specs.InPlace.{said, nmt_said, dll_said, error_said, range_said, margin_said}
@@ -75,7 +76,7 @@ arm_refines κs a o x e = e.refines
 
 pub load_refines :
     (κs : _) (a : _) (o : _) (x : _) → load-reads.Learnt κs a o x → (q : List ℕ) →
-    Refines (head_of a.0.now) q a.1.0.now (Call.load a.1.1.0 (history_update a.1.1.1.0 a.1.1.1.1.0.now))
+    Refines (head_of a.0.now) q a.1.0.now (Call.load a.1.1.0 (history_update (bytes_named a.1.1.1.0)))
     (left (head_of x.0.now) taken) q x.1.0.now no_run
 load_refines κs a o x e = e.refines
 

@@ -24,7 +24,10 @@ use Rattle.head.specs.Places as at
 use Rattle.head.specs.Words.{od_of, head_of}
 use Rattle.head.specs.Written.{history_written}
 use Rattle.head.proofs.Laws.{register_written, object_written_lem, statistic_written, history_written_lem}
-use Rattle.node.specs.Loaded.{byte_loaded, counter_loaded, object_loaded, ByteFits, values_loaded, load_words, LoadedIn}
+use Rattle.std.specs.Bool.{then_some}
+use Rattle.types.specs.Pick.{pick}
+use denote.Ref.{Bor}
+use Rattle.node.specs.Loaded.{bytes_named, byte_loaded, counter_loaded, object_loaded, ByteFits, values_loaded, load_words, LoadedIn}
 
 -- the number of words stays
 byte_long : (ws : List ℕ) (i : ℕ) (u : Option ℕ) → length (byte_loaded ws i u) ≡ length ws
@@ -125,36 +128,41 @@ values_in ws long u w₁ w₂ w₃ w₄ w₅ w₆ w₇ e₁ e₂ e₃ e₄ e₅ 
     (e₂ ∙ ap (λ (l : List ℕ). object_loaded l at.cycle u.cycle_time) e₁.0))))) in
     (ap head_of e ∙ (values_loaded_lem ws long u e₁.1).0, e)
 
+-- of entries that stand in an option by a test, the bytes do
+pub named_by : (b : Bool) (r : Bor (List ℕ)) → bytes_named (then_some b r) ≡ pick b (Some r.now) None
+named_by true r = refl
+named_by false r = refl
+
 -- the call
-module _ (ws m : List ℕ) (u : DictionaryUpdate) (s w₁ : List ℕ) (v : (head_of w₁ ≡ head_with_od (head_of ws) (updated (od_of ws) u)) × (w₁ ≡ values_loaded ws u)) where
+module _ (ws m : List ℕ) (u : DictionaryUpdate) (w₁ : List ℕ) (v : (head_of w₁ ≡ head_with_od (head_of ws) (updated (od_of ws) u)) × (w₁ ≡ values_loaded ws u)) where
   loads :
-      (named : Bool) (ws' m' : List ℕ) (k : ErrorHistory) →
+      (es : Option (List ℕ)) (ws' m' : List ℕ) (k : ErrorHistory) →
       head_of ws' ≡ head_with_values (head_of ws) (updated (od_of ws) u) k →
-      k ≡ loaded_places named s (head_of ws).history →
-      m' ≡ loaded_memory named m s →
-      ws' ≡ load_words ws u named s →
-      LoadedIn ws m u named s ws' m'
+      k ≡ loaded_places es (head_of ws).history →
+      m' ≡ loaded_memory es m →
+      ws' ≡ load_words ws u es →
+      LoadedIn ws m u es ws' m'
   unfolding head_of
-  loads named ws' m' k h p b w =
-      let x = load_taken (head_of ws) m s u (updated (od_of ws) u) refl m' named k p b in
+  loads es ws' m' k h p b w =
+      let x = load_taken (head_of ws) m u (updated (od_of ws) u) refl m' es k p b in
       record {
-        refines = λ q. subst (λ (g : Head). Refines (head_of ws) q m (Call.load u (history_update named s)) (left g taken) q m' no_run) (sym h) (x.0 q);
+        refines = λ q. subst (λ (g : Head). Refines (head_of ws) q m (Call.load u (history_update es)) (left g taken) q m' no_run) (sym h) (x.0 q);
         queue = ap (λ (g : Head). g.queue) h;
         history = ap (λ (g : Head). g.history) h ∙ p;
         memory = b;
         words = w;
       }
 
-  pub kept : LoadedIn ws m u false s w₁ m
+  pub kept : LoadedIn ws m u None w₁ m
   unfolding head_of load_words
-  kept = loads false w₁ m (head_of ws).history v.0 refl refl v.1
+  kept = loads None w₁ m (head_of ws).history v.0 refl refl v.1
 
   pub named_too :
-      length w₁ ≡ 60 → (k : ErrorHistory) (m' ws' : List ℕ) → k ≡ loaded s → m' ≡ loaded_memory true m s → ws' ≡ history_written w₁ k →
-      LoadedIn ws m u true s ws' m'
+      length w₁ ≡ 60 → (s : List ℕ) (k : ErrorHistory) (m' ws' : List ℕ) → k ≡ loaded s → m' ≡ loaded_memory (Some s) m → ws' ≡ history_written w₁ k →
+      LoadedIn ws m u (Some s) ws' m'
   unfolding load_words
-  named_too long k m' ws' e b w =
+  named_too long s k m' ws' e b w =
       let to : ws' ≡ history_written w₁ (loaded s) = w ∙ ap (history_written w₁) e in
-      loads true ws' m' (loaded s)
+      loads (Some s) ws' m' (loaded s)
       (ap head_of to ∙ history_loaded w₁ long s ∙ ap (λ (h : Head). head_with_values h h.od (loaded s)) v.0) refl b
       (to ∙ ap (λ (l : List ℕ). history_written l (loaded s)) v.1)

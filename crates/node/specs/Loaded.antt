@@ -1,7 +1,7 @@
 -- What load leaves of a head in words: the plain head's values and history, and every word.
 -- Assumes nothing.
-use Rattle.std.specs.Prelude.{ℕ, ◌≤◌, ◌≡◌, Bool, List, set}
-use Rattle.types.specs.Pick.{pick}
+use Rattle.std.specs.Prelude.{ℕ, ◌≤◌, ◌≡◌, List, set}
+use denote.Ref.{Bor}
 use Rattle.std.specs.declared.option.Option.{Option}
 use Rattle.std.specs.declared.option.Option.TheVariants.{Some, None}
 use Rattle.node.specs.declared.load.DictionaryUpdate.{DictionaryUpdate}
@@ -37,12 +37,19 @@ values_loaded ws u =
     (object_loaded (object_loaded (byte_loaded ws at.register u.error_register) at.cycle u.cycle_time) at.tolerance u.tolerance)
     at.counter1 u.counter_1) at.counter2 u.counter_2) at.counter3 u.counter_3) at.counter5 u.counter_5
 
-unfoldable pub load_words : List ℕ → DictionaryUpdate → Bool → List ℕ → List ℕ
-load_words ws u named s = pick named (history_written (values_loaded ws u) (loaded s)) (values_loaded ws u)
+unfoldable pub load_words : List ℕ → DictionaryUpdate → Option (List ℕ) → List ℕ
+load_words ws u (Some s) = history_written (values_loaded ws u) (loaded s)
+load_words ws u None = values_loaded ws u
 
-pub record LoadedIn (ws m : List ℕ) (u : DictionaryUpdate) (named : Bool) (s ws' m' : List ℕ) : Type 0 where
-  pub refines : (q : List ℕ) → Refines (head_of ws) q m (Call.load u (history_update named s)) (left (head_of ws') taken) q m' no_run
+-- the bytes of the entries that are named
+abbrev pub bytes_named : Option (Bor (List ℕ)) → Option (List ℕ)
+bytes_named (Some r) = Some r.now
+bytes_named None = None
+
+-- of a load on the words ws and the history's bytes m, of the values u and, where es has them, the bytes of the history's entries
+pub record LoadedIn (ws m : List ℕ) (u : DictionaryUpdate) (es : Option (List ℕ)) (ws' m' : List ℕ) : Type 0 where
+  pub refines : (q : List ℕ) → Refines (head_of ws) q m (Call.load u (history_update es)) (left (head_of ws') taken) q m' no_run
   pub queue : (head_of ws').queue ≡ (head_of ws).queue
-  pub history : (head_of ws').history ≡ loaded_places named s (head_of ws).history
-  pub memory : m' ≡ loaded_memory named m s
-  pub words : ws' ≡ load_words ws u named s
+  pub history : (head_of ws').history ≡ loaded_places es (head_of ws).history
+  pub memory : m' ≡ loaded_memory es m
+  pub words : ws' ≡ load_words ws u es

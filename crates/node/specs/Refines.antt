@@ -1,7 +1,9 @@
 -- What a head with its lent memory stands for, what a call leaves, and the one predicate that every call's contract is.
 -- Assumes nothing.
-use Rattle.std.specs.Prelude.{ℕ, ◌≡◌, Bool, true, false, List, [], ◌∷◌}
+use Rattle.std.specs.Prelude.{ℕ, ◌≡◌, List, [], ◌∷◌}
 use Rattle.types.specs.Pick.{pick}
+use Rattle.std.specs.declared.option.Option.{Option}
+use Rattle.std.specs.declared.option.Option.TheVariants.{Some, None}
 use Rattle.entries.specs.Queue.{capacity_of, waiting, pushed, pushed_bytes}
 use Rattle.entries.specs.History.{history, joined, joined_bytes, entries_in, loaded, loaded_bytes}
 use Rattle.entries.specs.declared.status_response.ErrorEntry.{ErrorEntry}
@@ -71,16 +73,18 @@ abbrev pub left : Head → Answer → Left
 left h a = record { head = h; answer = a }
 
 -- the history that a load names, from the bytes of its entries
-abbrev pub history_update : Bool → List ℕ → HistoryUpdate
-history_update true s = set (entries_in s)
-history_update false s = keep
+abbrev pub history_update : Option (List ℕ) → HistoryUpdate
+history_update (Some s) = set (entries_in s)
+history_update None = keep
 
 -- the history's places and bytes after a load
-abbrev pub loaded_places : Bool → List ℕ → ErrorHistory → ErrorHistory
-loaded_places named s h = pick named (loaded s) h
+abbrev pub loaded_places : Option (List ℕ) → ErrorHistory → ErrorHistory
+loaded_places (Some s) h = loaded s
+loaded_places None h = h
 
-abbrev pub loaded_memory : Bool → List ℕ → List ℕ → List ℕ
-loaded_memory named m s = pick named (loaded_bytes m s) m
+abbrev pub loaded_memory : Option (List ℕ) → List ℕ → List ℕ
+loaded_memory (Some s) m = loaded_bytes m s
+loaded_memory None m = m
 
 -- Of a call c on a head h with its memory q and m, which left o, the memory q' and m' and the run l: head and
 -- memory stand for the plain head after c, the answer is the plain head's, and so is the run, all its places and the number.

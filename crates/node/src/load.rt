@@ -3,7 +3,7 @@ ghost use Rattle.std.specs.Prelude.{◌≡◌};
 ghost use Rattle.node.specs.Steps.{updated};
 ghost use Rattle.head.specs.Places as at;
 ghost use Rattle.head.specs.Words.{od_of, head_of};
-ghost use Rattle.node.specs.Loaded.{byte_loaded, counter_loaded, object_loaded, ByteFits, values_loaded, LoadedIn};
+ghost use Rattle.node.specs.Loaded.{byte_loaded, counter_loaded, object_loaded, ByteFits, values_loaded, bytes_named, LoadedIn};
 ghost use Rattle.head.specs.Head.{head_with_od};
 
 use entries::error_history::ErrorHistory;
@@ -67,21 +67,18 @@ fn load_values(head: &mut Head, values: DictionaryUpdate)
     load_statistic(head, Statistic::Counter5, c5);
 }
 
-// Sets the values that are named and, where `with_history` says so, the history from the bytes of its entries, newest first: the newest 254
-// whole entries are taken.
+// Sets the values that are named and, where its entries are, the history from their bytes, newest first: the newest 254 whole entries are taken.
 pub fn load(
     head: &mut Head,
     memory: &mut [u8; 5080],
     values: DictionaryUpdate,
-    with_history: bool,
-    entries: &[u8],
+    entries: Option<&[u8]>,
 )
-    ensures { LoadedIn head.old memory.old values with_history entries.now head.new memory.new }
+    ensures { LoadedIn head.old memory.old values (bytes_named entries.entry) head.new memory.new }
 {
     load_values(head, values);
-    if with_history {
+    if let Some(entries) = entries {
         let history = ErrorHistory::load(memory, entries);
         set_history(head, history);
-        return;
     }
 }

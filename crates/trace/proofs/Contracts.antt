@@ -24,7 +24,7 @@ use Rattle.node.specs.Steps.{no_run}
 use Rattle.node.specs.Refines.{Refines, left, history_update}
 use Rattle.node.specs.InPlace.{InPlace, Reading, said, nmt_said, dll_said, error_said, range_said, margin_said, withdraw_words, nmt_words, dll_words, error_words, cycle_words, arm_words, hand_out_words}
 use Rattle.node.specs.Heard.{Heard}
-use Rattle.node.specs.Loaded.{LoadedIn}
+use Rattle.node.specs.Loaded.{bytes_named, LoadedIn}
 use Rattle.partners.specs.Partners.{Added, Removed}
 use Rattle.start.specs.Started.{start_of, StartedIn}
 use Rattle.tick.specs.TickIn.{tick_said, TickedIn}
@@ -126,14 +126,14 @@ hand_out_made κs a o x e = Made.hand_out o e
 
 pub load_ensures :
     (κs : _) (a : _) (o : _) (x : _) →
-    load.Learnt κs a o x ≡ LoadedIn a.0.now a.1.0.now a.1.1.0 a.1.1.1.0 a.1.1.1.1.0.now x.0.now x.1.0.now
+    load.Learnt κs a o x ≡ LoadedIn a.0.now a.1.0.now a.1.1.0 (bytes_named a.1.1.1.0) x.0.now x.1.0.now
 load_ensures κs a o x = refl
 
 pub load_made :
     {q ns : List ℕ} {k : ℕ} (κs : _) (a : _) (o : _) (x : _) →
     load.Learnt κs a o x →
-    Made a.0.now q a.1.0.now ns k (Call.load a.1.1.0 (history_update a.1.1.1.0 a.1.1.1.1.0.now)) (says_only taken) x.0.now q x.1.0.now ns k
-load_made κs a o x e = Made.load a.1.1.0 a.1.1.1.0 a.1.1.1.1.0.now e
+    Made a.0.now q a.1.0.now ns k (Call.load a.1.1.0 (history_update (bytes_named a.1.1.1.0))) (says_only taken) x.0.now q x.1.0.now ns k
+load_made κs a o x e = Made.load a.1.1.0 (bytes_named a.1.1.1.0) e
 
 pub arm_ensures :
     (κs : _) (a : _) (o : Result (Unit {0}) Refusal) (x : _) →

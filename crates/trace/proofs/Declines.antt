@@ -275,7 +275,7 @@ demand_1 {q = q} {m = m} n (Made.heard i t o e) h =
     declined n (e.on.refines q m) h (e.on.words ∙ said_leaves o n h _ _) refl refl (e.nodes ∙ said_leaves o n h _ _) refl
 demand_1 n (Made.heard_run l i t o l' e) h = run_declined n o e h
 demand_1 n (Made.hand_out o e) h = apart (sym h) refl refl
-demand_1 n (Made.load u named es e) h = apart (sym h) refl refl
+demand_1 n (Made.load u es e) h = apart (sym h) refl refl
 demand_1 {q = q} {m = m} n (Made.arm t o e) h =
     let r = e.refines q m in declined n r h (e.words ∙ arm_words_lem _ _ t n (sym r.answer ∙ h)) refl refl refl refl
 demand_1 n (Made.tick t o e) h =

@@ -36,7 +36,7 @@ refines {q = q} {m = m} (Made.withdraw o e) = e.refines q m
 refines {q = q} {m = m} (Made.heard n t o e) = e.on.refines q m
 refines {q = q} {m = m} (Made.heard_run r n t o r' e) = e.refines q m
 refines {m = m} (Made.hand_out o e) = e.0 m
-refines {q = q} (Made.load u named es e) = e.refines q
+refines {q = q} (Made.load u es e) = e.refines q
 refines {q = q} {m = m} (Made.arm t o e) = e.refines q m
 refines (Made.tick t o e) = e.on.refines
 refines (Made.tick_run r t o r' e) = e.refines

@@ -27,6 +27,8 @@ use Rattle.watched.specs.Watched.{Run}
 use Rattle.node.specs.Plain.{Plain, Call}
 use Rattle.node.specs.Run.{step, Said}
 use Rattle.node.specs.Refines.{plain, Rings, rings, joins, joins_all, history_update, loaded_places, loaded_memory}
+use Rattle.std.specs.declared.option.Option.{Option}
+use Rattle.std.specs.declared.option.Option.TheVariants.{Some, None}
 use Rattle.std.specs.declared.result.Result.{Result}
 use Rattle.types.specs.declared.frame.error.types.DllErrors.{DllErrors}
 use Rattle.types.specs.declared.refusals.Refusal.{Refusal}
@@ -108,13 +110,13 @@ brings_none : {h h' : ErrorHistory} {m m' : List ℕ} → h' ≡ h → m' ≡ m 
 brings_none {m = m} e f = record { others = subst (OthersStay [] m) (sym f) (none_written m); stands = e }
 
 brings_loaded :
-    (named : Bool) {h h' : ErrorHistory} {m m' : List ℕ} (s : List ℕ) →
+    (es : Option (List ℕ)) {h h' : ErrorHistory} {m m' : List ℕ} →
     length m ≡ 5080 →
-    h' ≡ loaded_places named s h →
-    m' ≡ loaded_memory named m s →
-    Brings h m (loaded_new (history_update named s)) h' m'
+    h' ≡ loaded_places es h →
+    m' ≡ loaded_memory es m →
+    Brings h m (loaded_new (history_update es)) h' m'
 unfolding loaded entries_in
-brings_loaded true {m = m} {m' = m'} s long e f =
+brings_loaded (Some s) {m = m} {m' = m'} long e f =
     let n : length s / 20 ≡ length (entries_in s) = sym (listed_long _ (length s / 20)) in
     record {
       others =
@@ -122,7 +124,7 @@ brings_loaded true {m = m} {m' = m'} s long e f =
           (subst (OthersStay (listed (λ i. i) (taken_of s)) m) (sym f) (entries_load m s long));
       stands = e ∙ ap (λ (n : ℕ). error_history 0 (min n 254)) n;
     }
-brings_loaded false s long e f = brings_none e f
+brings_loaded None long e f = brings_none e f
 
 -- a tick has at most one crossing
 data OneAtMost : List ErrorEntry → Type 0 where
@@ -211,7 +213,7 @@ brings long (Made.heard n t o e) = brings_none e.on.places.history refl
 brings long (Made.heard_run r n t o r' e) = brings_none e.places.history refl
 brings {ws = ws} {q = q} long (Made.hand_out o e) =
     brings_none (ap (λ (ws : List ℕ). (head_of ws).history) e.1 ∙ queue_apart ws (handed_out q _).queue) refl
-brings long (Made.load u named es e) = brings_loaded named es long e.history e.memory
+brings long (Made.load u es e) = brings_loaded es long e.history e.memory
 brings long (Made.arm t o e) = brings_none e.places.history refl
 brings long (Made.tick t o e) = brings_ticked long e.on
 brings long (Made.tick_run r t o r' e) = brings_ticked long e

@@ -77,9 +77,9 @@ pub data Made : List ℕ → List ℕ → List ℕ → List ℕ → ℕ → Call
       ((h : List ℕ) → Refines (head_of ws) q h Call.hand_out (left (head_of ws') (hand_out_answer o)) q h no_run) × (ws' ≡ hand_out_words ws q) →
       Made ws q m ns k Call.hand_out (says_only (hand_out_answer o)) ws' q m ns k
   load :
-      {ws q m ns ws' m' : List ℕ} {k : ℕ} (u : DictionaryUpdate) (named : Bool) (es : List ℕ) →
-      LoadedIn ws m u named es ws' m' →
-      Made ws q m ns k (Call.load u (history_update named es)) (says_only taken) ws' q m' ns k
+      {ws q m ns ws' m' : List ℕ} {k : ℕ} (u : DictionaryUpdate) (es : Option (List ℕ)) →
+      LoadedIn ws m u es ws' m' →
+      Made ws q m ns k (Call.load u (history_update es)) (says_only taken) ws' q m' ns k
   arm :
       {ws q m ns ws' : List ℕ} {k : ℕ} (t : ℕ) (o : Result (Unit {0}) Refusal) →
       InPlace ws (Call.arm t) (said o) ws' (arm_words ws t) →

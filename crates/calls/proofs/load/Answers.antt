@@ -7,5 +7,5 @@ use Rattle.calls.proofs.load.Goals as goal
 pub returns : goal.returns
 returns c q =
     let a = c.args in
-    made_as (call_load a.given a.bytes.now c.updates.result _ c.min-to.result c.updates.ensures refl c.min-to.ensures)
+    made_as (call_load a.given a.bytes.now c.updates.result c.min-to.result _ _ c.updates.ensures c.min-to.ensures refl c.then_some-entries.ensures)
     (made (c.load.ensures.refines q) c.answer.ensures)

@@ -7,6 +7,7 @@ use Rattle.watched.specs.Nodes.{nodes_of}
 use Rattle.node.specs.InPlace.{said, nmt_said, dll_said, error_said, range_said, margin_said}
 use Rattle.tick.specs.TickIn.{tick_said}
 use Rattle.drive.specs.declared.Tag.TheVariants.{NmtEvent, DllEvent, Error, CycleComplete, Withdraw, Heard, HandOut, Load, Tick, Lend, Range, Margin, Add, Remove, Arm}
+use Rattle.node.proofs.Loading.{named_by}
 use Rattle.drive.proofs.Making.{made_nmt, made_dll, made_error, made_cycle, made_withdraw, made_arm, made_hand_out, made_load, made_tick, made_heard, made_add, made_remove, made_range, made_margin}
 use Rattle.drive.proofs.Turning.{turned_of, declined_lem}
 use Rattle.drive.proofs.Player.call.Goals as goal
@@ -63,8 +64,8 @@ returns-in-HandOut-clause-turned c =
 pub returns-in-Load-clause-turned : goal.returns-in-Load-clause-turned
 returns-in-Load-clause-turned c =
     let s = c.args.self.now in
-    turned_of c.args.row (run (nodes_of s.nodes.now) s.watched) s.bytes.now Load (rw (c.values.ensures, c.part.ensures)) c.in-Load.is
-    (made_load s.queue.now s.history.now s.nodes.now s.watched c.values.result (eqb c.args.row.h 1) c.part.result.now c.load.ensures)
+    turned_of c.args.row (run (nodes_of s.nodes.now) s.watched) s.bytes.now Load (rw (c.values.ensures, c.then_some.ensures, named_by (eqb c.args.row.h 1) c.part.result, c.part.ensures)) c.in-Load.is
+    (made_load s.queue.now s.history.now s.nodes.now s.watched c.values.result _ c.load.ensures)
     refl
 
 pub returns-in-Tick-clause-turned : goal.returns-in-Tick-clause-turned

@@ -3,11 +3,11 @@
 use Rattle.node.proofs.Loading.{kept, named_too}
 use Rattle.node.proofs.load.load.Goals as goal
 
-pub returns-then-with_history : goal.returns-then-with_history
-returns-then-with_history c =
-    rw c.if-with_history.true
-    (named_too c.args.head.now c.args.memory.now c.args.values c.args.entries.now _ c.load_values.ensures c.load_values.array_long c.load-history.result _ _ c.load-history.ensures.0 c.load-history.ensures.1 c.set_history.ensures)
+pub returns-in-Some : goal.returns-in-Some
+returns-in-Some c =
+    rw c.in-Some.is
+    (named_too c.args.head.now c.args.memory.now c.args.values _ c.load_values.ensures c.load_values.array_long _ c.load-history.result _ _ c.load-history.ensures.0 c.load-history.ensures.1 c.set_history.ensures)
 
-pub returns : goal.returns
-returns c =
-    rw c.if-with_history.false (kept c.args.head.now c.args.memory.now c.args.values c.args.entries.now _ c.load_values.ensures)
+pub returns-in_default : goal.returns-in_default
+returns-in_default c =
+    rw c.in_default.is (kept c.args.head.now c.args.memory.now c.args.values _ c.load_values.ensures)
