@@ -62,6 +62,16 @@ pub struct EntryType {
     pub profile: u16,
 }
 
+impl EntryType {
+    // Of the entry of an event that goes to the emergency queue: an entry of the history, by the POWERLINK profile.
+    pub const QUEUED_EVENT: EntryType = EntryType {
+        is_status_entry: false,
+        send_to_queue: true,
+        mode: ErrorEntryMode::EventOccurred,
+        profile: 2,
+    };
+}
+
 #[tactic(auto, unfolding(crate::specs::Entry::type_of))]
 impl From<u16> for EntryType {
     ghost from_gives = { λ n t. t ≡ type_of n };
@@ -105,14 +115,8 @@ impl ErrorEntry {
     pub fn of_crossing(error: DllError, time: u64) -> Self
         ensures { result ≡ crossing_entry error time }
     {
-        let entry_type = EntryType {
-            is_status_entry: false,
-            send_to_queue: true,
-            mode: ErrorEntryMode::EventOccurred,
-            profile: 2,
-        };
         Self {
-            entry_type,
+            entry_type: EntryType::QUEUED_EVENT,
             error_code: error.to_error_code(),
             timestamp: NetTime::from_micros(time),
             additional_information: 0,

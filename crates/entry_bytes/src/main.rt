@@ -7,7 +7,7 @@ ghost use Rattle.entry_bytes.specs.Patterns.{last, filled, numbered};
 
 use entries::desk;
 use entries::error_history::{ErrorHistory, write_error_to_history};
-use entries::status_response::{EntryType, ErrorEntry, ErrorEntryMode};
+use entries::status_response::{EntryType, ErrorEntry};
 use forms::generator::Generator;
 use forms::output::Output;
 use std::io;
@@ -98,14 +98,8 @@ fn print_reads(out: &mut Output) {
 fn numbered_entry(number: u16) -> ErrorEntry
     ensures { result ≡ numbered number }
 {
-    let entry_type = EntryType {
-        is_status_entry: false,
-        send_to_queue: true,
-        mode: ErrorEntryMode::EventOccurred,
-        profile: 2,
-    };
     ErrorEntry {
-        entry_type,
+        entry_type: EntryType::QUEUED_EVENT,
         error_code: number,
         timestamp: NetTime::new(u32::from(number), 0),
         additional_information: 0,

@@ -10,7 +10,7 @@ use crate::comes::{heard_comes, tick_comes};
 use crate::heads::{awaiting, counting, crossed, cycling, watch_none, watching};
 use crate::memory::{is_recorded, waits};
 use crate::runs::is_watching;
-use entries::status_response::{EntryType, ErrorEntry, ErrorEntryMode};
+use entries::status_response::{EntryType, ErrorEntry};
 use head::state::Head;
 use types::common::NetTime;
 use types::frame::error::types::{DllError, DllErrors};
@@ -52,12 +52,7 @@ fn crossing_entry() -> ErrorEntry
     ensures { result ≡ table.entry }
 {
     ErrorEntry {
-        entry_type: EntryType {
-            is_status_entry: false,
-            send_to_queue: true,
-            mode: ErrorEntryMode::EventOccurred,
-            profile: 2,
-        },
+        entry_type: EntryType::QUEUED_EVENT,
         error_code: 0x8245,
         timestamp: NetTime {
             seconds: 0,
