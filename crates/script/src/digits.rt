@@ -14,7 +14,7 @@ fn byte_of(high: u8, low: u8) -> Option<u8>
 }
 
 // Reads the bytes whose digits a line is; None where one is no digit, or is left over.
-#[tactic(auto, unfolding(crate::specs::Script::bytes_at))]
+#[tactic(auto, using(crate::proofs::Reading::bytes_goes, crate::proofs::Reading::pair_more), unfolding(crate::specs::Script::bytes_at))]
 pub(crate) fn read_bytes(line: &[u8], bytes: &mut EntryBuffer) -> Option<()>
     requires { length bytes.old.items + length line.now / 2 ≤ 6000 }
     ensures read { got (is_some result) bytes.new.items ≡ bytes_at line.now bytes.old.items }
@@ -42,7 +42,7 @@ fn read_word(word: &[u8], bytes: &mut EntryBuffer) -> Option<()>
 }
 
 // Reads the entries that a line is; None where one of them is no entry.
-#[tactic(auto, unfolding(crate::specs::Script::entries_at))]
+#[tactic(auto, using(crate::proofs::Reading::entries_goes, crate::proofs::Reading::word_more), unfolding(crate::specs::Script::entries_at))]
 pub(crate) fn read_entries(line: &[u8], bytes: &mut EntryBuffer) -> Option<()>
     requires { length bytes.old.items + length line.now / 41 * 20 ≤ 6000 }
     ensures { got (is_some result) bytes.new.items ≡ entries_at (length line.now / 41) line.now bytes.old.items }

@@ -51,15 +51,13 @@ impl Line {
         ensures gathered { gathers self.new result ≡ gather_from part.now self.old 0 }
         ensures within { result ≤ length part.now }
     {
-        let mut taken = 0;
-        for &byte in part {
-            taken += 1;
+        for (before, &byte) in part.iter().enumerate() {
             if byte == b'\n' {
                 self.whole = true;
-                return taken;
+                return before + 1;
             }
             self.keep(byte);
         }
-        taken
+        part.len()
     }
 }

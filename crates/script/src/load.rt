@@ -1,10 +1,21 @@
 // Reading a `load`: the values that it names, and the entries of its history, each a word of 40 hexadecimal digits.
-ghost use Rattle.std.specs.Prelude.{◌≡◌, ◌≤◌, [], length};
-ghost use Rattle.script.specs.Script.{says, left, value, values, history_says, load_says};
+ghost use Rattle.std.specs.Prelude.{◌≡◌, ◌≤◌, [], length, map};
+ghost use Rattle.script.specs.Script.{says, left, value, values_by, values, history_says, load_says};
 
 use crate::EntryBuffer;
 use crate::digits::read_entries;
 use patterns::{Given, KEPT, match_at};
+
+// The values, in the order in which a load names them.
+const VALUES: [&[u8]; 7] = [
+    b" register B",
+    b" cycle O",
+    b" tolerance O",
+    b" c1 W",
+    b" c2 W",
+    b" c3 W",
+    b" c5 W",
+];
 
 // Reads a value that may be named; the rest of the line.
 #[tactic(auto, unfolding(crate::specs::Script::value))]
@@ -19,18 +30,23 @@ fn read_value<'a>(row: &[u8], line: &'a [u8], given: &mut Given, place: usize) -
     rest
 }
 
-// Reads the values that are named, in their order; the rest of the line.
+// Reads the values of some rows, in their order; the rest of the line.
+fn read_values_by<'a>(rows: &[&[u8]], line: &'a [u8], given: &mut Given) -> &'a [u8]
+    requires { length rows.now ≤ 18 }
+    ensures { left result.now given.new ≡ values_by (map (λ row. row.now) rows.now) 0 (left line.now given.old) }
+{
+    let mut rest = line;
+    for (place, row) in rows.iter().enumerate() {
+        rest = read_value(row, rest, given, place);
+    }
+    rest
+}
+
 #[tactic(auto, unfolding(crate::specs::Script::values))]
 fn read_values<'a>(line: &'a [u8], given: &mut Given) -> &'a [u8]
     ensures { left result.now given.new ≡ values (left line.now given.old) }
 {
-    let line = read_value(b" register B", line, given, 0);
-    let line = read_value(b" cycle O", line, given, 1);
-    let line = read_value(b" tolerance O", line, given, 2);
-    let line = read_value(b" c1 W", line, given, 3);
-    let line = read_value(b" c2 W", line, given, 4);
-    let line = read_value(b" c3 W", line, given, 5);
-    read_value(b" c5 W", line, given, 6)
+    read_values_by(&VALUES, line, given)
 }
 
 // Reads the history, which is the rest of the line.
