@@ -3,7 +3,6 @@
 use Rattle.std.proofs.Common.{◌≡◌, ℕ, suc, ◌+◌, ◌<◌, ◌≤◌, List, [], ◌∷◌, ◌++◌, length, get_or, take, drop, set, refl, sym, ap, ◌∙◌, append_assoc, add-one, arith, drop-cons}
 use Rattle.std.proofs.lemmas.List.{take_more_set, drop-set, drop-set-lt, take-set, take_all, drop_all, append-nil}
 use Rattle.std.proofs.Math.Seq.{take-suc}
-use Rattle.lentlaws.specs.Fold.{folded}
 use Rattle.lentlaws.specs.Scan.{scanned, carried_back, scanned_back}
 use Rattle.lentlaws.proofs.ScanLaws.{scanned_back_append}
 
@@ -15,10 +14,6 @@ module _ {E : Type 0} (xs : List E) (i : ℕ) (x : E) (l : i < length xs) (e : x
   up_to_index = rw add-one (take-suc xs i x l ∙ ap (λ (y : E). take i xs ++ (y ∷ [])) (sym e))
 
   module _ {A : Type 0} where
-    pub fold_turn : (f : A → E → A) (a b : A) → b ≡ f a x → folded f b (drop (i + 1) xs) ≡ folded f a (drop i xs)
-    unfolding folded
-    fold_turn f a b h = ap (λ (c : A). folded f c (drop (i + 1) xs)) h ∙ sym (ap (folded f a) at_index)
-
     module _ (sets : A → E → E) (carries : A → E → A) (a : A) (r : E × A) (h : r ≡ (sets a x, carries a x)) where
       pub scan_turn : take (i + 1) (set xs i r.0) ++ scanned sets carries r.1 (drop (i + 1) (set xs i r.0)) ≡ take i xs ++ scanned sets carries a (drop i xs)
       unfolding scanned

@@ -16,11 +16,7 @@ pub fn fold<E: Copy, A, F: Fn(A, E) -> A>(xs: &[E], first: A, step: F) -> A
     requires { F.IsAlwaysCallable step }
     ensures { (f : A → E → A) → ((a : A) (x : E) (b : A) → F.post step a x b → b ≡ f a x) → result ≡ folded f first xs.now }
 {
-    let mut carried = first;
-    for x in xs {
-        carried = step(carried, *x);
-    }
-    carried
+    xs.iter().fold(first, |carried, x| step(carried, *x))
 }
 
 // Each record, in order: the step gives what it becomes, and what is carried on.

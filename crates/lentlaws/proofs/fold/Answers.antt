@@ -1,14 +1,17 @@
-use Rattle.std.proofs.Common.{sym, ap, ◌∙◌, arith}
-use Rattle.std.proofs.lemmas.List.{drop_all}
+-- `lentlaws::fold` meets its contract: std's fold over the elements, by what the step ensures.
+-- Assumes nothing.
+use Rattle.std.proofs.Common.{◌≡◌, List, [], ◌∷◌, refl, ◌∙◌, rules}
+use Rattle.std.specs.List.{fold}
+use Rattle.std.proofs.lemmas.Iterator.{YieldsList-from_slice}
+use Rattle.std.proofs.lemmas.Iterator.Consumers.{fold_from_yields_List}
 use Rattle.lentlaws.specs.Fold.{folded}
-use Rattle.lentlaws.proofs.Walks.{fold_turn}
 use Rattle.lentlaws.proofs.fold.Goals as goal
 
-pub loop-x-preserved : goal.loop-x-preserved
-loop-x-preserved g c =
-    λ f h. fold_turn c.args.xs.now c.loop-x.x-index c.x-item.result (omega arith) c.x-item.is f c.loop-x.carried c.step-carried.result (h _ _ _ c.step-carried.ensures)
-    ∙ c.loop-x.invariant f h
+same : {A E : Type 0} (f : A → E → A) (a : A) (xs : List E) → fold f a xs ≡ folded f a xs
+unfolding folded
+same f a [] = refl
+same f a (x ∷ xs) = same f (f a x) xs
 
 pub returns : goal.returns
-unfolding folded
-returns g c = λ f h. sym (ap (folded f c.loop-x.carried) (drop_all c.loop-x.x-index c.args.xs.now (omega arith))) ∙ c.loop-x.invariant f h
+returns g c =
+    λ f h. fold_from_yields_List _ f _ _ c.fold.ensures.ran (YieldsList-from_slice c.args.xs.now c.iter.ensures.rest) (λ a x b q k. search rules) ∙ same f c.args.first c.args.xs.now
