@@ -13,6 +13,7 @@ use Rattle.types.specs.Pick.{pick, both}
 use Rattle.types.specs.Types.{is_node}
 use Rattle.types.proofs.Tests.{both_first, both_second}
 use Rattle.types.specs.declared.refusals.Refusal.{Refusal}
+use Rattle.types.specs.declared.refusals.Refusal.TheVariants.{WatchedNodes}
 use Rattle.counters.specs.Counters.{new_counter}
 use Rattle.head.specs.Written.{earliest_written}
 use Rattle.watched.specs.declared.nodes.WatchedNode.{WatchedNode}
@@ -198,8 +199,8 @@ module _ (ws : List ℕ) (vs : List WatchedNode) (k n : ℕ) (f : Findings) (ask
   add_unformed p t v a c e = Adding.add_unformed ws r n t v a (sym lent ∙ ap (λ (o : Option Findings). is_some o) p) false k c e
 
   -- a removal of one
-  pub remove_unformed : o ≡ None → (c : Result (Unit {0}) Refusal) → c ≡ remove_answer false false → RemovedOn ws r n c ws r
-  remove_unformed p c e = Removing.remove_unformed ws r n (sym lent ∙ ap (λ (o : Option Findings). is_some o) p) false c e
+  pub remove_unformed : o ≡ None → RemovedOn ws r n (Err WatchedNodes) ws r
+  remove_unformed p = Removing.remove_unformed ws r n (sym lent ∙ ap (λ (o : Option Findings). is_some o) p) false (Err WatchedNodes) refl
 
   module _ (s : Findings) (p : o ≡ Some s) where
     passed : true ≡ well_lent r

@@ -132,9 +132,7 @@ pub fn remove(
     ensures { RemovedOn head.old (run nodes.old number.old) node result head.new (run nodes.new number.new) }
 {
     let count = *number;
-    let Some(found) = survey(nodes, count, for_heard(node, 0)) else {
-        return try_remove(None);
-    };
+    let found = survey(nodes, count, for_heard(node, 0)).ok_or(Refusal::WatchedNodes)?;
     try_remove(Some(found.watched))?;
     let closing = Closing {
         left: 32,

@@ -21,9 +21,7 @@ pub fn heard(
 ) -> Result<(), Refusal>
     ensures { HeardOn head.old (run nodes.old number) node time result head.new (run nodes.new number) }
 {
-    let Some(found) = survey(nodes, number, for_heard(node, time)) else {
-        return Err(Refusal::WatchedNodes);
-    };
+    let found = survey(nodes, number, for_heard(node, time)).ok_or(Refusal::WatchedNodes)?;
     try_heard(Some(found.watched), time)?;
     settle(nodes, number, Setting::Heard(node, time));
     set_earliest(head, moment(found.soonest));

@@ -109,9 +109,7 @@ fn try_node(tried: Option<u8>, w: WatchedNode) -> Option<u8>
     ensures { result ≡ tried_by tried w }
 {
     let last = tried?;
-    NodeRecord::from(w)
-        .follows(last as u64)
-        .then_some(w.node)
+    NodeRecord::from(w).follows(last as u64).then_some(w.node)
 }
 
 // The error of a late node, where none has crossed.

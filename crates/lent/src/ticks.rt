@@ -76,9 +76,7 @@ pub fn process_tick(
 ) -> Result<DllErrors, Refusal>
     ensures { TickedOn head.old queue.old history.old (run nodes.old number) time result head.new queue.new history.new (run nodes.new number) }
 {
-    let Some(found) = survey(nodes, number, for_tick(head, time)) else {
-        return Err(Refusal::WatchedNodes);
-    };
+    let found = survey(nodes, number, for_tick(head, time)).ok_or(Refusal::WatchedNodes)?;
     let soonest = moment(found.soonest);
     if !checks_heartbeats(state_at(head)) {
         return tick_still(head, queue, history, time, soonest);
