@@ -1,8 +1,10 @@
-// What a call does to the records that are lent to it, each once for all types and all steps: a closure says what a step does, and what it ensures tells what the call does.
+// What a call does to what is lent to it, each once for all types and all steps: a closure says what a step does, and what it ensures tells what the call does.
 //
-//   fold       something carried over the records, from the first to the last; none is written
-//   scan       each record becomes what the step makes of it and of what is carried to it, from the first to the last
-//   scan_back  the same from the last to the first
+//   change         a value becomes what the step makes of it
+//   change_answer  the same, and the step's answer is handed on
+//   fold           something carried over the records, from the first to the last; none is written
+//   scan           each record becomes what the step makes of it and of what is carried to it, from the first to the last
+//   scan_back      the same from the last to the first
 //
 // The contract of a walk holds of every function, or pair of functions, that the step computes: a caller names it, and says that what the step ensures is it.
 #![tactic(auto)]
@@ -10,6 +12,24 @@
 ghost use Rattle.std.specs.Prelude.{◌≡◌};
 ghost use Rattle.lentlaws.specs.Fold.{folded};
 ghost use Rattle.lentlaws.specs.Scan.{scanned, scanned_back};
+
+// A value, by a function of it.
+pub fn change<S: Copy, F: Fn(S) -> S>(lent: &mut S, step: F)
+    requires { F.IsAlwaysCallable step }
+    ensures { F.post step lent.old lent.new }
+{
+    *lent = step(*lent);
+}
+
+// A value, by a function of it that answers too.
+pub fn change_answer<S: Copy, X, F: Fn(S) -> (S, X)>(lent: &mut S, step: F) -> X
+    requires { F.IsAlwaysCallable step }
+    ensures { F.post step lent.old (lent.new, result) }
+{
+    let (next, answer) = step(*lent);
+    *lent = next;
+    answer
+}
 
 // The records, in order.
 pub fn fold<E: Copy, A, F: Fn(A, E) -> A>(xs: &[E], first: A, step: F) -> A
