@@ -16,36 +16,24 @@ use Rattle.patterns.specs.Patterns.{kept}
 use Rattle.types.specs.States.{read_state}
 use Rattle.types.specs.Events.{read_command}
 use Rattle.types.specs.Kinds.{kind_behind}
-use Rattle.types.specs.declared.nmt.flags.FeatureFlags.{FeatureFlags}
-use Rattle.types.specs.Flags.{flags}
-use Rattle.counters.specs.declared.counters.Thresholds.{Thresholds}
 use Rattle.entries.specs.Entry.{mode_of}
 use Rattle.entries.specs.Ring.{nth}
 use Rattle.entries.specs.Queue.{waiting}
-use Rattle.entries.specs.Desk.{Reply, write_reply, desk_after}
 use Rattle.entries.specs.declared.status_response.ErrorEntry.{ErrorEntry}
-use Rattle.std.specs.declared.result.Result.{Result}
-use Rattle.std.specs.declared.result.Result.TheVariants.{Ok, Err}
-use Rattle.types.specs.declared.frame.error.types.DllErrors.{DllErrors}
 use Rattle.std.specs.declared.option.Option.{Option}
 use Rattle.std.specs.declared.option.Option.TheVariants.{Some, None}
-use Rattle.types.specs.declared.refusals.Refusal.{Refusal}
-use Rattle.head.specs.declared.state.Dictionary.{Dictionary}
 use Rattle.head.specs.Words.{queue_of, head_of}
 use Rattle.watched.specs.Watched.{Run}
 use Rattle.node.specs.declared.load.DictionaryUpdate.{DictionaryUpdate}
-use Rattle.node.specs.Plain.{Call, nmt_event, dll_event, error, cycle_complete, withdraw, hand_out, load, arm, range, margin, add, remove, Answer, refused, taken, nmt_answer, dll_answer, error_answer, cycle_answer, hand_out_answer, tick_answer, range_answer, margin_answer}
+use Rattle.node.specs.Plain.{Call, nmt_event, dll_event, error, cycle_complete, withdraw, hand_out, load, arm, range, margin, Answer, refused, taken, nmt_answer, dll_answer, error_answer, cycle_answer, hand_out_answer, tick_answer, range_answer, margin_answer}
 use Rattle.node.specs.Run.{step}
 use Rattle.node.specs.Refines.{plain, Refines, left, history_update}
 use Rattle.node.specs.Loaded.{bytes_named}
 use Rattle.std.specs.Bool.{then_some}
 use denote.Ref.{Bor}
-use Rattle.node.specs.InPlace.{said, dll_said}
-use Rattle.tick.specs.TickIn.{tick_said}
-use Rattle.start.specs.Started.{StartedIn}
 use Rattle.answers.specs.Numbers.{numbers_of}
-use Rattle.calls.specs.Values.{at, named, byte_of, half_of, word_of, dictionary_of, thresholds_of, updates_of}
-use Rattle.calls.specs.Calls.{head_call, load_call, change_call, Makes, Starts, state_numbers, command_numbers, kind_numbers, reading_numbers, write_numbers}
+use Rattle.calls.specs.Values.{at, named, byte_of, half_of, updates_of}
+use Rattle.calls.specs.Calls.{head_call, load_call, Makes, state_numbers, command_numbers, kind_numbers, reading_numbers}
 
 module _ {ws q m ns ws' q' m' : List ℕ} {c : Call} {l : Run} where
   pub made : {a : Answer} → Refines (head_of ws) q m c (left (head_of ws') a) q' m' l → ns ≡ numbers_of a → Makes ws q m c ns ws' q' m' l
@@ -54,12 +42,6 @@ module _ {ws q m ns ws' q' m' : List ℕ} {c : Call} {l : Run} where
   -- of a call that is the same one
   pub made_as : {d : Call} → c ≡ d → Makes ws q m c ns ws' q' m' l → Makes ws q m d ns ws' q' m' l
   made_as e t = subst (λ (x : Call). Makes ws q m x ns ws' q' m' l) e t
-
--- the numbers of what a tick logs are those of what a DLL event reports
-pub ticked : (r : Result DllErrors Refusal) → numbers_of (dll_said r) ≡ numbers_of (tick_said r)
-unfolding numbers_of
-ticked (Ok es) = refl
-ticked (Err r) = refl
 
 -- the two bits of a mode stand in the lowest 16
 pub mode_in_half : (n : ℕ) → mode_of (half_of n) ≡ mode_of n
@@ -132,13 +114,6 @@ call_load g bytes u to r o e h n f = rw (e, f, by (eqb (at g 7) 8589934592))
     by true = refl
     by false = ap Some first
 
-module _ {adds : Bool} (g : List ℕ) (r : Run) {n : ℕ} (node : n ≡ byte_of (at g 0)) where
-  pub call_add : adds ≡ true → {t : ℕ} → t ≡ at g 1 → add n t r ≡ change_call adds g r
-  call_add h e = rw (h, node, e)
-
-  pub call_remove : adds ≡ false → remove n r ≡ change_call adds g r
-  call_remove h = rw (h, node)
-
 -- the entry that an answer hands out
 abbrev handed : Answer → Option ErrorEntry
 handed (refused n) = None
@@ -169,35 +144,6 @@ module _ (key n : ℕ) where
   pub read_else : (key ≡ 115 → ⊥) → (key ≡ 113 → ⊥) → command_numbers (read_command n) ≡ reading_numbers key n
   unfolding reading_numbers
   read_else a b = rw (ne_eqb key 115 a, ne_eqb key 113 b)
-
-module _ (s : List ℕ) {s' ns : List ℕ} {at₁ at₂ : ℕ} {e₁ e₂ : ErrorEntry} {r : Reply Unit} where
-  pub wrote :
-      (r ≡ write_reply s at₁ e₁) × (s' ≡ desk_after s at₁ e₁) →
-      at₁ ≡ at₂ →
-      e₁ ≡ e₂ →
-      ns ≡ write_numbers r →
-      (s' ≡ desk_after s at₂ e₂) × (ns ≡ write_numbers (write_reply s at₂ e₂))
-  wrote w p e h =
-      (w.1 ∙ (λ i. desk_after s (p i) (e i)), h ∙ ap write_numbers (w.0 ∙ (λ i. write_reply s (p i) (e i))))
-
-module _ {ws vs ns ws' vs' : List ℕ} {k : ℕ} {named : Bool} {g : List ℕ} {a : Result (Unit {0}) Refusal} where
-  pub starts :
-      {n t c : ℕ} {f : FeatureFlags} {o : Dictionary} {ts : Thresholds} →
-      n ≡ byte_of (at g 0) →
-      f ≡ flags (word_of (at g 1)) →
-      t ≡ word_of (at g 2) →
-      c ≡ at g 3 →
-      o ≡ dictionary_of g →
-      ts ≡ thresholds_of named g →
-      StartedIn ws vs k n f t c o ts a ws' vs' →
-      ns ≡ numbers_of (said a) →
-      Starts ws vs k named g ns ws' vs'
-  starts p₁ p₂ p₃ p₄ p₅ p₆ s e =
-      record {
-        answer = a;
-        started = subst (λ (X : Type 0). X) (λ i. StartedIn ws vs k (p₁ i) (p₂ i) (p₃ i) (p₄ i) (p₅ i) (p₆ i) a ws' vs') s;
-        numbers = e;
-      }
 
 -- a number that is named, as its value
 pub named_as :

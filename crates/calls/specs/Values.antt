@@ -3,11 +3,13 @@
 use Rattle.std.specs.Prelude.{ℕ, ◌%◌, Bool, List, eqb, get_or}
 use Rattle.types.specs.Pick.{pick}
 use Rattle.types.specs.Common.{net_time}
+use Rattle.types.specs.Flags.{flags}
 use Rattle.entries.specs.Entry.{mode_of}
 use Rattle.entries.specs.declared.status_response.ErrorEntry.{ErrorEntry}
 use Rattle.counters.specs.Counters.{same_for_all}
 use Rattle.counters.specs.declared.counters.Thresholds.{Thresholds}
 use Rattle.head.specs.declared.state.Dictionary.{Dictionary}
+use Rattle.start.specs.declared.start.Setup.{Setup}
 use Rattle.std.specs.declared.option.Option.{Option}
 use Rattle.std.specs.declared.option.Option.TheVariants.{Some, None}
 use Rattle.node.specs.declared.load.DictionaryUpdate.{DictionaryUpdate}
@@ -60,6 +62,18 @@ named_thresholds ns =
 -- left out all together they are 15 each
 abbrev pub thresholds_of : Bool → List ℕ → Thresholds
 thresholds_of named ns = pick named (named_thresholds ns) (same_for_all 15)
+
+-- what a start is given
+abbrev pub setup_of : Bool → List ℕ → Setup
+setup_of named ns =
+    record {
+      node = byte_of (at ns 0);
+      feature_flags = flags (word_of (at ns 1));
+      basic_ethernet_timeout = word_of (at ns 2);
+      queue_capacity = at ns 3;
+      od = dictionary_of ns;
+      thresholds = thresholds_of named ns;
+    }
 
 -- a number that a load names
 abbrev pub named : ℕ → Option ℕ

@@ -1,4 +1,4 @@
-// The calls of a script (docs/CALLS.md): each is made with the numbers of its line, and its answer is written as numbers.
+// The calls of a script (docs/CALLS.md) that need no watched nodes: each is made with the numbers of its line, and its answer is written as numbers.
 #![tactic(auto)]
 
 ghost use Rattle.std.specs.Prelude.{◌≡◌, Bool, List, ℕ, min, length};
@@ -6,15 +6,13 @@ ghost use Rattle.entries.specs.Ring.{nth};
 ghost use Rattle.entries.specs.Queue.{waiting};
 ghost use Rattle.entries.specs.Desk.{write_reply, desk_after};
 ghost use Rattle.head.specs.Words.{queue_of};
-ghost use Rattle.watched.specs.Watched.{run};
-ghost use Rattle.watched.specs.Nodes.{nodes_of};
 ghost use Rattle.node.specs.Plain.{Call};
 ghost use Rattle.node.specs.Steps.{no_run};
 ghost use Rattle.answers.specs.Numbers.{bytes_of};
-ghost use Rattle.calls.specs.Values.{at, byte_of, entry_of};
-ghost use Rattle.calls.specs.Calls.{head_call, load_call, change_call, Makes, Starts, result_numbers, reading_numbers, write_numbers};
+ghost use Rattle.calls.specs.Values.{at, entry_of};
+ghost use Rattle.calls.specs.Calls.{head_call, load_call, Makes, result_numbers, reading_numbers, write_numbers};
 
-mod values;
+pub mod values;
 
 use answers::Numbers;
 use entries::desk::write_at;
@@ -22,36 +20,11 @@ use head::state::Head;
 use node::calls::{arm, dll_event, handle_error, nmt_event, on_cycle_complete, withdraw};
 use node::range::{soc_margin, soc_range};
 use patterns::{Given, KEPT};
-use start::start::Setup;
 use types::frame::error::kinds::DllErrorKind;
 use types::nmt::events::NmtStateCommand;
-use types::nmt::flags::FeatureFlags;
 use types::nmt::states::NmtState;
 use types::refusals::Refusal;
-use values::{byte, dictionary, entry_of, thresholds, updates, word};
-use watched::nodes::NodeWords;
-
-// A start, which may name thresholds.
-pub fn start(
-    head: &mut Head,
-    nodes: &mut NodeWords,
-    count: usize,
-    named: bool,
-    given: Given,
-    answer: &mut Numbers,
-)
-    ensures { Starts head.old nodes.old count named given answer.new head.new nodes.new }
-{
-    let setup = Setup {
-        node: byte(given[0]),
-        feature_flags: FeatureFlags::from_bits_truncate(word(given[1])),
-        basic_ethernet_timeout: word(given[2]),
-        queue_capacity: given[3],
-        od: dictionary(given),
-        thresholds: thresholds(named, given),
-    };
-    answers::answer(start::start::start(head, nodes, count, setup), answer)
-}
+use values::{byte, entry_of, updates};
 
 // A call that needs the head alone, by its key, the byte that its line begins with.
 pub fn on_head(key: u8, given: Given, head: &mut Head, answer: &mut Numbers)
@@ -73,35 +46,6 @@ pub fn on_head(key: u8, given: Given, head: &mut Head, answer: &mut Numbers)
     }
 }
 
-// A watched node was heard.
-pub fn heard(
-    head: &mut Head,
-    nodes: &mut NodeWords,
-    count: usize,
-    given: Given,
-    answer: &mut Numbers,
-)
-    ensures { (q m : List ℕ) → Makes head.old q m (Call.heard (byte_of (at given 0)) (at given 1) (run (nodes_of nodes.old) count)) answer.new head.new q m (run (nodes_of nodes.new) count) }
-{
-    let said = node::heard::heard(head, nodes, count, byte(given[0]), given[1]);
-    answers::answer(said, answer)
-}
-
-pub fn tick(
-    head: &mut Head,
-    queue: &mut [u8; 640],
-    history: &mut [u8; 5080],
-    nodes: &mut NodeWords,
-    count: usize,
-    time: u64,
-    answer: &mut Numbers,
-)
-    ensures { Makes head.old queue.old history.old (Call.tick time (run (nodes_of nodes.old) count)) answer.new head.new queue.new history.new (run (nodes_of nodes.new) count) }
-{
-    let said = tick::tick::process_tick(head, queue, history, nodes, count, time);
-    answers::answer(said, answer)
-}
-
 // A load, with as many of the first bytes as its history has.
 pub fn load(
     head: &mut Head,
@@ -117,26 +61,6 @@ pub fn load(
     let entries = (size != KEPT).then_some(&bytes[..to]);
     node::load::load(head, history, updates(given), entries);
     answers::answer(Ok(()), answer)
-}
-
-// A node is added, or removed; `count` is how many are watched.
-pub fn change(
-    head: &mut Head,
-    nodes: &mut NodeWords,
-    count: &mut usize,
-    adds: bool,
-    given: Given,
-    answer: &mut Numbers,
-)
-    ensures { (q m : List ℕ) → Makes head.old q m (change_call adds given (run (nodes_of nodes.old) count.old)) answer.new head.new q m (run (nodes_of nodes.new) count.new) }
-{
-    let node = byte(given[0]);
-    if adds {
-        let said = partners::add(head, nodes, count, node, given[1]);
-        return answers::answer(said, answer);
-    }
-    let said = partners::remove(head, nodes, count, node);
-    answers::answer(said, answer)
 }
 
 // The oldest entry leaves the queue, and goes to the bytes.

@@ -1,6 +1,6 @@
 // The numbers of a line as the values that its call takes.
 ghost use Rattle.std.specs.Prelude.{◌≡◌, ◌≤◌};
-ghost use Rattle.calls.specs.Values.{at, byte_of, half_of, word_of, object_of, dictionary_of, named_thresholds, thresholds_of, named, updates_of, entry_of};
+ghost use Rattle.calls.specs.Values.{at, byte_of, half_of, word_of, object_of, dictionary_of, named_thresholds, thresholds_of, setup_of, named, updates_of, entry_of};
 
 use answers::NOTHING;
 use counters::counters::Thresholds;
@@ -8,10 +8,12 @@ use entries::status_response::{EntryType, ErrorEntry, ErrorEntryMode};
 use head::state::Dictionary;
 use node::load::DictionaryUpdate;
 use patterns::{Given, KEPT};
+use start::start::Setup;
 use types::common::NetTime;
+use types::nmt::flags::FeatureFlags;
 
 // A number that was read as one of 8 bits.
-pub(crate) fn byte(n: u64) -> u8
+pub fn byte(n: u64) -> u8
     ensures { result ≡ byte_of n }
 {
     (n % 256) as u8
@@ -25,7 +27,7 @@ fn half(n: u64) -> u16
 }
 
 // A number that was read as one of 32 bits.
-pub(crate) fn word(n: u64) -> u32
+fn word(n: u64) -> u32
     ensures { result ≡ word_of n }
 {
     (n % 4294967296) as u32
@@ -38,7 +40,7 @@ fn object(n: u64) -> Option<u32>
 }
 
 // The dictionary values of a start. No From: neither type is of this crate.
-pub(crate) fn dictionary(given: Given) -> Dictionary
+fn dictionary(given: Given) -> Dictionary
     ensures { result ≡ dictionary_of given }
 {
     let cycle_time = object(given[5]);
@@ -70,13 +72,27 @@ fn named_thresholds(given: Given) -> Thresholds
 }
 
 // Those of a start: 15 each where it names none.
-pub(crate) fn thresholds(named: bool, given: Given) -> Thresholds
+fn thresholds(named: bool, given: Given) -> Thresholds
     ensures { result ≡ thresholds_of named given }
 {
     if named {
         named_thresholds(given)
     } else {
         Thresholds::same_for_all(15)
+    }
+}
+
+// What a start is given; it may name thresholds.
+pub fn setup(named: bool, given: Given) -> Setup
+    ensures { result ≡ setup_of named given }
+{
+    Setup {
+        node: byte(given[0]),
+        feature_flags: FeatureFlags::from_bits_truncate(word(given[1])),
+        basic_ethernet_timeout: word(given[2]),
+        queue_capacity: given[3],
+        od: dictionary(given),
+        thresholds: thresholds(named, given),
     }
 }
 

@@ -11,9 +11,14 @@ ghost use Rattle.played.specs.Played.{started_by, numbered_by, Changes, desk, de
 
 use answers::Numbers;
 use arrayvec::ArrayVec;
+use calls::values::{byte, setup};
 use head::state::Head;
+use node::heard::heard;
+use partners::{add, remove};
 use patterns::Given;
 use session::{Places, Session};
+use start::start::start;
+use tick::tick::process_tick;
 
 // The bytes of the desk's buffer, of which there may be 100.
 #[derive(Drop)]
@@ -60,31 +65,6 @@ impl Desk {
     }
 }
 
-// A start was accepted, or declined by a number, the first of its answer.
-fn started(session: Session, refusal: u64) -> Session
-    ensures { result ≡ started_by session refusal }
-{
-    if refusal == 0 {
-        Session {
-            started: true,
-            ..session
-        }
-    } else {
-        session
-    }
-}
-
-// So many nodes are watched where the call was not declined by the first number of its answer.
-fn numbered(session: Session, refusal: u64, number: usize) -> Session
-    ensures { result ≡ numbered_by session refusal number }
-{
-    if refusal == 0 {
-        Session { number, ..session }
-    } else {
-        session
-    }
-}
-
 impl Station {
     // Nothing has been started, lent or laid on the desk.
     pub fn new() -> Station
@@ -117,15 +97,16 @@ impl Station {
         ensures desk { self.new.desk ≡ self.old.desk }
     {
         let lent = self.session.lent();
-        calls::start(
+        let said = start(
             &mut self.head,
             &mut self.places.nodes,
             lent,
-            named,
-            given,
-            &mut self.answer,
+            setup(named, given),
         );
-        self.session = started(self.session, self.answer[0]);
+        if said.is_ok() {
+            self.session.started = true;
+        }
+        answers::answer(said, &mut self.answer)
     }
 
     fn change(&mut self, adds: bool, given: Given)
@@ -135,16 +116,19 @@ impl Station {
         ensures rest { self.new.places.rest ≡ self.old.places.rest }
         ensures desk { self.new.desk ≡ self.old.desk }
     {
+        let head = &mut self.head;
+        let nodes = &mut self.places.nodes;
         let mut count = self.session.lent();
-        calls::change(
-            &mut self.head,
-            &mut self.places.nodes,
-            &mut count,
-            adds,
-            given,
-            &mut self.answer,
-        );
-        self.session = numbered(self.session, self.answer[0], count);
+        let node = byte(given[0]);
+        let said = if adds {
+            add(head, nodes, &mut count, node, given[1])
+        } else {
+            remove(head, nodes, &mut count, node)
+        };
+        if said.is_ok() {
+            self.session.number = count;
+        }
+        answers::answer(said, &mut self.answer)
     }
 
     // Plays a line whose answer is numbers.
@@ -155,24 +139,20 @@ impl Station {
         let lent = self.session.lent();
         match key {
             b'h' => {
-                calls::heard(
-                    &mut self.head,
-                    &mut self.places.nodes,
-                    lent,
-                    given,
-                    &mut self.answer,
-                );
+                let node = byte(given[0]);
+                let said = heard(&mut self.head, &mut self.places.nodes, lent, node, given[1]);
+                answers::answer(said, &mut self.answer)
             }
             b't' => {
-                calls::tick(
+                let said = process_tick(
                     &mut self.head,
                     &mut self.queue,
                     &mut self.history,
                     &mut self.places.nodes,
                     lent,
                     given[0],
-                    &mut self.answer,
                 );
+                answers::answer(said, &mut self.answer)
             }
             b'l' => calls::load(
                 &mut self.head,

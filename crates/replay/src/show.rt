@@ -10,25 +10,28 @@ fn show_parts(out: &mut Buffer, head: &Head) {
     out.say_form(&shown::forms::parts(), &shown::parts(head))
 }
 
-// The entries that wait, oldest first: at most 32.
-fn show_queue(out: &mut Buffer, head: &Head, memory: &[u8; 640]) {
-    for place in 0..32 {
-        let Some(bytes) = shown::waiting_at(head, memory, place) else {
+// The entries of a ring in their order, up to the first of so many places that has none.
+fn show_entries<F: Fn(usize) -> Option<[u8; 20]>>(out: &mut Buffer, most: usize, entry_at: F)
+    requires { F.IsAlwaysCallable entry_at }
+{
+    for place in 0..most {
+        let Some(bytes) = entry_at(place) else {
             break;
         };
         out.say_bytes(&bytes);
     }
-    out.say(b")\n(history")
 }
 
-// The history's entries, newest first: at most 254.
-fn show_history(out: &mut Buffer, head: &Head, memory: &[u8; 5080]) {
-    for place in 0..254 {
-        let Some(bytes) = shown::past_at(head, memory, place) else {
-            break;
-        };
-        out.say_bytes(&bytes);
-    }
+// The entries that wait, oldest first, and those of the history, newest first.
+fn show_rings(out: &mut Buffer, station: &Station) {
+    let head = &station.head;
+    show_entries(out, 32, |place| {
+        shown::waiting_at(head, &station.queue, place)
+    });
+    out.say(b")\n(history");
+    show_entries(out, 254, |place| {
+        shown::past_at(head, &station.history, place)
+    });
     out.say(b")\n(watched")
 }
 
@@ -68,8 +71,7 @@ fn show_thresholds(out: &mut Buffer, head: &Head) {
 
 pub(crate) fn show(out: &mut Buffer, station: &Station) {
     show_parts(out, &station.head);
-    show_queue(out, &station.head, &station.queue);
-    show_history(out, &station.head, &station.history);
+    show_rings(out, station);
     show_run(out, &station.places, station.session);
     show_crossings(out, &station.head);
     show_desk(out, &station.desk);

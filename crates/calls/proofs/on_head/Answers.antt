@@ -1,6 +1,7 @@
 -- `calls::on_head` meets its contract: the call of each key, and any other.
 -- Assumes nothing.
 use mathlib.Core.Path.{refl}
+use Rattle.std.proofs.Common.{rules}
 use Rattle.calls.proofs.Making.{made, made_as, call_n, call_d, call_e, call_c, call_w, call_g, call_m, call_else}
 use Rattle.calls.proofs.on_head.Goals as goal
 
@@ -42,4 +43,5 @@ returns-in-109 c q m =
 pub returns-in_default : goal.returns-in_default
 returns-in_default c q m =
     let a = c.args in
-    made_as (call_else a.key a.given refl c.in_default.in_default-own.rest.0.0.0.0.0.0.1 c.in_default.in_default-own.rest.0.0.0.0.0.1 c.in_default.in_default-own.rest.0.0.0.0.1 c.in_default.in_default-own.rest.0.0.0.1 c.in_default.in_default-own.rest.0.0.1 c.in_default.in_default-own.rest.0.1 c.in_default.in_default-own.rest.1) (made (c.arm.ensures.refines q m) c.answer-in_default.ensures)
+    made_as (call_else a.key a.given refl (search rules) (search rules) (search rules) (search rules) (search rules) (search rules) (search rules))
+    (made (c.arm.ensures.refines q m) c.answer-in_default.ensures)

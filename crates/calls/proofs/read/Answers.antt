@@ -21,7 +21,7 @@ returns-in_err-from_error_code-in-113 c =
 pub returns-in_err-try_from-in_default : goal.returns-in_err-try_from-in_default
 returns-in_err-try_from-in_default c =
     let e : c.from_residual-in_err-try_from-in_default.result ≡ Err c.in_err-try_from-in_default.field-0.0 = search rules in
-    ap result_numbers e ∙ ap command_numbers (sym c.in_err-try_from-in_default.was ∙ c.try_from-in_default.ensures) ∙ read_else c.args.key c.args.n c.in_default.in_default-own.rest.0.1 c.in_default.in_default-own.rest.1
+    ap result_numbers e ∙ ap command_numbers (sym c.in_err-try_from-in_default.was ∙ c.try_from-in_default.ensures) ∙ read_else c.args.key c.args.n (search rules) (search rules)
 
 pub returns-in_ok-try_from-in-115 : goal.returns-in_ok-try_from-in-115
 returns-in_ok-try_from-in-115 c =
@@ -33,4 +33,4 @@ returns-in_ok-from_error_code-in-113 c =
 
 pub returns-in_ok-try_from-in_default : goal.returns-in_ok-try_from-in_default
 returns-in_ok-try_from-in_default c =
-    ap read_numbers c.as_u8-in_default.ensures ∙ ap command_numbers (sym c.in_ok-try_from-in_default.was ∙ c.try_from-in_default.ensures) ∙ read_else c.args.key c.args.n c.in_default.in_default-own.rest.0.1 c.in_default.in_default-own.rest.1
+    ap read_numbers c.as_u8-in_default.ensures ∙ ap command_numbers (sym c.in_ok-try_from-in_default.was ∙ c.try_from-in_default.ensures) ∙ read_else c.args.key c.args.n (search rules) (search rules)

@@ -1,16 +1,18 @@
 -- `played::Station::play` meets its contract: each key, with the number that the session lends.
 -- Assumes nothing.
-use Rattle.std.proofs.Common.{rules}
+use Rattle.std.proofs.Common.{rules, ◌∙◌}
+use Rattle.calls.proofs.Making.{made}
 use Rattle.played.specs.Played.{heard, tick, load, entrywrite, start, start_named, change, reading, on_head}
+use Rattle.played.proofs.Ticking.{ticked}
 use Rattle.played.proofs.Station.play.Goals as goal
 
 pub returns-in-104-clause-plays : goal.returns-in-104-clause-plays
 returns-in-104-clause-plays c =
-    heard c.in-104.is (λ q m. rw (← c.lent-lent.ensures) (c.heard.ensures q m))
+    heard c.in-104.is (λ q m. rw (← c.lent-lent.ensures, ← c.byte-node.ensures) (made (c.heard-said.ensures.on.refines q m) c.answer.ensures))
 
 pub returns-in-116-clause-plays : goal.returns-in-116-clause-plays
 returns-in-116-clause-plays c =
-    tick c.in-116.is (rw (← c.lent-lent.ensures) c.tick.ensures)
+    tick c.in-116.is (rw (← c.lent-lent.ensures) (made c.process_tick-said.ensures.on.refines (c.answer-in-116.ensures ∙ ticked c.process_tick-said.result)))
 
 pub returns-in-108-clause-plays : goal.returns-in-108-clause-plays
 returns-in-108-clause-plays c =
