@@ -1,5 +1,5 @@
 // The SoC check where a clock is read between two moments, and the margin of one reading. Both only read the head, with the check on or off, in any NMT state.
-ghost use Rattle.std.specs.Prelude.{◌≡◌, [], ◌≤◌, pos, ◌-ℤ◌};
+ghost use Rattle.std.specs.Prelude.{◌≡◌, [], ◌≤◌};
 ghost use Rattle.node.specs.Plain.{Call};
 ghost use Rattle.node.specs.Tick.{elapsed, is_loss};
 ghost use Rattle.node.specs.Refines.{plain};
@@ -51,25 +51,11 @@ pub fn soc_range(head: &Head, earliest: u64, latest: u64) -> Result<SocVerdict, 
     Ok(SocVerdict::Kept)
 }
 
-// No try_from, whose error could not come.
-fn signed(n: u64) -> i64
-    requires { n ≤ 9223372036854775807 }
-    ensures { result ≡ pos n }
-{
-    n as i64
-}
-
-fn minus(a: u64, b: u64) -> i64
-    requires { (a ≤ 9223372036854775807) × (b ≤ 9223372036854775807) }
-    ensures { result ≡ pos a -ℤ pos b }
-{
-    signed(a) - signed(b)
-}
-
-// How much is left of the limit at a reading; below 0, the SoC is lost.
+// How much is left of the limit at a reading; below 0, the SoC is lost. No try_from, whose error could not come: both numbers are below 2^63.
 pub fn soc_margin(head: &Head, time: u64) -> Result<i64, Refusal>
     ensures { Reading head.now (Call.margin time) (margin_said result) }
 {
     let time = Time::try_from(time)?;
-    Ok(minus(limit(od_of(head)), elapsed(head, time)))
+    let limit = limit(od_of(head)) as i64;
+    Ok(limit - elapsed(head, time) as i64)
 }
