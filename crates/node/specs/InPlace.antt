@@ -72,10 +72,10 @@ range_said = answered range_answer
 abbrev pub margin_said : Result ℤ Refusal → Answer
 margin_said = answered margin_answer
 
--- what a call leaves of words that it was lent: of a declined one, all
-abbrev pub unless_refused : Result (Unit {0}) Refusal → List ℕ → List ℕ → List ℕ
-unless_refused (Ok _) ws ws' = ws'
-unless_refused (Err r) ws ws' = ws
+-- what a call, whatever it answers, leaves of what it was lent: a declined one all as it was
+abbrev pub unless_refused : {T A : Type 0} → Result T Refusal → A → A → A
+unless_refused (Ok _) x y = y
+unless_refused (Err r) x y = x
 
 -- Of a call c that is lent a run, on the words ws, which answered a and left the words ws' and the run r: head and run are the plain head's, queue and history
 -- stand where they stood, and of the head's words those of the earliest moment are written; by a declined call none.

@@ -12,6 +12,7 @@ use Rattle.counters.specs.Counters.{new_counters, thresholds_fit}
 use Rattle.counters.specs.declared.counters.Thresholds.{Thresholds}
 use Rattle.entries.specs.Queue.{queue}
 use Rattle.entries.specs.History.{error_history}
+use Rattle.std.specs.Result.{IfOk}
 use Rattle.std.specs.declared.result.Result.{Result}
 use Rattle.std.specs.declared.result.Result.TheVariants.{Ok, Err}
 use Rattle.std.specs.declared.option.Option.TheVariants.{None}
@@ -39,8 +40,7 @@ begun_by (Err r) h q m = declined (refusal_number r)
 
 -- the places of a head that start gave: queue and history are empty
 abbrev pub FreshPlaces : Result (Unit {0}) Refusal → Head → ℕ → Type 0
-FreshPlaces (Ok _) h c = (h.queue ≡ queue 0 0 c) × (h.history ≡ error_history 0 0)
-FreshPlaces (Err r) h c = Unit
+FreshPlaces a h c = IfOk a (λ _. (h.queue ≡ queue 0 0 c) × (h.history ≡ error_history 0 0))
 
 -- the head that start gives
 abbrev pub fresh_head : NodeId → FeatureFlags → ℕ → ℕ → Dictionary → Thresholds → Head
@@ -79,8 +79,7 @@ start_answer n c formed ts =
 
 -- the run that start leaves
 abbrev pub start_left : Result (Unit {0}) Refusal → Run → Run
-start_left (Ok _) r = changing unheard r
-start_left (Err x) r = r
+start_left a r = unless_refused a r (changing unheard r)
 
 -- Of start on the words ws and the run r, which answered a and left the words ws' and the run r': the plain start's head or number and run, and
 -- every word of the head.

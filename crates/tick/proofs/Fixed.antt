@@ -16,7 +16,8 @@ use Rattle.std.specs.declared.result.Result.{Result}
 use Rattle.std.specs.declared.result.Result.TheVariants.{Ok, Err}
 use Rattle.types.specs.declared.frame.error.types.DllErrors.{DllErrors}
 use Rattle.types.specs.declared.refusals.Refusal.{Refusal}
-use Rattle.tick.specs.TickIn.{tick_said, tick_leaves, TickedIn}
+use Rattle.node.specs.InPlace.{unless_refused}
+use Rattle.tick.specs.TickIn.{tick_said, TickedIn}
 
 -- an answer is fixed by what it says
 pub tick_said_fixed : (a b : Result DllErrors Refusal) → tick_said a ≡ tick_said b → a ≡ b
@@ -25,8 +26,8 @@ tick_said_fixed (Ok t) (Err s) e = apart (sym e) refl refl
 tick_said_fixed (Err r) (Ok u) e = apart e refl refl
 tick_said_fixed (Err r) (Err s) e = ap Err (number_fixes (refusal_of e))
 
-leaves_same : {a b : Result DllErrors Refusal} → a ≡ b → (ws ws' : List ℕ) → tick_leaves a ws ws' ≡ tick_leaves b ws ws'
-leaves_same e ws ws' = ap (λ (a : Result DllErrors Refusal). tick_leaves a ws ws') e
+leaves_same : {a b : Result DllErrors Refusal} → a ≡ b → (ws ws' : List ℕ) → unless_refused a ws ws' ≡ unless_refused b ws ws'
+leaves_same e ws ws' = ap (λ (a : Result DllErrors Refusal). unless_refused a ws ws') e
 
 pub tick_fixes :
     {ws q m ns ws₁ q₁ m₁ ns₁ ws₂ q₂ m₂ ns₂ : List ℕ} {k t : ℕ} {a b : Result DllErrors Refusal} →
@@ -39,7 +40,7 @@ tick_fixes {ws} {q} {m} {ns} {ns₁ = ns₁} {ns₂ = ns₂} {k} {t} {a} {b} x y
     let n : ns₁ ≡ ns₂ = x.nodes ∙ leaves_same e _ _ ∙ sym y.nodes in (
       e,
       x.on.words
-          ∙ (λ i. tick_leaves (e i) ws (earliest_written (tick_words ws q m t (watched_of (nodes_of ns) k)) (earliest (watched_of (nodes_of (n i)) k))))
+          ∙ (λ i. unless_refused (e i) ws (earliest_written (tick_words ws q m t (watched_of (nodes_of ns) k)) (earliest (watched_of (nodes_of (n i)) k))))
           ∙ sym y.on.words,
       ap (λ (r : Rings). r.queue_bytes) r,
       ap (λ (r : Rings). r.history_bytes) r,

@@ -41,7 +41,8 @@ use Rattle.heartbeats.specs.declared.dealt.Dealt.{Dealt}
 use Rattle.heartbeats.specs.PartWords.{beat_all_words, looked_words}
 use Rattle.tick.specs.TickWords.{rest_words, tick_words}
 use Rattle.heartbeats.specs.PartsIn.{dealt_of, TicksIn}
-use Rattle.tick.specs.TickIn.{is_still, roused_of, tick_leaves, TickedOn, TickedIn, StillTicks}
+use Rattle.node.specs.InPlace.{unless_refused}
+use Rattle.tick.specs.TickIn.{is_still, roused_of, TickedOn, TickedIn, StillTicks}
 use Rattle.heartbeats.proofs.Beatings.{all_looked_fit, rest_before, rest_late, rest_words_lem, rest_run}
 use Rattle.tick.proofs.Passings.{on}
 
@@ -236,7 +237,7 @@ module _ (ws q m ns : List ℕ) (k t : ℕ) where
       where
         stay :
             (z : Result DllErrors Refusal) → is_still (checks_heartbeats (nmt_of ws).current_state) t vs ≡ true → k ≤ 32 →
-            ns ≡ tick_leaves z ns (pick (checks_heartbeats (nmt_of ws).current_state) (looked_words t k ns) ns)
+            ns ≡ unless_refused z ns (pick (checks_heartbeats (nmt_of ws).current_state) (looked_words t k ns) ns)
         stay (Ok es) still below = still_choice ws q m t vs still (looked_words t k ns) ns (λ r. sym (rest_words_lem t ns k below r))
         stay (Err r) still below = refl
 

@@ -9,7 +9,7 @@ use Rattle.watched.specs.Watched.{all_of, well_formed, Run, run, watching, well_
 use Rattle.node.specs.Steps.{earliest}
 use Rattle.node.specs.Tick.{checks_heartbeats}
 use Rattle.node.specs.Run.{step}
-use Rattle.node.specs.InPlace.{answered}
+use Rattle.node.specs.InPlace.{answered, unless_refused}
 use Rattle.node.specs.Refines.{plain, left, rings, joins_all, Refines}
 use Rattle.tick.specs.Ticks.{Loses}
 use Rattle.head.specs.Words.{nmt_of, head_of}
@@ -21,7 +21,6 @@ use Rattle.watched.specs.declared.nodes.Seen.TheVariants as seen
 use Rattle.std.specs.declared.option.Option.{Option}
 use Rattle.std.specs.declared.option.Option.TheVariants.{Some, None}
 use Rattle.std.specs.declared.result.Result.{Result}
-use Rattle.std.specs.declared.result.Result.TheVariants.{Ok, Err}
 use Rattle.types.specs.declared.refusals.Refusal.{Refusal}
 use Rattle.heartbeats.specs.PartWords.{looked_words}
 use Rattle.tick.specs.TickWords.{loss_words, tick_words}
@@ -48,23 +47,18 @@ tick_says es = tick_answer (reported es)
 abbrev pub tick_said : Result DllErrors Refusal → Answer
 tick_said = answered tick_says
 
--- by a declined tick no word is written; `unless_refused` says so of calls that answer nothing
-abbrev pub tick_leaves : Result DllErrors Refusal → List ℕ → List ℕ → List ℕ
-tick_leaves (Ok es) ws ws' = ws'
-tick_leaves (Err r) ws ws' = ws
-
 -- The lists stand one by one, as the contracts that cite it name them: a record would be made in each of those, and taken apart in each proof.
 -- Of a tick at t on the words ws, the memory q and m and the run r, which answered a and left ws', q', m' and r': head, answer and run are the plain
 -- head's; every byte of both memories with the places of both rings, and every word of the head, is known.
 pub record TickedOn (ws q m : List ℕ) (r : Run) (t : ℕ) (a : Result DllErrors Refusal) (ws' q' m' : List ℕ) (r' : Run) : Type 0 where
   pub refines : Refines (head_of ws) q m (Call.tick t r) (left (head_of ws') (tick_said a)) q' m' r'
   pub rings : rings (head_of ws') q' m' ≡ joins_all (rings (head_of ws) q m) (step (plain (head_of ws) q m) (Call.tick t r)).crossings
-  pub words : ws' ≡ tick_leaves a ws (earliest_written (tick_words ws q m t (watching r)) (earliest (watching r')))
+  pub words : ws' ≡ unless_refused a ws (earliest_written (tick_words ws q m t (watching r)) (earliest (watching r')))
 
 -- The same of nodes in the words ns, of which the first k are watched; and every word of theirs.
 pub record TickedIn (ws q m ns : List ℕ) (k t : ℕ) (a : Result DllErrors Refusal) (ws' q' m' ns' : List ℕ) : Type 0 where
   pub on : TickedOn ws q m (run (nodes_of ns) k) t a ws' q' m' (run (nodes_of ns') k)
-  pub nodes : ns' ≡ tick_leaves a ns (pick (checks_heartbeats (nmt_of ws).current_state) (looked_words t k ns) ns)
+  pub nodes : ns' ≡ unless_refused a ns (pick (checks_heartbeats (nmt_of ws).current_state) (looked_words t k ns) ns)
 
 -- Of a tick at which no node asks for anything, where s is the soonest moment at which one would be late: any run stays as it is.
 abbrev pub StillTicks : List ℕ → List ℕ → List ℕ → ℕ → Option ℕ → Result DllErrors Refusal → List ℕ → List ℕ → List ℕ → Type 0

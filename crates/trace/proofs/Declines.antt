@@ -42,7 +42,7 @@ use Rattle.node.proofs.Fixed.{parts, apart, refusal_of}
 use Rattle.head.specs.Places as at
 use Rattle.head.specs.Words.{word, state_of, nmt_of, soc_of, od_of, head_of}
 use Rattle.head.specs.Written.{soc_written}
-use Rattle.tick.specs.TickIn.{tick_said, tick_leaves, TickedOn}
+use Rattle.tick.specs.TickIn.{tick_said, TickedOn}
 use Rattle.node.proofs.calls.nmt_event.Reads as nmt-event-reads
 use Rattle.node.proofs.calls.dll_event.Reads as dll-event-reads
 use Rattle.node.proofs.calls.handle_error.Reads as handle-error-reads
@@ -213,9 +213,9 @@ said_leaves : (o : Result (Unit {0}) Refusal) (n : ℕ) → said o ≡ refused n
 said_leaves (Ok _) n h ws ws' = apart (sym h) refl refl
 said_leaves (Err r) n h ws ws' = refl
 
-tick_leaves_lem : (o : Result DllErrors Refusal) (n : ℕ) → tick_said o ≡ refused n → (ws ws' : List ℕ) → tick_leaves o ws ws' ≡ ws
-tick_leaves_lem (Ok es) n h ws ws' = apart (sym h) refl refl
-tick_leaves_lem (Err r) n h ws ws' = refl
+tick_leaves : (o : Result DllErrors Refusal) (n : ℕ) → tick_said o ≡ refused n → (ws ws' : List ℕ) → unless_refused o ws ws' ≡ ws
+tick_leaves (Ok es) n h ws ws' = apart (sym h) refl refl
+tick_leaves (Err r) n h ws ws' = refl
 
 -- a declined tick: no entry joins, so both memories stay
 tick_declines :
@@ -224,7 +224,7 @@ tick_declines :
 tick_declines {ws = ws} {q = q} {m = m} {l = l} {t = t} o n e h =
     let p = plain_declines (plain (head_of ws) q m) (tick t l) n (sym e.refines.answer ∙ h) in
     let r = e.rings ∙ ap (joins_all (rings (head_of ws) q m)) p.2 in (
-      e.words ∙ tick_leaves_lem o n h _ _,
+      e.words ∙ tick_leaves o n h _ _,
       ap (λ (r : Rings). r.queue_bytes) r,
       ap (λ (r : Rings). r.history_bytes) r,
     )
@@ -279,7 +279,7 @@ demand_1 n (Made.load u es e) h = apart (sym h) refl refl
 demand_1 {q = q} {m = m} n (Made.arm t o e) h =
     let r = e.refines q m in declined n r h (e.words ∙ arm_words_lem _ _ t n (sym r.answer ∙ h)) refl refl refl refl
 demand_1 n (Made.tick t o e) h =
-    let d = tick_declines o n e.on h in declined n e.on.refines h d.0 d.1 d.2 (e.nodes ∙ tick_leaves_lem o n h _ _) refl
+    let d = tick_declines o n e.on h in declined n e.on.refines h d.0 d.1 d.2 (e.nodes ∙ tick_leaves o n h _ _) refl
 demand_1 n (Made.tick_run l t o l' e) h = let d = tick_declines o n e h in declined n e.refines h d.0 d.1 d.2 refl refl
 demand_1 {q = q} {m = m} n (Made.range a b o e) h = declined n (e.refines q m) h refl refl refl refl refl
 demand_1 {q = q} {m = m} n (Made.margin t o e) h = declined n (e.refines q m) h refl refl refl refl refl
