@@ -10,13 +10,13 @@ use Rattle.watched.specs.Watched.{watched_node}
 use Rattle.watched.specs.Nodes.{node_at, nodes_of}
 use Rattle.partners.specs.Partners.{words_of}
 
-same_listed : {A : Type 0} (f g : ℕ → A) (n : ℕ) → ((i : ℕ) → f i ≡ g i) → listed f n ≡ listed g n
+pub same_listed : {A : Type 0} (f g : ℕ → A) (n : ℕ) → ((i : ℕ) → f i ≡ g i) → listed f n ≡ listed g n
 unfolding listed
 same_listed f g zero e = refl
 same_listed f g (suc n) e = λ i. e 0 i ∷ same_listed (λ j. f (suc j)) (λ j. g (suc j)) n (λ j. e (suc j)) i
 
 -- the nodes behind the first one are those of the words behind its three
-behind : (a b c : ℕ) (ns : List ℕ) (i : ℕ) → node_at (a ∷ b ∷ c ∷ ns) (suc i) ≡ node_at ns i
+pub behind : (a b c : ℕ) (ns : List ℕ) (i : ℕ) → node_at (a ∷ b ∷ c ∷ ns) (suc i) ≡ node_at ns i
 behind a b c ns i =
     let x : 3 * suc i ≡ suc (suc (suc (3 * i))) = omega arith in
     let y : 3 * suc i + 1 ≡ suc (suc (suc (3 * i + 1))) = omega arith in

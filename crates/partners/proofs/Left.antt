@@ -47,6 +47,12 @@ module _ (ps : List WatchedNode) (k n : ℕ) (all : length ps ≡ 32) (f : well_
       s ∙ carried_inserted t k (32 - length (inserted t vs)) ps sum ascends ∙ ap (λ (l : List WatchedNode). inserted t l ++ replicate (32 - length (inserted t vs)) no_node) same in
       ap₂ run left (sym long)
 
+  -- the same by the nodes with the one put in, and zeros
+  pub add_stored : (o : ℕ) → k < 32 → (qs : List WatchedNode) → qs ≡ inserted (watched_node n o 0) (take k ps) ++ replicate (31 - k) no_node → run qs (k + 1) ≡ added n o (run ps k)
+  add_stored o l qs s =
+      let sum : (31 - k) + suc k ≡ length ps = omega (arith, l, all) in
+      add_left o l qs (s ∙ sym (carried_inserted (watched_node n o 0) k (31 - k) ps sum ascends))
+
   pub remove_left :
       (p : ℕ) → p ≡ place_of n vs → p < k → (qs : List WatchedNode) → qs ≡ take p ps ++ closed (k - p) (drop p ps) → run qs (k - 1) ≡ removed n (run ps k)
   remove_left p e h qs s =

@@ -1,4 +1,3 @@
-pub mod Places
 pub mod Carrying
 pub mod Closing
 pub mod Held
@@ -8,3 +7,4 @@ pub mod Left
 pub mod Told
 pub mod Fixed
 pub mod Links
+pub mod Moved

@@ -5,7 +5,7 @@ use mathlib.Core.Path.{◌≡◌, refl, sym, ap, ◌∙◌}
 use mathlib.Core.Bool.{Bool, true, false}
 use mathlib.Core.List.{List, ◌++◌}
 use lib.Dec.{ltb}
-use lib.ListN.{length, take, drop}
+use lib.ListN.{length, take, drop, replicate}
 use borrow.Author.Tests.{ltb-true, ltb-false}
 use Rattle.types.specs.Pick.{pick}
 use Rattle.types.specs.Types.{is_node, node, read_node}
@@ -18,15 +18,15 @@ use Rattle.types.specs.declared.refusals.Refusal.{Refusal}
 use Rattle.types.specs.declared.refusals.Refusal.TheVariants.{NodeNumber, WatchedNodes}
 use Rattle.head.specs.Written.{earliest_written}
 use Rattle.watched.specs.declared.nodes.WatchedNode.{WatchedNode}
-use Rattle.watched.specs.Watched.{well_formed, is_watched, heard_at, place_of, watched_node, watched_of, Run, run, watching, well_lent}
+use Rattle.watched.specs.Watched.{no_node, inserted, well_formed, is_watched, heard_at, place_of, watched_node, watched_of, Run, run, watching, well_lent}
 use Rattle.watched.specs.Nodes.{never, nodes_of, soonest, moment_of}
 use Rattle.watched.proofs.Lists.{watched_there, watched_nowhere}
 use Rattle.watched.proofs.Watching.{places, few, lent_words}
 use Rattle.node.specs.Steps.{earliest, added}
 use Rattle.node.specs.InPlace.{unless_refused}
 use Rattle.partners.specs.Partners.{add_answer, remove_answer, words_of, Added, Removed}
-use Rattle.partners.specs.Walks.{carried, closed}
-use Rattle.partners.proofs.Left.{add_left, remove_left}
+use Rattle.partners.specs.Walks.{closed}
+use Rattle.partners.proofs.Left.{add_stored, remove_left}
 use Rattle.partners.proofs.Held.{added_moment, removed_moment}
 use Rattle.partners.proofs.Fixed.{words_of_lem}
 use Rattle.partners.proofs.Adding as Adding
@@ -89,11 +89,11 @@ module _ (ws ns : List ℕ) (k n : ℕ) where
       add_declined y g = record { on = Adding.add_declined ws r n o v a true w (sym lent) among y (sym g ∙ x); nodes = refl }
 
       pub add_taken :
-          c ≡ (Ok tt) → length ws ≡ 60 → (ns' : List ℕ) → nodes_of ns' ≡ carried k (watched_node n o 0) ps → length ns' ≡ 96 →
+          c ≡ (Ok tt) → length ws ≡ 60 → (ns' : List ℕ) → nodes_of ns' ≡ inserted (watched_node n o 0) (take k ps) ++ replicate (31 - k) no_node → length ns' ≡ 96 →
           (m : Option ℕ) → m ≡ moment_of (soonest never (heard_at n 0 vs)) →
           (ws' : List ℕ) → ws' ≡ earliest_written ws m → Added ws ns k n o (Ok tt) ws' ns' (k + 1)
       add_taken g long ns' u all m y ws' q =
-          let left = add_left ps k n (places ns) f o (add_room g) (nodes_of ns') u in
+          let left = add_stored ps k n (places ns) f o (add_room g) (nodes_of ns') u in
           let none : is_watched n vs ≡ false = sym among ∙ (Adding.add_passed v true o w k (sym g ∙ x)).3 in
           record {
             on =

@@ -2,11 +2,12 @@
 // are lent, three words each, with the number of the first ones that are watched.
 #![tactic(auto)]
 
-ghost use Rattle.std.specs.Prelude.{◌≡◌, ◌++◌, ◌-◌, ◌≤◌, ◌<◌, Bool, take, drop};
+ghost use Rattle.std.specs.Prelude.{◌≡◌, ◌++◌, ◌-◌, ◌≤◌, ◌<◌, Bool, take, drop, replicate};
 ghost use Rattle.std.specs.Bool.{then_some};
 ghost use Rattle.types.specs.Types.{is_node};
 ghost use Rattle.watched.specs.Nodes.{node_of, nodes_of};
-ghost use Rattle.partners.specs.Walks.{carried, closed};
+ghost use Rattle.watched.specs.Watched.{no_node, inserted};
+ghost use Rattle.partners.specs.Walks.{place_before, closed};
 ghost use Rattle.partners.specs.Partners.{add_answer, remove_answer, Added, Removed};
 
 use head::parts::set_earliest;
@@ -17,21 +18,39 @@ use watched::nodes::{NodeWords, find};
 use watched::record::NodeRecord;
 use watched::time::in_time;
 
-// A node takes its place: those above it move up by one, and the places past them are cleared.
-fn insert(nodes: &mut NodeWords, count: usize, node: NodeRecord)
-    ensures { nodes_of nodes.new ≡ carried count (node_of node) (nodes_of nodes.old) }
+// Where a node is to stand: before the first one above it.
+fn place_for(nodes: &NodeWords, count: usize, node: u64) -> usize
+    requires { count ≤ 32 }
+    ensures { (result ≡ place_before node (take count (nodes_of nodes.now))) × (result ≤ count) }
 {
-    let mut carried = node;
-    for i in 0..32 {
+    for i in 0..count {
         let next = NodeRecord::at(nodes, i);
-        if count <= i {
-            carried.put(nodes, i);
-            carried = NodeRecord::NONE;
-        } else if carried.node < next.node {
-            carried.put(nodes, i);
-            carried = next;
+        if node < next.node {
+            return i;
         }
     }
+    count
+}
+
+// The places from one on are cleared.
+fn clear(nodes: &mut NodeWords, from: usize)
+    requires { from ≤ 32 }
+    ensures { nodes_of nodes.new ≡ take from (nodes_of nodes.old) ++ replicate (32 - from) no_node }
+{
+    for i in from..32 {
+        NodeRecord::NONE.put(nodes, i);
+    }
+}
+
+// A node takes its place: those above it move up by one, and the places past them are cleared.
+fn insert(nodes: &mut NodeWords, count: usize, node: NodeRecord)
+    requires { count < 32 }
+    ensures { nodes_of nodes.new ≡ inserted (node_of node) (take count (nodes_of nodes.old)) ++ replicate (31 - count) no_node }
+{
+    let place = place_for(nodes, count, node.node);
+    nodes.copy_within(3 * place..3 * count, 3 * place + 3);
+    node.put(nodes, place);
+    clear(nodes, count + 1);
 }
 
 // The place of a node is closed: those behind it move down by one, and the places past them are cleared.
@@ -39,15 +58,8 @@ fn close(nodes: &mut NodeWords, count: usize, place: usize)
     requires { (place < count) × (count ≤ 32) }
     ensures { nodes_of nodes.new ≡ take place (nodes_of nodes.old) ++ closed (count - place) (drop place (nodes_of nodes.old)) }
 {
-    let last = count - 1;
-    for here in place..32 {
-        let next = if here < last {
-            NodeRecord::at(nodes, here + 1)
-        } else {
-            NodeRecord::NONE
-        };
-        next.put(nodes, here);
-    }
+    nodes.copy_within(3 * place + 3..3 * count, 3 * place);
+    clear(nodes, count - 1);
 }
 
 // Number 1.

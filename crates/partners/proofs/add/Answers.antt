@@ -15,6 +15,12 @@ returns-in_default c =
     (found_unformed a.nodes.now a.count.now a.node 0 c.find.result c.find.ensures c.in_default.is)
     a.timeout c.is_known-known.result c.is_known-known.ensures c.try_add.result (c.try_add.ensures false false refl)
 
+pub insert-requires : goal.insert-requires
+insert-requires c =
+    let a = c.args in
+    let x = found_formed a.nodes.now a.count.now a.node 0 c.find.result c.find.ensures _ _ c.in-Some.is in
+    add_room a.head.now a.nodes.now a.count.now a.node x.0 _ x.1 _ refl a.timeout c.is_known-known.result c.is_known-known.ensures c.try_add-2.result (c.try_add-2.ensures true _ refl) c.in_ok-try_add.was
+
 pub overflow_add-count : goal.overflow_add-count
 overflow_add-count c =
     let a = c.args in

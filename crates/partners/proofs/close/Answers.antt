@@ -1,29 +1,28 @@
--- `partners::close` meets its contract.
+-- `partners::close` meets its contract: the words behind the place are moved down, and the rest is cleared.
 -- Assumes nothing.
-use mathlib.Core.Path.{refl, ap, ◌∙◌}
-use lib.ListN.{set}
+use Prim.Native.Nat.{ℕ, ◌+◌, ◌-◌, ◌*◌}
+use mathlib.Core.Path.{◌≡◌, ap, ◌∙◌}
+use mathlib.Core.List.{List, ◌++◌}
 use native.Mathlib.Omega.{arith}
-use Rattle.partners.proofs.Closing.{closed_ends, closed_shifts, closed_clears}
-use Rattle.watched.specs.Nodes.{node_of, nodes_of}
-use Rattle.partners.proofs.close.Goals.{then-here-last, else-here-last}
+use lib.ListN.{take, replicate}
+use Rattle.std.specs.List.{copy_within}
+use Rattle.watched.specs.declared.nodes.WatchedNode.{WatchedNode}
+use Rattle.watched.specs.Watched.{no_node}
+use Rattle.watched.specs.Nodes.{nodes_of}
+use Rattle.watched.proofs.Watching.{places}
+use Rattle.partners.proofs.Moved.{moved, nodes_moved, shut}
 use Rattle.partners.proofs.close.Goals as goal
-
-pub loop-here-init : goal.loop-here-init
-loop-here-init c =
-    (refl, c.requires.1)
-
-pub loop-here-preserved : goal.loop-here-preserved
-loop-here-preserved c =
-    let l = c.loop-here in
-    let k = c.requires in (
-      elim c.if-here-last.branch [
-        | then-here-last w ↦ closed_shifts l.nodes l.here c.args.count _ l.invariant.0 c.loop-here-test.true (omega (arith, w.if-here-last.true, k.0)) k.1 (node_of c.if-here-last.next) (ap node_of w.next-is ∙ w.at-next.ensures) _ c.put.ensures.1
-        | else-here-last w ↦ closed_clears l.nodes l.here c.args.count _ l.invariant.0 c.loop-here-test.true (omega (arith, w.if-here-last.false, k.0)) _ (c.put.ensures.1 ∙ ap (λ r. set (nodes_of l.nodes) l.here (node_of r)) w.next-is)
-      ],
-      l.invariant.1,
-    )
 
 pub returns : goal.returns
 returns c =
-    let l = c.loop-here in
-    closed_ends l.nodes l.here c.args.count _ l.invariant.0 (omega (arith, c.loop-here-test.false))
+    let a = c.args in
+    let k = a.count in
+    let p = a.place in
+    let r = c.requires in
+    let up : 3 * p + 3 ≡ 3 * (p + 1) = omega arith in
+    let m : nodes_of c.copy_within.new.self ≡ moved a.nodes.now c.told-nodes (p + 1) k p (omega (arith, r.0)) r.1 (omega (arith, r.0, r.1)) =
+    ap nodes_of (c.copy_within.ensures.after ∙ ap (λ (n : ℕ). copy_within a.nodes.now n (3 * k) (3 * p)) up)
+    ∙ nodes_moved a.nodes.now c.told-nodes (p + 1) k p (omega (arith, r.0)) r.1 (omega (arith, r.0, r.1)) in
+    c.clear.ensures
+    ∙ ap (λ (l : List WatchedNode). take (k - 1) l ++ replicate (32 - (k - 1)) no_node) m
+    ∙ shut (nodes_of a.nodes.now) (places a.nodes.now) k p r.0 r.1

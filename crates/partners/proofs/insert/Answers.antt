@@ -1,25 +1,30 @@
--- `partners::insert` meets its contract.
+-- `partners::insert` meets its contract: the words above the node's place are moved up, the node is put, and the rest is cleared.
 -- Assumes nothing.
+use Prim.Native.Nat.{ℕ, ◌+◌, ◌-◌, ◌*◌}
+use mathlib.Core.Path.{◌≡◌, ap, ap₂, ◌∙◌}
+use mathlib.Core.List.{List, ◌++◌}
 use native.Mathlib.Omega.{arith}
+use lib.ListN.{set, take, replicate}
+use Rattle.std.specs.List.{copy_within}
+use Rattle.watched.specs.declared.nodes.WatchedNode.{WatchedNode}
+use Rattle.watched.specs.Watched.{no_node}
 use Rattle.watched.specs.Nodes.{node_of, nodes_of}
-use Rattle.partners.proofs.Carrying.{carried_begins, carried_ends, carried_swaps, carried_stays, carried_passes}
-use Rattle.partners.proofs.insert.Goals.{then-count-i, else-count-i+then-carried-next, else-count-i+else-carried-next}
+use Rattle.watched.proofs.Watching.{places}
+use Rattle.partners.proofs.Moved.{moved, nodes_moved, opened}
 use Rattle.partners.proofs.insert.Goals as goal
-
-pub loop-i-init : goal.loop-i-init
-loop-i-init c =
-    carried_begins c.args.count (node_of c.args.node) (nodes_of c.args.nodes.now)
-
-pub loop-i-preserved : goal.loop-i-preserved
-loop-i-preserved c =
-    let l = c.loop-i in
-    elim c.if-count-i.branch [
-      | then-count-i w ↦ rw (w.nodes-is, w.carried-is) (carried_passes l.nodes l.i c.args.count (node_of l.carried) _ l.invariant c.loop-i-test.true (node_of c.at-next.result) c.at-next.ensures w.if-count-i.true _ w.put.ensures.1)
-      | else-count-i+then-carried-next w ↦ rw (w.nodes-is, w.carried-is) (carried_swaps l.nodes l.i c.args.count (node_of l.carried) _ l.invariant c.loop-i-test.true (node_of c.at-next.result) c.at-next.ensures (omega (arith, w.if-count-i.false)) w.if-carried-next.true _ w.put-then-carried-next.ensures.1)
-      | else-count-i+else-carried-next w ↦ rw (w.nodes-is, w.carried-is) (carried_stays l.nodes l.i c.args.count (node_of l.carried) _ l.invariant c.loop-i-test.true (node_of c.at-next.result) c.at-next.ensures (omega (arith, w.if-count-i.false)) w.if-carried-next.false)
-    ]
 
 pub returns : goal.returns
 returns c =
-    let l = c.loop-i in
-    carried_ends l.nodes l.i c.args.count (node_of l.carried) _ l.invariant c.loop-i-test.false
+    let a = c.args in
+    let k = a.count in
+    let p = c.place_for-place.result in
+    let few = c.place_for-place.ensures.1 in
+    let v = node_of a.node in
+    let up : 3 * p + 3 ≡ 3 * (p + 1) = omega arith in
+    let m : nodes_of c.copy_within.new.self ≡ moved a.nodes.now c.told-nodes p k (p + 1) few (omega (arith, c.requires)) (omega (arith, few, c.requires)) =
+    ap nodes_of (c.copy_within.ensures.after ∙ ap (copy_within a.nodes.now (3 * p) (3 * k)) up)
+    ∙ nodes_moved a.nodes.now c.told-nodes p k (p + 1) few (omega (arith, c.requires)) (omega (arith, few, c.requires)) in
+    let z : 32 - (k + 1) ≡ 31 - k = omega arith in
+    c.clear.ensures
+    ∙ ap₂ (λ (l : List WatchedNode) (n : ℕ). take (k + 1) l ++ replicate n no_node) (c.put.ensures.1 ∙ ap (λ (l : List WatchedNode). set l p v) m) z
+    ∙ ap (λ (l : List WatchedNode). l ++ replicate (31 - k) no_node) (opened (nodes_of a.nodes.now) (places a.nodes.now) k c.requires v p c.place_for-place.ensures.0 few)
