@@ -260,23 +260,15 @@ impl Display for Key {
     }
 }
 
-fn position_of(line: Line) -> Position {
-    Position {
-        state: line.0,
-        enabled: line.1,
-        ready: line.2,
-    }
-}
-
 // A position of the picture, with its least number of steps.
 fn say_position(out: &mut Output, line: Line) {
-    let position = position_of(line);
+    let position = line.position;
     let is_enabled = if position.enabled { ", enabled" } else { "" };
     let is_ready = if position.ready { ", ready" } else { "" };
     writeln!(
         out,
         "    state \"{}: {}{is_enabled}{is_ready}\" as {}",
-        line.3,
+        line.steps,
         Name(position.state),
         Key(machine_at(position))
     );
@@ -299,7 +291,7 @@ fn say_step(out: &mut Output, machine: CnNmtStateMachine, step: Step) {
 // The resets have an arrow of their own.
 fn print_steps(out: &mut Output) {
     for line in reach::lines() {
-        let machine = machine_at(position_of(line));
+        let machine = machine_at(line.position);
         for event in NmtEvent::ALL {
             if !is_reset(event) {
                 say_step(out, machine, Step::Event(event));

@@ -88,7 +88,7 @@ ordered_same (l ∷ ls) (m ∷ ms) g h v w =
 
 -- a line of one list is one of the other: the position is reached, and in no fewer steps either way
 same_line : (l m : Line) → named l ≡ named m → steps_to l ≡ steps_to m → l ≡ m
-same_line l m p n = λ i. record { 0 = (p i).state; 1 = (p i).enabled; 2 = (p i).ready; 3 = n i }
+same_line l m p n = λ i. record { position = p i; steps = n i }
 
 no_fewer : (j k : ℕ) → j ≤ k → k ≤ j → j ≡ k
 no_fewer j k a b = omega (arith, a, b)

@@ -27,13 +27,14 @@ use Rattle.nmt.specs.Table.{ruled}
 use Rattle.nmt.specs.declared.cn_state_machine.CnNmtStateMachine.{CnNmtStateMachine}
 use Rattle.nmt.specs.declared.table.Entry.{Entry}
 use Rattle.nmt.proofs.Chosen.{ruled_read}
+use Rattle.nmt.specs.declared.cn_state_machine.Position.{Position}
 use Rattle.head.specs.Words.{one, yes}
 use Rattle.head.proofs.Laws.{yes_one, state_is}
 use Rattle.node.specs.Plain.{Plain, Step, nmt_event, withdraw, Start, taken}
 use Rattle.node.specs.Steps.{fresh, no_run, answers, declines, with_nmt, forgets, nmt_step, nmt_taken, withdrawn}
 use Rattle.node.specs.Run.{step}
 use Rattle.reach.specs.declared.Line.{Line}
-use Rattle.reach.specs.Positions.{Position, position_at, position, Steps, none, event, withdrawal, Reached, named, steps_to, Among, same_flag, same_position, each_once, in_order, EveryPosition}
+use Rattle.reach.specs.Positions.{position_at, position, Steps, none, event, withdrawal, Reached, named, steps_to, Among, same_flag, same_position, each_once, in_order, EveryPosition}
 
 event_small : (e : NmtEvent) → event_number e - 18 ≡ 0
 event_small = everywhere NmtEvents (λ e. event_number e - 18) (λ e. 0) refl refl

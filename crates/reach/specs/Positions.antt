@@ -4,18 +4,14 @@ use Rattle.std.specs.Prelude.{ℕ, suc, ◌<◌, ◌≤◌, ◌≡◌, Bool, tru
 use Rattle.types.specs.Pick.{pick, both, either}
 use Rattle.types.specs.States.{state_number, same_state}
 use Rattle.types.specs.declared.nmt.states.NmtState.{NmtState}
+use Rattle.nmt.specs.declared.cn_state_machine.Position.{Position}
 use Rattle.head.specs.Words.{one}
 use Rattle.node.specs.Plain.{Plain, nmt_event, withdraw, Start, taken}
 use Rattle.node.specs.Steps.{fresh}
 use Rattle.node.specs.Run.{step}
 use Rattle.reach.specs.declared.Line.{Line}
 
--- "all combinations of NMT state, enabled and ready"
-pub record Position : Type 0 where
-  pub state : NmtState
-  pub enabled : Bool
-  pub ready : Bool
-
+-- a position: "all combinations of NMT state, enabled and ready"
 abbrev pub position_at : NmtState → Bool → Bool → Position
 position_at s enabled ready = record { state = s; enabled = enabled; ready = ready }
 
@@ -36,10 +32,13 @@ pub record Reached (s : Start) (n : ℕ) (x : Position) : Type 0 where
 
 -- the position that a line names, and its number of steps
 abbrev pub named : Line → Position
-named l = position_at l.0 l.1 l.2
+named l = l.position
 
 abbrev pub steps_to : Line → ℕ
-steps_to l = l.3
+steps_to l = l.steps
+
+abbrev pub line_of : NmtState × Bool × Bool × ℕ → Line
+line_of r = record { position = position_at r.0 r.1 r.2; steps = r.3 }
 
 -- one is among some; a position has a line among some
 abbrev pub Among : {A : Type 0} → A → List A → Type 0

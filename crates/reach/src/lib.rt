@@ -5,36 +5,53 @@ ghost use Rattle.std.specs.Prelude.{◌≡◌, true};
 ghost use Rattle.forms.specs.Hex.{glyph};
 ghost use Rattle.head.specs.Words.{one};
 ghost use Rattle.reach.specs.Form.{line_form, one_digit};
-ghost use Rattle.reach.specs.Positions.{EveryPosition};
+ghost use Rattle.reach.specs.Positions.{EveryPosition, line_of};
 
+use nmt::cn_state_machine::Position;
 use types::nmt::states::NmtState;
 
-// A position, which is an NMT state, whether enabled and whether ready, and the least number of steps to it from a fresh head.
+// A position, and the least number of steps to it from a fresh head.
 #[derive(Clone, Copy)]
-pub struct Line(pub NmtState, pub bool, pub bool, pub u8);
+pub struct Line {
+    pub position: Position,
+    pub steps: u8,
+}
 
-// In the order in which they are printed.
-const LINES: [Line; 14] = [
-    Line(NmtState::NmtGsInitialising, false, true, 0),
-    Line(NmtState::NmtGsInitialising, false, false, 1),
-    Line(NmtState::NmtNotActive, false, false, 1),
-    Line(NmtState::NmtPreOperational1, false, false, 2),
-    Line(NmtState::NmtBasicEthernet, false, false, 2),
-    Line(NmtState::NmtPreOperational2, false, false, 3),
-    Line(NmtState::NmtCsStopped, false, false, 4),
-    Line(NmtState::NmtPreOperational2, false, true, 4),
-    Line(NmtState::NmtPreOperational2, true, false, 4),
-    Line(NmtState::NmtPreOperational1, false, true, 5),
-    Line(NmtState::NmtCsStopped, false, true, 5),
-    Line(NmtState::NmtReadyToOperate, true, true, 5),
-    Line(NmtState::NmtOperational, false, true, 5),
-    Line(NmtState::NmtOperational, false, false, 6),
+// State, enabled, ready and steps, in the order in which they are printed.
+const LINES: [(NmtState, bool, bool, u8); 14] = [
+    (NmtState::NmtGsInitialising, false, true, 0),
+    (NmtState::NmtGsInitialising, false, false, 1),
+    (NmtState::NmtNotActive, false, false, 1),
+    (NmtState::NmtPreOperational1, false, false, 2),
+    (NmtState::NmtBasicEthernet, false, false, 2),
+    (NmtState::NmtPreOperational2, false, false, 3),
+    (NmtState::NmtCsStopped, false, false, 4),
+    (NmtState::NmtPreOperational2, false, true, 4),
+    (NmtState::NmtPreOperational2, true, false, 4),
+    (NmtState::NmtPreOperational1, false, true, 5),
+    (NmtState::NmtCsStopped, false, true, 5),
+    (NmtState::NmtReadyToOperate, true, true, 5),
+    (NmtState::NmtOperational, false, true, 5),
+    (NmtState::NmtOperational, false, false, 6),
 ];
+
+// The line of a row of the table.
+fn line_of(row: (NmtState, bool, bool, u8)) -> Line
+    ensures { result ≡ line_of row }
+{
+    let (state, enabled, ready, steps) = row;
+    let position = Position {
+        state,
+        enabled,
+        ready,
+    };
+    Line { position, steps }
+}
 
 pub fn lines() -> [Line; 14]
     ensures { EveryPosition result × (one_digit result ≡ true) }
 {
-    LINES
+    LINES.map(line_of)
 }
 
 // As a sum with `u8::from` no plainer.
@@ -48,15 +65,16 @@ fn flag(on: bool) -> u8
 pub fn form(line: Line) -> [u8; 42]
     ensures { result ≡ line_form line }
 {
-    let state = line.0;
+    let position = line.position;
+    let state = position.state;
     let at = forms::hex2(state.as_u8() as u64);
-    let enabled = flag(line.1);
-    let ready = flag(line.2);
+    let enabled = flag(position.enabled);
+    let ready = flag(position.ready);
     let mut form = *b"(at 0x00 (enabled 0) (ready 0) (steps 0))\n";
     form[6] = at[2];
     form[7] = at[3];
     form[18] = enabled;
     form[28] = ready;
-    form[38] = b'0' + line.3 % 10;
+    form[38] = b'0' + line.steps % 10;
     form
 }

@@ -9,4 +9,4 @@ use Rattle.reach.proofs.form.Goals as goal
 pub returns : goal.returns
 unfolding line_form
 returns c =
-    rw (c.hex2-at.ensures, c.as_u8.ensures, c.flag-enabled.ensures, c.flag-ready.ensures, lt-ltb (c.args.line.3 % 10) 10 (omega arith))
+    rw (c.hex2-at.ensures, c.as_u8.ensures, c.flag-enabled.ensures, c.flag-ready.ensures, lt-ltb (c.args.line.steps % 10) 10 (omega arith))
