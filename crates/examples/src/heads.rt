@@ -21,7 +21,7 @@ use head::parts::{
     set_od, set_queue, set_soc, set_thresholds,
 };
 use head::state::{Dictionary, Head, SocWatch};
-use nmt::cn_state_machine::CnNmtStateMachine;
+use nmt::cn_state_machine::{CnNmtStateMachine, Position};
 use types::nmt::flags::FeatureFlags;
 use types::nmt::states::NmtState;
 use types::types::NodeId;
@@ -49,25 +49,17 @@ pub fn values(
     }
 }
 
-// Written out, as in chart and transitions: each program has numbers of its own.
-fn machine(current_state: NmtState, enabled: bool, ready: bool) -> CnNmtStateMachine
-    ensures { result ≡ machine current_state enabled ready }
+fn machine(position: Position) -> CnNmtStateMachine
+    ensures { result ≡ machine position.state position.enabled position.ready }
 {
-    CnNmtStateMachine {
-        current_state,
-        node_id: NodeId(1),
-        feature_flags: FeatureFlags(0),
-        basic_ethernet_timeout: 5,
-        ready_to_operate_enabled: enabled,
-        app_ready: ready,
-    }
+    CnNmtStateMachine::new(NodeId(1), FeatureFlags(0), 5).at(position)
 }
 
-// In a state, NonCyclic, levels and counts 0, the check off, with these values.
-fn write(head: &mut Head, state: NmtState, enabled: bool, ready: bool, od: Dictionary)
-    ensures { head.new ≡ resting_words state enabled ready od }
+// In a position, NonCyclic, levels and counts 0, the check off, with these values.
+fn write(head: &mut Head, position: Position, od: Dictionary)
+    ensures { head.new ≡ resting_words position.state position.enabled position.ready od }
 {
-    let nmt = machine(state, enabled, ready);
+    let nmt = machine(position);
     let errors = CnErrorCounters::new(Thresholds::same_for_all(15));
     clear(head);
     set_nmt(head, nmt);
@@ -80,8 +72,19 @@ fn write(head: &mut Head, state: NmtState, enabled: bool, ready: bool, od: Dicti
 pub fn resting(head: &mut Head, state: NmtState, enabled: bool, ready: bool)
     ensures { Stands head.new (resting state enabled ready) }
 {
-    write(head, state, enabled, ready, values(0, 0, 0, 0, 0));
+    let position = Position {
+        state,
+        enabled,
+        ready,
+    };
+    write(head, position, values(0, 0, 0, 0, 0));
 }
+
+const OPERATIONAL: Position = Position {
+    state: NmtState::NmtOperational,
+    enabled: false,
+    ready: true,
+};
 
 fn counter(occurrences: u32, crossings: u32, level: u32) -> ThresholdCounter
     ensures { result ≡ counter_of occurrences level 15 crossings }
@@ -99,7 +102,7 @@ pub fn counting(head: &mut Head, socs: u32, crossings: u32, soc: u32, beats: u32
     ensures { Stands head.new (counting (counters_of socs crossings soc beats beat)) }
 {
     let od = values(0, 0, 0, 0, 0);
-    write(head, NmtState::NmtOperational, false, true, od);
+    write(head, OPERATIONAL, od);
     set_counter(head, CounterKind::LossOfSoc, counter(socs, crossings, soc));
     set_counter(head, CounterKind::HeartbeatTimeout, counter(beats, 0, beat));
 }
@@ -109,7 +112,7 @@ pub fn awaiting(head: &mut Head, earliest: u64, beats: u32, beat: u32)
     ensures { Stands head.new (awaiting earliest (counters_of 0 0 0 beats beat)) }
 {
     let od = values(0, 0, 0, 0, 0);
-    write(head, NmtState::NmtOperational, false, true, od);
+    write(head, OPERATIONAL, od);
     set_counter(head, CounterKind::HeartbeatTimeout, counter(beats, 0, beat));
     set_earliest(head, Some(earliest));
 }
@@ -140,7 +143,7 @@ pub fn cycling(head: &mut Head, deadline: u64, level: u32, lost: u32)
     ensures { Stands head.new (cycling deadline level lost) }
 {
     let od = values(0, lost, 0, 0, 0);
-    write(head, NmtState::NmtOperational, false, true, od);
+    write(head, OPERATIONAL, od);
     write_cycle(head, true, Some(deadline), false);
     set_counter(head, CounterKind::LossOfSoc, counter(lost, 0, level));
 }
@@ -150,7 +153,11 @@ pub fn crossed(head: &mut Head)
     ensures { head_of head.new ≡ placed crossing_tick.all.head (queue 0 1 1) (error_history 253 1) }
 {
     let od = values(1, 2, 1, 0, 1);
-    write(head, NmtState::NmtPreOperational1, false, true, od);
+    let position = Position {
+        state: NmtState::NmtPreOperational1,
+        ..OPERATIONAL
+    };
+    write(head, position, od);
     write_cycle(head, false, None, true);
     set_counter(head, CounterKind::LossOfSoc, counter(2, 1, 0));
     set_queue(
