@@ -1,7 +1,7 @@
 -- Add and remove over a lent run, over plain variables: what the two walks leave is what the form in words leaves, and what the calls answer.
 -- Assumes nothing.
 use Prim.Native.Nat.{ℕ, zero, suc, ◌+◌, ◌-◌, ◌<◌, ◌≤◌}
-use mathlib.Core.Path.{◌≡◌, refl, sym, ap, ap₂, ◌∙◌}
+use mathlib.Core.Path.{◌≡◌, refl, sym, ap, ap₂, subst, ◌∙◌}
 use mathlib.Core.Bool.{Bool, true, false, false≢true}
 use mathlib.Core.List.{List, [], ◌∷◌, ◌++◌}
 use native.Mathlib.Omega.{arith}
@@ -10,17 +10,18 @@ use lib.ListN.{length, get_or, take, drop}
 use lib.Seq.{length-take-le}
 use borrow.Author.Tests.{ltb-true, ltb-false, lt-ltb, le-ltb, eqb-true}
 use Rattle.types.specs.Pick.{pick, both}
-use Rattle.types.specs.Types.{is_node}
+use Rattle.types.specs.Types.{node, is_node, read_node}
+use Rattle.types.specs.declared.types.NodeId.{NodeId}
 use Rattle.types.proofs.Tests.{both_first, both_second}
 use Rattle.types.specs.declared.refusals.Refusal.{Refusal}
-use Rattle.types.specs.declared.refusals.Refusal.TheVariants.{WatchedNodes}
+use Rattle.types.specs.declared.refusals.Refusal.TheVariants.{NodeNumber, WatchedNodes}
 use Rattle.counters.specs.Counters.{new_counter}
 use Rattle.head.specs.Written.{earliest_written}
 use Rattle.watched.specs.declared.nodes.WatchedNode.{WatchedNode}
 use Rattle.watched.specs.Watched.{all_of, fits, well_formed, no_node, watched_node, is_watched, heard_at, place_of, watched_of, Run, run, watching, well_lent}
 use Rattle.watched.specs.Nodes.{rising, never, soonest, moment_of}
 use Rattle.watched.proofs.Lists.{rising_all, watched_nowhere}
-use Rattle.std.specs.Prelude.{is_some}
+use Rattle.std.specs.Prelude.{is_some, is_ok}
 use Rattle.std.specs.declared.option.Option.{Option}
 use Rattle.std.specs.declared.option.Option.TheVariants.{Some, None}
 use Rattle.std.specs.declared.result.Result.{Result}
@@ -31,6 +32,9 @@ use Rattle.partners.specs.Partners.{add_answer, remove_answer, AddedOn, RemovedO
 use Rattle.partners.specs.Walks.{carried, closed}
 use Rattle.partners.proofs.Held.{added_moment, removed_moment}
 use Rattle.partners.proofs.Left.{add_left, remove_left}
+use Rattle.node.specs.Plain.{add}
+use Rattle.node.proofs.OnRuns.{run_declined}
+use Rattle.partners.proofs.Told.{known}
 use Rattle.partners.proofs.Adding as Adding
 use Rattle.partners.proofs.Removing as Removing
 use Rattle.lentlaws.specs.Scan.{scanned, carried_back, scanned_back}
@@ -180,6 +184,27 @@ module _ (k n : ℕ) (x : WatchedNode) where
           ∙ ap₂ (λ (v : WatchedNode) (vs : List WatchedNode). v ∷ vs) (stays L j m w ws a b (omega (arith, i)) u) (more p g i)
           ∙ ap (λ (j : ℕ). w ∷ (take p ws ++ closed j (drop p ws))) y
 
+-- the number of a node that is added
+pub read_known : (n : ℕ) (x : NodeId) → read_node n ≡ Ok x → is_node n ≡ true
+read_known n x e = sym (known n) ∙ ap is_ok e
+
+refusal_of : Result NodeId Refusal → Refusal
+refusal_of (Ok x) = NodeNumber
+refusal_of (Err x) = x
+
+read_unknown : (n : ℕ) (x : Refusal) → read_node n ≡ Err x → (is_node n ≡ false) × (x ≡ NodeNumber)
+unfolding read_node refusal_of
+read_unknown n x = by (is_node n)
+  where
+    by : (b : Bool) → pick {A = Result NodeId Refusal} b (Ok (node n)) (Err NodeNumber) ≡ Err x → (b ≡ false) × (x ≡ NodeNumber)
+    by true e = absurd (false≢true (sym (ap is_ok e)))
+    by false e = (refl, sym (ap refusal_of e))
+
+pub add_unknown : (ws : List ℕ) (r : Run) (n t : ℕ) (x : Refusal) → read_node n ≡ Err x → AddedOn ws r n t (Err x) ws r
+add_unknown ws r n t x e =
+    let u = read_unknown n x e in
+    subst (λ (x : Refusal). AddedOn ws r n t (Err x) ws r) (sym u.1) (run_declined ws (add n t r) r NodeNumber (λ p. rw u.0))
+
 -- the calls, by what was found of the run and what their tests say
 module _ (ws : List ℕ) (vs : List WatchedNode) (k n : ℕ) (f : Findings) (asks : f ≡ for_heard n 0) (o : Option Findings) (sees : o ≡ surveyed k f vs) where
   z : o ≡ surveyed k (for_heard n 0) vs
@@ -195,8 +220,8 @@ module _ (ws : List ℕ) (vs : List WatchedNode) (k n : ℕ) (f : Findings) (ask
   lent = seen_lent k n 0 y (new_counter 0) vs o z
 
   -- add, of a run that number 3 declines
-  pub add_unformed : o ≡ None → (t : ℕ) (v : Bool) → v ≡ is_node n → (c : Result (Unit {0}) Refusal) → c ≡ add_answer v false t false k → AddedOn ws r n t c ws r
-  add_unformed p t v a c e = Adding.add_unformed ws r n t v a (sym lent ∙ ap (λ (o : Option Findings). is_some o) p) false k c e
+  pub add_unformed : o ≡ None → is_node n ≡ true → (t : ℕ) → AddedOn ws r n t (Err WatchedNodes) ws r
+  add_unformed p a t = Adding.add_unformed ws r n t true (sym a) (sym lent ∙ ap (λ (o : Option Findings). is_some o) p) false k (Err WatchedNodes) refl
 
   -- a removal of one
   pub remove_unformed : o ≡ None → RemovedOn ws r n (Err WatchedNodes) ws r

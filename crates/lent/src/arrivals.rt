@@ -9,8 +9,9 @@ use crate::run::{for_heard, survey};
 use head::parts::set_earliest;
 use head::state::Head;
 use lentlaws::{scan, scan_back};
-use partners::{is_known, try_add, try_remove};
+use partners::{try_add, try_remove};
 use types::refusals::Refusal;
+use types::types::NodeId;
 use watched::nodes::{WatchedNode, moment};
 
 // The record that takes the next place: so many of the places ahead are watched.
@@ -102,11 +103,9 @@ pub fn add(
     ensures { AddedOn head.old (run nodes.old number.old) node timeout result head.new (run nodes.new number.new) }
 {
     let count = *number;
-    let known = is_known(node);
-    let Some(found) = survey(nodes, count, for_heard(node, 0)) else {
-        return try_add(known, None, timeout, count);
-    };
-    try_add(known, Some(found.watched), timeout, count)?;
+    NodeId::try_from(node)?;
+    let found = survey(nodes, count, for_heard(node, 0)).ok_or(Refusal::WatchedNodes)?;
+    try_add(true, Some(found.watched), timeout, count)?;
     let added = WatchedNode {
         node,
         timeout,
