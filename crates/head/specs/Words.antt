@@ -1,7 +1,7 @@
 -- The head that words stand for. Any words stand for one: a state's number that none has is GsOff, a DLL state's NonCyclic; of a byte's word the
 -- low byte counts, and a flag is on where its word is not 0.
 -- Assumes nothing.
-use Rattle.std.specs.Prelude.{ℕ, ◌+◌, ◌*◌, ◌%◌, Bool, true, false, not, List, [], ◌∷◌, ◌==◌, slice_index}
+use Rattle.std.specs.Prelude.{ℕ, ◌+◌, ◌*◌, ◌%◌, Bool, true, false, not, List, ◌==◌, slice_index}
 use Rattle.types.specs.Pick.{pick}
 use Rattle.types.specs.States.{read_state}
 use Rattle.types.specs.Types as Types
