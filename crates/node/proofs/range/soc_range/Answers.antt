@@ -4,14 +4,8 @@ use Prim.Native.Nat.{◌≤◌}
 use mathlib.Core.Path.{ap, sym, ◌∙◌}
 use native.Mathlib.Omega.{arith}
 use Rattle.node.specs.Tick.{is_loss}
-use Rattle.node.proofs.Ranging.{head_in, lost_end, kept_ends, open_ends, range_reversed, range_taken}
+use Rattle.node.proofs.Ranging.{head_in, lost_end, kept_ends, open_ends, range_taken}
 use Rattle.node.proofs.range.soc_range.Goals as goal
-
-pub returns-then-latest-earliest : goal.returns-then-latest-earliest
-returns-then-latest-earliest c =
-    let a = c.args in
-    range_reversed a.head.now a.earliest a.latest c.in_ok-earliest.ensures.1 c.in_ok-latest.ensures.1
-    (omega (arith, c.in_ok-earliest.ensures.0, c.in_ok-latest.ensures.0, c.if-latest-earliest.true))
 
 pub returns-then-is_loss : goal.returns-then-is_loss
 returns-then-is_loss c =

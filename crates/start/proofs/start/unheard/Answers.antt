@@ -1,12 +1,10 @@
 -- `start::start::unheard` meets its contract. The invariant: the first i nodes are set, as words and as nodes.
 -- Assumes nothing.
 use native.Mathlib.Omega.{arith}
-use Prim.Native.Nat.{ℕ, ◌<◌}
+use Prim.Native.Nat.{◌<◌}
 use mathlib.Core.Path.{◌≡◌, refl, sym, ap, ◌∙◌}
 use lib.ListN.{length, length-set}
-use Rattle.watched.specs.Watched.{unheard_first}
 use Rattle.watched.specs.Nodes.{nodes_of}
-use Rattle.start.specs.Started.{unheard_words}
 use Rattle.start.proofs.Begun.{unheard_begins, unheard_words_lem, unheard_nodes}
 use Rattle.start.proofs.start.unheard.Goals as goal
 
@@ -22,11 +20,4 @@ loop-i-preserved c =
       c.set_heard.ensures ∙ unheard_words_lem c.args.nodes.now l.nodes l.i h long l.invariant.0,
       ap nodes_of c.set_heard.ensures ∙ unheard_nodes c.args.nodes.now l.nodes l.i h long l.invariant.1,
       l.invariant.2,
-    )
-
-pub returns : goal.returns
-returns c =
-    let e : c.loop-i.i ≡ c.args.count = omega arith in (
-      c.loop-i.invariant.0 ∙ ap (λ (k : ℕ). unheard_words k c.args.nodes.now) e,
-      c.loop-i.invariant.1 ∙ ap (λ (k : ℕ). unheard_first k (nodes_of c.args.nodes.now)) e,
     )
