@@ -1,6 +1,6 @@
 -- A run that watches one node and holds nothing else, place by place.
 -- Assumes nothing.
-use Prim.Native.Nat.{ℕ, ◌+◌, ◌≤◌, ◌<◌}
+use Prim.Native.Nat.{ℕ, zero, suc, ◌+◌, ◌<◌}
 use mathlib.Core.Path.{◌≡◌, refl, sym, ap, ◌∙◌}
 use mathlib.Core.Bool.{Bool, true, false, ◌&&◌}
 use mathlib.Core.List.{List, [], ◌∷◌}
@@ -9,6 +9,7 @@ use native.Mathlib.Omega.{arith}
 use lib.Dec.{eqb}
 use lib.ListN.{length, get_or, drop, replicate, drop_of_length-le}
 use lib.Seq.{drop-cons}
+use Rattle.std.specs.List.{list_all, range_with_len}
 use Rattle.types.specs.Pick.{both}
 use Rattle.entries.specs.Ring.{listed}
 use Rattle.watched.specs.declared.nodes.WatchedNode.{WatchedNode}
@@ -61,22 +62,16 @@ module _ (ns : List ℕ) where
       let d : drop i (nodes_of ns) ≡ get_or (nodes_of ns) i no_node ∷ drop (i + 1) (nodes_of ns) = rw add-one (drop-cons (nodes_of ns) i no_node (omega (arith, places ns))) in
       d ∙ ap (λ (w : WatchedNode). w ∷ drop (i + 1) (nodes_of ns)) (node_at_lem ns i h)
 
-  -- what is left gives what the whole gives
-  abbrev pub Left : ℕ → Type 0
-  Left i = all_of blank (drop 1 (nodes_of ns)) ≡ all_of blank (drop i (nodes_of ns))
+  by_both : (a : Bool) {b c : Bool} → b ≡ c → (a && b) ≡ both a c
+  by_both true e = e
+  by_both false e = refl
 
-  module _ (i : ℕ) (h : i < 32) (l : Left i) (b : Bool) (e : b ≡ blank (node_at ns i)) where
-    here : all_of blank (drop 1 (nodes_of ns)) ≡ both b (all_of blank (drop (i + 1) (nodes_of ns)))
-    here = l ∙ ap (all_of blank) (node_here i h) ∙ ap (λ (c : Bool). both c (all_of blank (drop (i + 1) (nodes_of ns)))) (sym e)
-
-    pub stops : b ≡ false → false ≡ all_of blank (drop 1 (nodes_of ns))
-    stops f = sym (here ∙ ap (λ (c : Bool). both c (all_of blank (drop (i + 1) (nodes_of ns)))) f)
-
-    pub goes_on_lem : b ≡ true → Left (i + 1)
-    goes_on_lem f = here ∙ ap (λ (c : Bool). both c (all_of blank (drop (i + 1) (nodes_of ns)))) f
-
-  pub ends : (i : ℕ) → 32 ≤ i → Left i → true ≡ all_of blank (drop 1 (nodes_of ns))
-  ends i h l = sym (l ∙ ap (all_of blank) (drop_of_length-le (nodes_of ns) {i = i} (omega (arith, places ns))))
+  -- the places from one on, asked one by one
+  pub blank_from : (n i : ℕ) → i + n ≡ 32 → list_all (λ (j : ℕ). blank (node_at ns j)) (range_with_len i n) ≡ all_of blank (drop i (nodes_of ns))
+  blank_from zero i h = sym (ap (all_of blank) (drop_of_length-le (nodes_of ns) {i = i} (omega (arith, places ns, h))))
+  blank_from (suc n) i h =
+      by_both (blank (node_at ns i)) (blank_from n (i + 1) (omega arith))
+      ∙ sym (ap (all_of blank) (node_here i (omega arith)))
 
   pub exact_watching :
       (w : WatchedNode) {a b : Bool} → Exactly a (node_at ns 0 ≡ w) → b ≡ all_of blank (drop 1 (nodes_of ns)) → Exactly (a && b) (run (nodes_of ns) 1 ≡ holding (w ∷ []))

@@ -18,12 +18,7 @@ fn is_blank(nodes: &NodeWords, place: usize) -> bool
 fn rest_is_blank(nodes: &NodeWords) -> bool
     ensures { result ≡ all_of blank (drop 1 (nodes_of nodes.now)) }
 {
-    for place in 1..32usize {
-        if !is_blank(nodes, place) {
-            return false;
-        }
-    }
-    true
+    (1..32usize).all(|place| is_blank(nodes, place))
 }
 
 // The one watched node is this one.

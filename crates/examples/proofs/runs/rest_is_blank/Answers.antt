@@ -1,21 +1,15 @@
--- `examples::runs::rest_is_blank` meets its contract: place by place. The invariant: what is left gives what the whole gives.
+-- `examples::runs::rest_is_blank` meets its contract: each place behind the first is blank.
 -- Assumes nothing.
-use mathlib.Core.Path.{refl}
-use Rattle.examples.proofs.Blank.{stops, goes_on_lem, ends}
+use Rattle.std.proofs.Common.{rules, tests, refl, ◌∙◌, ℕ}
+use Rattle.std.proofs.lemmas.Iterator.{YieldsList-from_range}
+use Rattle.std.proofs.lemmas.Iterator.Search.{all_from_yields_List}
+use Rattle.watched.specs.Nodes.{node_at}
+use Rattle.examples.specs.Same.{blank}
+use Rattle.examples.proofs.Blank.{blank_from}
 use Rattle.examples.proofs.runs.rest_is_blank.Goals as goal
-
-pub loop-place-init : goal.loop-place-init
-loop-place-init c =
-    refl
-
-pub returns-then-not-is_blank : goal.returns-then-not-is_blank
-returns-then-not-is_blank c =
-    stops c.args.nodes.now c.loop-place.place c.loop-place-test.true c.loop-place.invariant c.is_blank.result c.is_blank.ensures (c.if-not-is_blank.true)
-
-pub loop-place-preserved : goal.loop-place-preserved
-loop-place-preserved c =
-    goes_on_lem c.args.nodes.now c.loop-place.place c.loop-place-test.true c.loop-place.invariant c.is_blank.result c.is_blank.ensures (c.if-not-is_blank.false)
 
 pub returns : goal.returns
 returns c =
-    ends c.args.nodes.now c.loop-place.place c.loop-place-test.false c.loop-place.invariant
+    let ns = c.args.nodes.now in
+    all_from_yields_List (λ (i : ℕ). blank (node_at ns i)) _ _ _ c.all.ensures.ran (YieldsList-from_range 1 32 31 refl refl) (λ x b q k. search (rules, tests))
+    ∙ blank_from ns 31 1 refl
