@@ -1,8 +1,9 @@
 // What a program prints. A write that fails is kept, nothing is written behind it, and the program ends with it. What reaches standard output no contract can say;
 // of a writer whose bytes are known, as one over memory, they say which bytes join them.
-ghost use Rattle.std.specs.Prelude.{◌≡◌, IsOk, IsErr, IfSome};
+ghost use Rattle.std.specs.Prelude.{◌≡◌, IsOk, IfSome};
 ghost use Rattle.std.specs.Io.KnownBytes.{Appends};
 ghost use Rattle.std.specs.Fmt.{decimal};
+ghost use Rattle.forms.specs.Output.{Writes};
 
 use std::fmt::Display;
 use std::io;
@@ -27,8 +28,7 @@ impl<W: Write> Output<W> {
 
     // Writes all bytes, unless a write has failed before.
     pub fn write(&mut self, bytes: &[u8])
-        ensures failed { IsErr self.old.outcome → self.new ≡ self.old }
-        ensures written { IsOk self.new.outcome → Appends (W.contents self.old.to) (W.contents self.new.to) bytes.now }
+        ensures { Writes self.old self.new (Appends (W.contents self.old.to) (W.contents self.new.to) bytes.now) }
     {
         if self.outcome.is_ok() {
             self.outcome = self.to.write_all(bytes);
@@ -37,8 +37,7 @@ impl<W: Write> Output<W> {
 
     // What `write!` and `writeln!` call: the same with a text.
     pub fn write_fmt<D: Display + Drop>(&mut self, text: D)
-        ensures failed { IsErr self.old.outcome → self.new ≡ self.old }
-        ensures written { IsOk self.new.outcome → IfSome (D.output text) (Appends (W.contents self.old.to) (W.contents self.new.to)) }
+        ensures { Writes self.old self.new (IfSome (D.output text) (Appends (W.contents self.old.to) (W.contents self.new.to))) }
     {
         if self.outcome.is_ok() {
             self.outcome = self.to.write_fmt(text);
@@ -47,8 +46,7 @@ impl<W: Write> Output<W> {
 
     // The same with a number in decimal.
     pub fn write_number(&mut self, n: u64)
-        ensures failed { IsErr self.old.outcome → self.new ≡ self.old }
-        ensures written { IsOk self.new.outcome → Appends (W.contents self.old.to) (W.contents self.new.to) (decimal n) }
+        ensures { Writes self.old self.new (Appends (W.contents self.old.to) (W.contents self.new.to) (decimal n)) }
     {
         write!(self, "{n}");
     }
