@@ -7,7 +7,7 @@ use std::io;
 fn main(rt: HostRuntime) -> io::Result<()> {
     let mut out = Output::new(rt.stdout());
     for line in reach::lines() {
-        out.write(&reach::form(line));
+        write!(out, "{line}");
     }
     out.end()
 }

@@ -1,3 +1,4 @@
 pub mod Mapped
 pub mod Reaching
 pub mod Fixed
+pub mod Digits

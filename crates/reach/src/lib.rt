@@ -1,13 +1,14 @@
 // Every position that a head can reach, and the line that the program `positions` prints of it (document 02, No. 12).
 #![tactic(auto)]
 
-ghost use Rattle.std.specs.Prelude.{◌≡◌, true};
-ghost use Rattle.forms.specs.Hex.{glyph};
-ghost use Rattle.head.specs.Words.{one};
+ghost use Rattle.std.specs.Prelude.{◌≡◌, true, Some};
 ghost use Rattle.reach.specs.Form.{line_form, one_digit};
 ghost use Rattle.reach.specs.Positions.{EveryPosition, line_of};
 
+use forms::hex::HexByte;
 use nmt::cn_state_machine::Position;
+use std::fmt;
+use std::fmt::Display;
 use types::nmt::states::NmtState;
 
 // A position, and the least number of steps to it from a fresh head.
@@ -54,27 +55,24 @@ pub fn lines() -> [Line; 14]
     LINES.map(line_of)
 }
 
-// As a sum with `u8::from` no plainer.
-fn flag(on: bool) -> u8
-    ensures { result ≡ glyph (one on) }
-{
-    if on { b'1' } else { b'0' }
-}
+// The line as it is printed; of the steps the last digit, which is all of them below 10.
+#[tactic(auto, using(crate::proofs::Digits::flag_text, crate::proofs::Digits::digit_text), unfolding(crate::specs::Form::line_form))]
+impl Display for Line {
+    ghost output = { λ l. Some (line_form l) };
 
-// The line as it is printed. Its bytes stand in the contract, so they are set at their places and not by `write!`.
-pub fn form(line: Line) -> [u8; 42]
-    ensures { result ≡ line_form line }
-{
-    let position = line.position;
-    let state = position.state;
-    let at = forms::hex2(state.as_u8() as u64);
-    let enabled = flag(position.enabled);
-    let ready = flag(position.ready);
-    let mut form = *b"(at 0x00 (enabled 0) (ready 0) (steps 0))\n";
-    form[6] = at[2];
-    form[7] = at[3];
-    form[18] = enabled;
-    form[28] = ready;
-    form[38] = b'0' + line.steps % 10;
-    form
+    fn fmt<W: fmt::Write>(&self, f: &mut fmt::Formatter<W>) -> fmt::Result {
+        let Position {
+            state,
+            enabled,
+            ready,
+        } = self.position;
+        writeln!(
+            f,
+            "(at {} (enabled {}) (ready {}) (steps {}))",
+            HexByte(state.as_u8()),
+            u8::from(enabled),
+            u8::from(ready),
+            self.steps % 10
+        )
+    }
 }
