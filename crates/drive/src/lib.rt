@@ -182,10 +182,7 @@ fn lend(nodes: &mut NodeWords, row: Row)
 fn number(declined: Option<Refusal>) -> u64
     ensures { result ≡ number_in declined }
 {
-    match declined {
-        Some(refusal) => u64::from(refusal.number()),
-        None => 0,
-    }
+    declined.map_or(0, |refusal| u64::from(refusal.number()))
 }
 
 // The i-th row of a script.
