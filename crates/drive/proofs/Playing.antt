@@ -10,34 +10,32 @@ use Rattle.types.specs.declared.refusals.Refusal.{Refusal}
 use Rattle.types.specs.declared.nmt.flags.FeatureFlags.{FeatureFlags}
 use Rattle.counters.specs.declared.counters.Thresholds.{Thresholds}
 use Rattle.head.specs.declared.state.Dictionary.{Dictionary}
-use Rattle.watched.specs.Watched.{run}
 use Rattle.node.specs.Plain.{Call}
 use Rattle.node.specs.Run.{Said}
-use Rattle.watched.specs.Nodes.{nodes_of}
 use Rattle.std.specs.declared.result.Result.{Result}
 use Rattle.std.specs.declared.result.Result.TheVariants.{Ok, Err}
 use Rattle.start.specs.Started.{StartedIn}
 use Rattle.drive.specs.declared.Row.{Row}
 use Rattle.drive.specs.declared.Tag.TheVariants.{Lend}
-use Rattle.drive.specs.Script.{call_of, lent_by, row_at, number_of, numbers, numbers_written, Turned, Plays, Played, Lent, lent, PlayedAll, Replayed}
+use Rattle.drive.specs.Script.{call_on, lent_by, row_at, number_of, numbers, numbers_written, Held, held, Turned, Plays, Played, Lent, lent, PlayedAll, Replayed}
 
 -- one row, over what it left
 pub plays_lends :
     {r : Row} {bytes ws q m ns out ns' : List ℕ} {k n : ℕ} →
     r.tag ≡ Lend →
     ns' ≡ lent_by r ns →
-    Plays r bytes ws q m ns k out n ws q m ns' r.e out n
+    Plays r bytes (held ws q m ns k) out n (held ws q m ns' r.e) out n
 plays_lends {r} {bytes} {ws} {q} {m} {ns} {out} {ns'} {k} {n} e f =
-    subst (λ (l : List ℕ). Plays r bytes ws q m ns k out n ws q m l r.e out n) (sym f) (Plays.lends e)
+    subst (λ (l : List ℕ). Plays r bytes (held ws q m ns k) out n (held ws q m l r.e) out n) (sym f) (Plays.lends e)
 
 pub plays_calls :
-    {r : Row} {bytes ws q m ns out ws' q' m' ns' out' : List ℕ} {k k' n x : ℕ} →
+    {r : Row} {bytes out out' : List ℕ} {x x' : Held} {n a : ℕ} →
     (r.tag ≡ Lend → ⊥) →
-    Turned ws q m ns k (call_of r (run (nodes_of ns) k) bytes) x ws' q' m' ns' k' →
-    out' ≡ set out n x →
-    Plays r bytes ws q m ns k out n ws' q' m' ns' k' out' (n + 1)
-plays_calls {r} {bytes} {ws} {q} {m} {ns} {out} {ws'} {q'} {m'} {ns'} {out'} {k} {k'} {n} {x} e t f =
-    subst (λ (l : List ℕ). Plays r bytes ws q m ns k out n ws' q' m' ns' k' l (n + 1)) (sym f) (Plays.calls e t)
+    Turned x (call_on r x bytes) a x' →
+    out' ≡ set out n a →
+    Plays r bytes x out n x' out' (n + 1)
+plays_calls {r} {bytes} {out} {out'} {x} {x'} {n} {a} e t f =
+    subst (λ (l : List ℕ). Plays r bytes x out n x' l (n + 1)) (sym f) (Plays.calls e t)
 
 -- a number more, at the end
 written_more :
@@ -50,19 +48,18 @@ written_more out i (t ∷ ss) s =
     let o = set out i (number_of t.answer) in
     written_more o (suc i) ss s ∙ ap (λ (j : ℕ). set (numbers_written o (suc i) (numbers ss)) j (number_of s.answer)) e
 
--- of n rows the first i were played, from what x is and with k₀ nodes watched: the words of the head and the nodes, the bytes, `out`, how many nodes are watched and
--- how many calls were made
-pub record Going (script bytes : List ℕ) (k₀ : ℕ) (x : Lent) (n : ℕ) (ws ns q m out : List ℕ) (k made i : ℕ) : Type 0 where
+-- of n rows the first i were played, from what x is and with k₀ nodes watched: what is held, `out`, and how many calls were made
+pub record Going (script bytes : List ℕ) (k₀ : ℕ) (x : Lent) (n : ℕ) (y : Held) (out : List ℕ) (made i : ℕ) : Type 0 where
   pub within : i ≤ n
   pub calls : List Call
   pub says : List Said
-  pub played : Played script bytes x.head x.queue x.history x.nodes k₀ i calls says ws q m ns k
+  pub played : Played script bytes (held x.head x.queue x.history x.nodes k₀) i calls says y
   pub numbered : out ≡ numbers_written x.out 0 (numbers says)
   pub many : made ≡ length says
   pub few : made ≤ i
 
 module _ (script bytes : List ℕ) (k₀ : ℕ) (x : Lent) (n : ℕ) where
-  pub going_start : Going script bytes k₀ x n x.head x.nodes x.queue x.history x.out k₀ 0 0
+  pub going_start : Going script bytes k₀ x n (held x.head x.queue x.history x.nodes k₀) x.out 0 0
   unfolding numbers_written
   going_start =
       record {
@@ -76,11 +73,11 @@ module _ (script bytes : List ℕ) (k₀ : ℕ) (x : Lent) (n : ℕ) where
       }
 
   one_more_lem :
-      {ws ns q m out : List ℕ} {k made i k' made' : ℕ} {ws' q' m' ns' out' : List ℕ} →
-      Going script bytes k₀ x n ws ns q m out k made i →
+      {i : ℕ} {y : Held} {out : List ℕ} {made : ℕ} {y' : Held} {out' : List ℕ} {made' : ℕ} →
+      Going script bytes k₀ x n y out made i →
       i < n →
-      Plays (row_at script i) bytes ws q m ns k out made ws' q' m' ns' k' out' made' →
-      Going script bytes k₀ x n ws' ns' q' m' out' k' made' (suc i)
+      Plays (row_at script i) bytes y out made y' out' made' →
+      Going script bytes k₀ x n y' out' made' (suc i)
   one_more_lem g l (Plays.lends e) =
       record {
         within = omega arith;
@@ -91,7 +88,7 @@ module _ (script bytes : List ℕ) (k₀ : ℕ) (x : Lent) (n : ℕ) where
         many = g.many;
         few = omega (arith, g.few);
       }
-  one_more_lem {out = out} {made = made} g l (Plays.calls {x = a} e t) =
+  one_more_lem {out = out} {made = made} g l (Plays.calls {a = a} e t) =
       let s = t.said in
       record {
         within = omega arith;
@@ -111,20 +108,20 @@ module _ (script bytes : List ℕ) (k₀ : ℕ) (x : Lent) (n : ℕ) where
       }
 
   pub going_next :
-      {ws ns q m out ws' q' m' ns' out' : List ℕ} {k made i k' made' : ℕ} {r : Row} →
-      Going script bytes k₀ x n ws ns q m out k made i →
+      {y y' : Held} {out out' : List ℕ} {made i made' : ℕ} {r : Row} →
+      Going script bytes k₀ x n y out made i →
       i < n →
       r ≡ row_at script i →
-      Plays r bytes ws q m ns k out made ws' q' m' ns' k' out' made' →
-      Going script bytes k₀ x n ws' ns' q' m' out' k' made' (i + 1)
-  going_next {ws} {ns} {q} {m} {out} {ws'} {q'} {m'} {ns'} {out'} {k} {made} {i} {k'} {made'} {r} g l e a =
-      let b = subst (λ (y : Row). Plays y bytes ws q m ns k out made ws' q' m' ns' k' out' made') e a in
-      subst (Going script bytes k₀ x n ws' ns' q' m' out' k' made') (sym (add-one i)) (one_more_lem g l b)
+      Plays r bytes y out made y' out' made' →
+      Going script bytes k₀ x n y' out' made' (i + 1)
+  going_next {y} {y'} {out} {out'} {made} {i} {made'} {r} g l e a =
+      let b = subst (λ (z : Row). Plays z bytes y out made y' out' made') e a in
+      subst (Going script bytes k₀ x n y' out' made') (sym (add-one i)) (one_more_lem g l b)
 
   -- every row was played, and each reference is left as its last row left it
   pub going_end :
       {ws ns q m out ws' ns' q' m' out' : List ℕ} {k made i : ℕ} →
-      Going script bytes k₀ x n ws ns q m out k made i →
+      Going script bytes k₀ x n (held ws q m ns k) out made i →
       n ≤ i →
       n ≡ length script / 11 →
       ws' ≡ ws →
@@ -140,7 +137,8 @@ module _ (script bytes : List ℕ) (k₀ : ℕ) (x : Lent) (n : ℕ) where
         calls = g.calls;
         says = g.says;
         count = k;
-        played = subst (λ (j : ℕ). Played script bytes x.head x.queue x.history x.nodes k₀ j g.calls g.says ws q m ns k) (f ∙ e) g.played;
+        played =
+            subst (λ (j : ℕ). Played script bytes (held x.head x.queue x.history x.nodes k₀) j g.calls g.says (held ws q m ns k)) (f ∙ e) g.played;
         numbered = g.numbered;
       }
       in

@@ -23,18 +23,18 @@ use Rattle.drive.specs.declared.Row.{Row}
 use Rattle.drive.specs.declared.Tag.{Tag}
 use Rattle.drive.specs.declared.Tag.TheVariants.{Lend, Arm}
 use Rattle.trace.specs.Driven.{Made}
-use Rattle.drive.specs.Script.{tag_of, part_of, call_tagged, call_of, number_of, number_in, Turned}
+use Rattle.drive.specs.Script.{tag_of, part_of, call_tagged, call_of, number_of, number_in, held, Turned}
 
 module _ {ws q m ns ws' q' m' ns' : List ℕ} {k k' n : ℕ} {c : Call} where
-  pub turned : {s : Said} → Made ws q m ns k c s ws' q' m' ns' k' → n ≡ number_of s.answer → Turned ws q m ns k c n ws' q' m' ns' k'
+  pub turned : {s : Said} → Made ws q m ns k c s ws' q' m' ns' k' → n ≡ number_of s.answer → Turned (held ws q m ns k) c n (held ws' q' m' ns' k')
   turned {s} r e = record { said = s; made = r; number = e }
 
   -- the call of a row with a tag
   pub turned_of :
       (r : Row) (l : Run) (bytes : List ℕ) (t : Tag) {s : Said} → c ≡ call_tagged t r l bytes → r.tag ≡ t →
-      Made ws q m ns k c s ws' q' m' ns' k' → n ≡ number_of s.answer → Turned ws q m ns k (call_of r l bytes) n ws' q' m' ns' k'
+      Made ws q m ns k c s ws' q' m' ns' k' → n ≡ number_of s.answer → Turned (held ws q m ns k) (call_of r l bytes) n (held ws' q' m' ns' k')
   turned_of r l bytes t d e f g =
-      subst (λ (x : Call). Turned ws q m ns k x n ws' q' m' ns' k') (d ∙ sym (ap (λ (t : Tag). call_tagged t r l bytes) e)) (turned f g)
+      subst (λ (x : Call). Turned (held ws q m ns k) x n (held ws' q' m' ns' k')) (d ∙ sym (ap (λ (t : Tag). call_tagged t r l bytes) e)) (turned f g)
 
 -- what declined a call, and what the call says
 pub declined_lem :

@@ -17,15 +17,15 @@ use Rattle.std.specs.declared.result.Result.{Result}
 use Rattle.std.specs.declared.result.Result.TheVariants.{Ok, Err}
 use Rattle.trace.specs.Claim.{Claim}
 use Rattle.trace.specs.Driven.{Began, Driven, stop}
-use Rattle.drive.specs.Script.{Played, Lent, lent, Ran, Replayed}
+use Rattle.drive.specs.Script.{Held, Played, Lent, lent, Ran, Replayed}
 use Rattle.trace.proofs.Driven.{and_then, demand_3}
 use Rattle.drive.proofs.drive.Reads as drive-reads
 
 -- rows that were played are a list of calls
 pub played_driven :
-    {script bytes ws₀ q₀ m₀ ns₀ : List ℕ} {k₀ : ℕ} {ws q m ns : List ℕ} {i k : ℕ} {cs : List Call} {ss : List Said} →
-    Played script bytes ws₀ q₀ m₀ ns₀ k₀ i cs ss ws q m ns k →
-    Driven ws₀ q₀ m₀ cs ss ws q m
+    {script bytes : List ℕ} {x₀ x : Held} {i : ℕ} {cs : List Call} {ss : List Said} →
+    Played script bytes x₀ i cs ss x →
+    Driven x₀.head x₀.queue x₀.history cs ss x.head x.queue x.history
 played_driven Played.none = stop
 played_driven (Played.lends p e) = played_driven p
 played_driven (Played.calls p e r) = and_then (played_driven p) r

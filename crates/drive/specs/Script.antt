@@ -143,37 +143,57 @@ unfoldable pub numbers_written : List ℕ → ℕ → List ℕ → List ℕ
 numbers_written out i [] = out
 numbers_written out i (n ∷ ns) = numbers_written (set out i n) (suc i) ns
 
+-- what a row is played on: the words of the head, the bytes of queue and history, the words of the nodes and how many of them are watched
+pub record Held : Type 0 where
+  pub head : List ℕ
+  pub queue : List ℕ
+  pub history : List ℕ
+  pub nodes : List ℕ
+  pub watched : ℕ
+
+abbrev pub held : List ℕ → List ℕ → List ℕ → List ℕ → ℕ → Held
+held ws q m ns k = record { head = ws; queue = q; history = m; nodes = ns; watched = k }
+
+-- a call on what is held, what it said, and what is held then
+abbrev pub MadeOn : Held → Call → Said → Held → Type 0
+MadeOn x c s x' = Made x.head x.queue x.history x.nodes x.watched c s x'.head x'.queue x'.history x'.nodes x'.watched
+
+-- the call of a row with the nodes that are held, and what is held behind a row of `Lend`
+abbrev pub call_on : Row → Held → List ℕ → Call
+call_on r x bytes = call_of r (run (nodes_of x.nodes) x.watched) bytes
+
+abbrev pub lent_on : Row → Held → Held
+lent_on r x = held x.head x.queue x.history (lent_by r x.nodes) r.e
+
 -- a call was made, and n is the number that declined it, or 0
-pub record Turned (ws q m ns : List ℕ) (k : ℕ) (c : Call) (n : ℕ) (ws' q' m' ns' : List ℕ) (k' : ℕ) : Type 0 where
+pub record Turned (x : Held) (c : Call) (n : ℕ) (x' : Held) : Type 0 where
   pub said : Said
-  pub made : Made ws q m ns k c said ws' q' m' ns' k'
+  pub made : MadeOn x c said x'
   pub number : n ≡ number_of said.answer
 
--- One row: the words of the head, the bytes of queue and history, the words of the nodes and how many are watched; `out`, and how many numbers it has; all of
--- them after the row.
-pub data Plays (r : Row) (bytes ws q m ns : List ℕ) (k : ℕ) (out : List ℕ) (n : ℕ) : List ℕ → List ℕ → List ℕ → List ℕ → ℕ → List ℕ → ℕ → Type 0 where
-  lends : r.tag ≡ Lend → Plays r bytes ws q m ns k out n ws q m (lent_by r ns) r.e out n
+-- One row: what is held; `out`, and how many numbers it has; all of them after the row.
+pub data Plays (r : Row) (bytes : List ℕ) (x : Held) (out : List ℕ) (n : ℕ) : Held → List ℕ → ℕ → Type 0 where
+  lends : r.tag ≡ Lend → Plays r bytes x out n (lent_on r x) out n
   calls :
-      {ws' q' m' ns' : List ℕ} {k' x : ℕ} →
+      {x' : Held} {a : ℕ} →
       (r.tag ≡ Lend → ⊥) →
-      Turned ws q m ns k (call_of r (run (nodes_of ns) k) bytes) x ws' q' m' ns' k' →
-      Plays r bytes ws q m ns k out n ws' q' m' ns' k' (set out n x) (n + 1)
+      Turned x (call_on r x bytes) a x' →
+      Plays r bytes x out n x' (set out n a) (n + 1)
 
--- The first so many rows of a script, each on what the last one left: the calls that they are, what these said, and the words of the head, the bytes of queue and
--- history, the words of the nodes and how many are watched after them.
-pub data Played (script bytes ws₀ q₀ m₀ ns₀ : List ℕ) (k₀ : ℕ) : ℕ → List Call → List Said → List ℕ → List ℕ → List ℕ → List ℕ → ℕ → Type 0 where
-  none : Played script bytes ws₀ q₀ m₀ ns₀ k₀ 0 [] [] ws₀ q₀ m₀ ns₀ k₀
+-- The first so many rows of a script, each on what the last one left: the calls that they are, what these said, and what is held after them.
+pub data Played (script bytes : List ℕ) (x₀ : Held) : ℕ → List Call → List Said → Held → Type 0 where
+  none : Played script bytes x₀ 0 [] [] x₀
   lends :
-      {i k : ℕ} {cs : List Call} {ss : List Said} {ws q m ns : List ℕ} →
-      Played script bytes ws₀ q₀ m₀ ns₀ k₀ i cs ss ws q m ns k →
+      {i : ℕ} {cs : List Call} {ss : List Said} {x : Held} →
+      Played script bytes x₀ i cs ss x →
       (row_at script i).tag ≡ Lend →
-      Played script bytes ws₀ q₀ m₀ ns₀ k₀ (suc i) cs ss ws q m (lent_by (row_at script i) ns) (row_at script i).e
+      Played script bytes x₀ (suc i) cs ss (lent_on (row_at script i) x)
   calls :
-      {i k k' : ℕ} {cs : List Call} {ss : List Said} {s : Said} {ws q m ns ws' q' m' ns' : List ℕ} →
-      Played script bytes ws₀ q₀ m₀ ns₀ k₀ i cs ss ws q m ns k →
+      {i : ℕ} {cs : List Call} {ss : List Said} {s : Said} {x x' : Held} →
+      Played script bytes x₀ i cs ss x →
       ((row_at script i).tag ≡ Lend → ⊥) →
-      Made ws q m ns k (call_of (row_at script i) (run (nodes_of ns) k) bytes) s ws' q' m' ns' k' →
-      Played script bytes ws₀ q₀ m₀ ns₀ k₀ (suc i) (cs ++ (call_of (row_at script i) (run (nodes_of ns) k) bytes ∷ [])) (ss ++ (s ∷ [])) ws' q' m' ns' k'
+      MadeOn x (call_on (row_at script i) x bytes) s x' →
+      Played script bytes x₀ (suc i) (cs ++ (call_on (row_at script i) x bytes ∷ [])) (ss ++ (s ∷ [])) x'
 
 -- what is lent to `drive`: the words of the head and of the nodes, the bytes of queue and history, and where the answers' numbers go
 pub record Lent : Type 0 where
@@ -192,7 +212,7 @@ pub record PlayedAll (script bytes : List ℕ) (k : ℕ) (x x' : Lent) : Type 0 
   pub says : List Said
   pub count : ℕ
   pub played :
-      Played script bytes x.head x.queue x.history x.nodes k (length script / 11) calls says x'.head x'.queue x'.history x'.nodes count
+      Played script bytes (held x.head x.queue x.history x.nodes k) (length script / 11) calls says (held x'.head x'.queue x'.history x'.nodes count)
   pub numbered : x'.out ≡ numbers_written x.out 0 (numbers says)
 
 -- A start that was taken, with the words of the head and of the nodes that it left, and every row of the script from these on.
