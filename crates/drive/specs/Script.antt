@@ -19,6 +19,7 @@ use Rattle.node.specs.Refines.{history_update}
 use Rattle.watched.specs.Nodes.{nodes_of}
 use Rattle.start.specs.Started.{StartedIn}
 use Rattle.drive.specs.declared.Row.{Row}
+use Rattle.drive.specs.declared.Player.{Player}
 use Rattle.drive.specs.declared.Tag.{Tag}
 use Rattle.drive.specs.declared.Tag.TheVariants.{NmtEvent, DllEvent, Error, CycleComplete, Withdraw, Heard, HandOut, Load, Tick, Lend, Range, Margin, Add, Remove, Arm}
 use Rattle.trace.specs.Driven.{Made}
@@ -153,6 +154,10 @@ pub record Held : Type 0 where
 
 abbrev pub held : List ℕ → List ℕ → List ℕ → List ℕ → ℕ → Held
 held ws q m ns k = record { head = ws; queue = q; history = m; nodes = ns; watched = k }
+
+-- what a player holds
+abbrev pub held_by : Player → Held
+held_by p = held p.head.now p.queue.now p.history.now p.nodes.now p.watched
 
 -- a call on what is held, what it said, and what is held then
 abbrev pub MadeOn : Held → Call → Said → Held → Type 0

@@ -4,9 +4,7 @@
 
 ghost use Rattle.std.specs.Prelude.{◌≡◌, List, ℕ, ◌+◌, ◌*◌, ◌<◌, ltb, length, set};
 ghost use Rattle.types.specs.Pick.{pick};
-ghost use Rattle.watched.specs.Watched.{run};
-ghost use Rattle.watched.specs.Nodes.{nodes_of};
-ghost use Rattle.drive.specs.Script.{byte_of, word_of, byte_update, counter_update, object_update, values_of, tag_of, part_of, call_of, lent_by, row_at, number_in, held, Turned, Plays, lent, PlayedAll, Replayed};
+ghost use Rattle.drive.specs.Script.{byte_of, word_of, byte_update, counter_update, object_update, values_of, tag_of, part_of, call_on, lent_by, row_at, number_in, held_by, Turned, Plays, lent, PlayedAll, Replayed};
 
 use head::state::Head;
 use node::calls::{arm, dll_event, hand_out, handle_error, nmt_event, on_cycle_complete, withdraw};
@@ -218,9 +216,7 @@ fn put(out: &mut [u64], i: usize, n: u64)
 impl Player<'_> {
     // The call of a row, and what declined it.
     fn call(&mut self, row: Row) -> Option<Refusal>
-        ensures turned { Turned (held self.old.head.now self.old.queue.now self.old.history.now self.old.nodes.now self.old.watched)
-            (call_of row (run (nodes_of self.old.nodes.now) self.old.watched) self.old.bytes.now) (number_in result)
-            (held self.new.head.now self.new.queue.now self.new.history.now self.new.nodes.now self.new.watched) }
+        ensures turned { Turned (held_by self.old) (call_on row (held_by self.old) self.old.bytes.now) (number_in result) (held_by self.new) }
         ensures others { (self.new.bytes.now ≡ self.old.bytes.now) × (self.new.out.now ≡ self.old.out.now) × (self.new.made ≡ self.old.made) }
         ensures same_references { (self.new.head.ghost_name ≡ self.old.head.ghost_name) × (self.new.nodes.ghost_name ≡ self.old.nodes.ghost_name) ×
             (self.new.queue.ghost_name ≡ self.old.queue.ghost_name) × (self.new.history.ghost_name ≡ self.old.history.ghost_name) ×
@@ -276,9 +272,7 @@ impl Player<'_> {
     // One row: a call, whose number is written, or what is lent next.
     fn play(&mut self, row: Row)
         requires { self.old.made < 18446744073709551615 }
-        ensures plays { Plays row self.old.bytes.now
-            (held self.old.head.now self.old.queue.now self.old.history.now self.old.nodes.now self.old.watched) self.old.out.now self.old.made
-            (held self.new.head.now self.new.queue.now self.new.history.now self.new.nodes.now self.new.watched) self.new.out.now self.new.made }
+        ensures plays { Plays row self.old.bytes.now (held_by self.old) self.old.out.now self.old.made (held_by self.new) self.new.out.now self.new.made }
         ensures bytes { self.new.bytes.now ≡ self.old.bytes.now }
         ensures same_references { (self.new.head.ghost_name ≡ self.old.head.ghost_name) × (self.new.nodes.ghost_name ≡ self.old.nodes.ghost_name) ×
             (self.new.queue.ghost_name ≡ self.old.queue.ghost_name) × (self.new.history.ghost_name ≡ self.old.history.ghost_name) ×

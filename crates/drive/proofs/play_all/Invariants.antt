@@ -1,7 +1,7 @@
 -- `drive::play_all` meets its contract: the rows that were played are the first ones.
 -- Assumes nothing.
 use Rattle.std.proofs.Common.{◌≡◌, ◌/◌, length}
-use Rattle.drive.specs.Script.{lent, held}
+use Rattle.drive.specs.Script.{lent, held_by}
 use Rattle.drive.proofs.Playing.{Going}
 use Rattle.drive.proofs.play_all.Given as goal
 
@@ -18,5 +18,5 @@ invariant-loop-i l =
       out : p.out.ghost_name ≡ was.out.ghost_name;
       going :
           Going l.script l.bytes l.count (lent l.fn.head l.fn.nodes l.fn.queue l.fn.history l.fn.out) (length l.script / 11)
-          (held p.head.now p.queue.now p.history.now p.nodes.now p.watched) p.out.now p.made l.i;
+          (held_by p) p.out.now p.made l.i;
     }
