@@ -1,11 +1,12 @@
 -- The rows of a script, one by one: what the loop of `play_all` keeps, and what it has kept at the end.
 -- Assumes nothing.
-use Prim.Native.Nat.{ℕ, suc, ◌+◌, ◌/◌, ◌<◌, ◌≤◌}
+use Prim.Native.Nat.{ℕ, suc, ◌+◌, ◌-◌, ◌*◌, ◌/◌, ◌<◌, ◌≤◌}
 use mathlib.Core.Path.{◌≡◌, refl, sym, ap, ap₂, subst, ◌∙◌}
 use mathlib.Core.List.{List, [], ◌∷◌, ◌++◌}
 use native.Mathlib.Omega.{arith}
 use native.Mathlib.Numerals.{add-one}
-use lib.ListN.{length, length-append, set}
+use lib.ListN.{length, get_or, drop, length-append, length-drop, get_or-append, set}
+use lib.Seq.{get_or-drop, drop-drop, drop_at}
 use Rattle.types.specs.declared.refusals.Refusal.{Refusal}
 use Rattle.types.specs.declared.nmt.flags.FeatureFlags.{FeatureFlags}
 use Rattle.counters.specs.declared.counters.Thresholds.{Thresholds}
@@ -47,6 +48,32 @@ written_more out i (t ∷ ss) s =
     let e : suc i + length ss ≡ i + length (t ∷ ss) = omega arith in
     let o = set out i (number_of t.answer) in
     written_more o (suc i) ss s ∙ ap (λ (j : ℕ). set (numbers_written o (suc i) (numbers ss)) j (number_of s.answer)) e
+
+-- a row that stands at the beginning of what is left of a script
+pub row_there :
+    (script rest row more : List ℕ) (i : ℕ) →
+    rest ≡ drop (11 * i) script → rest ≡ row ++ more → length row ≡ 11 →
+    row_at row 0 ≡ row_at script i
+row_there script rest row more i e f long =
+    let at : (j : ℕ) → j < 11 → get_or row j 0 ≡ get_or script (11 * i + j) 0 =
+    λ j l. sym (get_or-append row more 0 j (omega (arith, long, l))) ∙ ap (λ (s : List ℕ). get_or s j 0) (sym f ∙ e) ∙ get_or-drop (11 * i) script j 0 in
+    let zero : 11 * i + 0 ≡ 11 * i = omega arith in
+    rw (at 0 (omega arith), at 1 (omega arith), at 2 (omega arith), at 3 (omega arith), at 4 (omega arith), at 5 (omega arith), at 6 (omega arith), at 7 (omega arith), at 8 (omega arith), at 9 (omega arith), at 10 (omega arith), zero)
+
+-- what is left behind it
+pub rest_behind :
+    (script rest row more : List ℕ) (i : ℕ) →
+    rest ≡ drop (11 * i) script → rest ≡ row ++ more → length row ≡ 11 →
+    (more ≡ drop (11 * (i + 1)) script) × (i < length script / 11)
+rest_behind script rest row more i e f long =
+    let next : 11 * i + 11 ≡ 11 * (i + 1) = omega arith in
+    let many : length script - 11 * i ≡ length row + length more = sym (length-drop (11 * i) script) ∙ ap length (sym e ∙ f) ∙ length-append row more in (
+      sym (drop_at row more 11 long) ∙ ap (drop 11) (sym f ∙ e) ∙ drop-drop 11 (11 * i) script ∙ ap (λ (k : ℕ). drop k script) next,
+      omega (arith, many, long),
+    )
+
+pub none_behind : (script rest : List ℕ) (i : ℕ) → rest ≡ drop (11 * i) script → length rest < 11 → length script / 11 ≤ i
+none_behind script rest i e few = let many : length rest ≡ length script - 11 * i = ap length e ∙ length-drop (11 * i) script in omega (arith, many, few)
 
 -- of n rows the first i were played, from what x is and with k₀ nodes watched: what is held, `out`, and how many calls were made
 pub record Going (script bytes : List ℕ) (k₀ : ℕ) (x : Lent) (n : ℕ) (y : Held) (out : List ℕ) (made i : ℕ) : Type 0 where

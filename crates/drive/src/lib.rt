@@ -183,24 +183,23 @@ fn number(declined: Option<Refusal>) -> u64
     declined.map_or(0, |refusal| u64::from(refusal.number()))
 }
 
-// The i-th row of a script.
-fn row_at(script: &[u64], i: usize) -> Row
-    requires { 11 * i + 10 < length script.now }
-    ensures { result ≡ row_at script.now i }
+// A row of a script.
+fn row_of(row: &[u64]) -> Row
+    requires { length row.now ≡ 11 }
+    ensures { result ≡ row_at row.now 0 }
 {
-    let at = 11 * i;
     Row {
-        tag: Tag::from(script[at]),
-        a: script[at + 1],
-        b: script[at + 2],
-        c: script[at + 3],
-        d: script[at + 4],
-        e: script[at + 5],
-        f: script[at + 6],
-        g: script[at + 7],
-        h: script[at + 8],
-        i: script[at + 9],
-        j: script[at + 10],
+        tag: Tag::from(row[0]),
+        a: row[1],
+        b: row[2],
+        c: row[3],
+        d: row[4],
+        e: row[5],
+        f: row[6],
+        g: row[7],
+        h: row[8],
+        i: row[9],
+        j: row[10],
     }
 }
 
@@ -314,8 +313,8 @@ fn play_all(
         out,
         made: 0,
     };
-    for i in 0..script.len() / 11 {
-        player.play(row_at(script, i));
+    for row in script.chunks_exact(11) {
+        player.play(row_of(row));
     }
 }
 

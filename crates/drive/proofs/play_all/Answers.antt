@@ -1,12 +1,12 @@
 -- `drive::play_all` meets its contract: the rows that were played are the first ones.
 -- Assumes nothing.
-use Rattle.std.proofs.Common.{refl, ◌∙◌, rules}
+use Rattle.std.proofs.Common.{refl, ◌∙◌, ◌+◌, rules}
 use Rattle.drive.specs.Script.{lent}
-use Rattle.drive.proofs.Playing.{going_start, going_next, going_end}
+use Rattle.drive.proofs.Playing.{going_start, going_next, going_end, row_there, rest_behind, none_behind}
 use Rattle.drive.proofs.play_all.Goals as goal
 
-pub loop-i-init : goal.loop-i-init
-loop-i-init c =
+pub loop-row-init : goal.loop-row-init
+loop-row-init c =
     let a = c.args in
     record {
       bytes = refl;
@@ -15,14 +15,20 @@ loop-i-init c =
       queue = refl;
       history = refl;
       out = refl;
-      going = going_start a.script.now a.bytes.now a.count (lent a.head.now a.nodes.now a.queue.now a.history.now a.out.now) _;
+      size = search rules;
+      going = (0, search rules, going_start a.script.now a.bytes.now a.count (lent a.head.now a.nodes.now a.queue.now a.history.now a.out.now) _);
     }
 
-pub loop-i-preserved : goal.loop-i-preserved
-loop-i-preserved c =
+pub loop-row-preserved : goal.loop-row-preserved
+loop-row-preserved c =
     let a = c.args in
-    let v = c.loop-i.invariant in
+    let l = c.loop-row in
+    let v = l.invariant in
     let same = c.play.ensures.same_references in
+    let n = c.in-Some.ensures.steps in
+    let i = v.going.0 in
+    let long = n.1.1 ∙ v.size in
+    let behind = rest_behind a.script.now l.row-iterator.rest.now c.in-Some.row.now c.next.new.self.rest.now i v.going.1 n.1.0 long in
     record {
       bytes = c.play.ensures.bytes ∙ v.bytes;
       head = same.0 ∙ v.head;
@@ -30,14 +36,21 @@ loop-i-preserved c =
       queue = same.2 ∙ v.queue;
       history = same.3 ∙ v.history;
       out = same.4 ∙ v.out;
-      going =
-          going_next a.script.now a.bytes.now a.count (lent a.head.now a.nodes.now a.queue.now a.history.now a.out.now) _ v.going c.loop-i-test.true
-          c.row_at.ensures (rw v.bytes at c.play.ensures.plays);
+      size = n.0 ∙ v.size;
+      going = (
+        i + 1,
+        behind.0,
+        going_next a.script.now a.bytes.now a.count (lent a.head.now a.nodes.now a.queue.now a.history.now a.out.now) _ v.going.2 behind.1
+            (c.row_of.ensures ∙ row_there a.script.now l.row-iterator.rest.now c.in-Some.row.now c.next.new.self.rest.now i v.going.1 n.1.0 long)
+            (rw v.bytes at c.play.ensures.plays),
+      );
     }
 
 pub returns : goal.returns
 returns c =
     let a = c.args in
-    let v = c.loop-i.invariant in
-    going_end a.script.now a.bytes.now a.count (lent a.head.now a.nodes.now a.queue.now a.history.now a.out.now) _ v.going c.loop-i-test.false refl
+    let l = c.loop-row in
+    let v = l.invariant in
+    let few = none_behind a.script.now l.row-iterator.rest.now v.going.0 v.going.1 (rw v.size at c.in-None.ensures.steps.1.0) in
+    going_end a.script.now a.bytes.now a.count (lent a.head.now a.nodes.now a.queue.now a.history.now a.out.now) _ v.going.2 few refl
     (search rules) (search rules) (search rules) (search rules) (search rules)
