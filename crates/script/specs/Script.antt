@@ -90,6 +90,18 @@ entries_at (suc k) line bs = let e = word_at (take 41 line) bs in pick e.all (en
 abbrev pub ended : ℕ → List ℕ → Got → Says
 ended key g b = says (pick b.all (Some key) None) g b.bytes
 
+-- a line that ends with the digits of bytes, which is what a key's reader found in it
+abbrev pub by_digits : ℕ → Option (List ℕ) → List ℕ → Says
+by_digits key found g = option_map_or (λ digits. ended key g (bytes_at digits [])) found (says None g [])
+
+-- a load that ends with the words of its entries
+abbrev pub by_words : Option (List ℕ) → List ℕ → Says
+by_words found g = option_map_or (λ words. ended 108 g (entries_at (length words / 41) words [])) found (says None g [])
+
+-- how many characters were found
+abbrev pub found_length : Option (List ℕ) → ℕ
+found_length found = option_map_or length found 0
+
 -- what is left of a line, and the numbers given
 pub record Left : Type 0 where
   pub line : List ℕ

@@ -2,15 +2,15 @@
 // a desk D, of the reading of an entry r, and the others stand in `TABLE`.
 #![tactic(auto)]
 
-ghost use Rattle.std.specs.Prelude.{◌≡◌, List, ℕ, [], map};
-ghost use Rattle.script.specs.Script.{says, key_by, table_says, desk_says, entry_says, line_says, text_says};
+ghost use Rattle.std.specs.Prelude.{◌≡◌, ◌≤◌, List, ℕ, map, option_copied};
+ghost use Rattle.script.specs.Script.{says, by_digits, found_length, key_by, table_says, desk_says, entry_says, text_says};
 
 mod digits;
 pub mod lines;
 mod load;
 
 use arrayvec::ArrayVec;
-use digits::read_bytes;
+use digits::{read_bytes, read_entries};
 use lines::Line;
 use load::read_load;
 use patterns::{Given, match_at};
@@ -67,11 +67,11 @@ fn read_table(line: &[u8], given: &mut Given) -> Option<u8>
     read_by(&TABLE, line, given)
 }
 
-// Reads the bytes that a line is, at most 100 of them; how many they are becomes the first number. No bytes are `-`.
-#[tactic(auto, unfolding(crate::specs::Script::desk_says))]
-fn read_desk(line: &[u8], given: &mut Given, bytes: &mut EntryBuffer) -> Option<u8>
-    requires { bytes.old.items ≡ [] }
-    ensures { says result given.new bytes.new.items ≡ desk_says line.now given.old }
+// The digits of a desk, whose bytes are at most 100; how many they are becomes the first number. No bytes are `-`.
+#[tactic(auto, unfolding(crate::specs::Script::desk_says, crate::specs::Script::bytes_at))]
+fn read_desk<'a>(line: &'a [u8], given: &mut Given) -> Option<&'a [u8]>
+    ensures read { by_digits 68 (option_copied result) given.new ≡ desk_says line.now given.old }
+    ensures short { found_length (option_copied result) ≤ 201 }
 {
     if line.is_empty() {
         return None;
@@ -79,56 +79,54 @@ fn read_desk(line: &[u8], given: &mut Given, bytes: &mut EntryBuffer) -> Option<
     let count = line.len() / 2;
     given[0] = count as u64;
     if let [b'-'] = line {
-        return Some(b'D');
+        return Some(&[]);
     }
     if 100 < count {
         return None;
     }
-    read_bytes(line, bytes)?;
-    Some(b'D')
+    Some(line)
 }
 
-// Reads the 20 bytes of an entry.
+// The digits of an entry, of 20 bytes.
 #[tactic(auto, unfolding(crate::specs::Script::entry_says))]
-fn read_entry(line: &[u8], bytes: &mut EntryBuffer) -> Option<u8>
-    requires { bytes.old.items ≡ [] }
-    ensures { (g : List ℕ) → says result g bytes.new.items ≡ entry_says line.now g }
+fn read_entry(line: &[u8]) -> Option<&[u8]>
+    ensures read { (g : List ℕ) → by_digits 114 (option_copied result) g ≡ entry_says line.now g }
+    ensures short { found_length (option_copied result) ≤ 40 }
 {
     if line.len() != 40 {
         return None;
     }
-    read_bytes(line, bytes)?;
-    Some(b'r')
+    Some(line)
 }
 
-// Reads a line that is no comment. Each of the first three is read in its own way, so they are no rows of the table.
+// Reads a line. One that is longer than the buffer may still be a comment. Each of the three that give bytes is read in its own way, so they are no rows
+// of the table.
 #[tactic(auto, unfolding(crate::specs::Script::line_says))]
-fn read_line(line: &[u8], given: &mut Given, bytes: &mut EntryBuffer) -> Option<u8>
-    requires { bytes.old.items ≡ [] }
-    ensures { says result given.new bytes.new.items ≡ line_says line.now given.old }
-{
-    if let Some(load) = match_at(b"load", line, given, 0) {
-        return read_load(load, given, bytes);
-    }
-    if let Some(desk) = match_at(b"desk ", line, given, 0) {
-        return read_desk(desk, given, bytes);
-    }
-    if let Some(entry) = match_at(b"entryread ", line, given, 0) {
-        return read_entry(entry, bytes);
-    }
-    read_table(line, given)
-}
-
-// Reads a line. One that is longer than the buffer may still be a comment.
 pub fn read(line: &Line, given: &mut Given, bytes: &mut EntryBuffer) -> Option<u8>
     ensures { says result given.new bytes.new.items ≡ text_says line.now.text.items line.now.long given.old }
 {
     bytes.clear();
-    if let [b'#', ..] = line.text.as_slice() {
+    let text = line.text.as_slice();
+    if let [b'#', ..] = text {
         return Some(b' ');
     }
     if line.long {
         return None;
     }
-    read_line(line.text.as_slice(), given, bytes)
+    if let Some(load) = match_at(b"load", text, given, 0) {
+        let entries = read_load(load, given)?;
+        read_entries(entries, bytes)?;
+        return Some(b'l');
+    }
+    if let Some(desk) = match_at(b"desk ", text, given, 0) {
+        let digits = read_desk(desk, given)?;
+        read_bytes(digits, bytes)?;
+        return Some(b'D');
+    }
+    if let Some(entry) = match_at(b"entryread ", text, given, 0) {
+        let digits = read_entry(entry)?;
+        read_bytes(digits, bytes)?;
+        return Some(b'r');
+    }
+    read_table(text, given)
 }

@@ -1,9 +1,7 @@
 // Reading a `load`: the values that it names, and the entries of its history, each a word of 40 hexadecimal digits.
-ghost use Rattle.std.specs.Prelude.{◌≡◌, ◌≤◌, [], length, map};
-ghost use Rattle.script.specs.Script.{says, left, value, values_by, values, history_says, load_says};
+ghost use Rattle.std.specs.Prelude.{◌≡◌, ◌≤◌, ◌/◌, length, map, option_copied};
+ghost use Rattle.script.specs.Script.{by_words, found_length, left, value, values_by, values, history_says, load_says};
 
-use crate::EntryBuffer;
-use crate::digits::read_entries;
 use patterns::{Given, KEPT, match_at};
 
 // The values, in the order in which a load names them.
@@ -49,31 +47,31 @@ fn read_values<'a>(line: &'a [u8], given: &mut Given) -> &'a [u8]
     read_values_by(&VALUES, line, given)
 }
 
-// Reads the history, which is the rest of the line.
+// The words of the history, which are the rest of the line; how many bytes they have becomes the eighth number.
 #[tactic(auto, unfolding(crate::specs::Script::history_says))]
-fn read_history(line: &[u8], given: &mut Given, bytes: &mut EntryBuffer) -> Option<u8>
-    requires { bytes.old.items ≡ [] }
-    ensures { says result given.new bytes.new.items ≡ history_says line.now given.old }
+fn read_history<'a>(line: &'a [u8], given: &mut Given) -> Option<&'a [u8]>
+    ensures read { by_words (option_copied result) given.new ≡ history_says line.now given.old }
+    ensures short { found_length (option_copied result) / 41 ≤ 300 }
 {
     let count = line.len() / 41;
     if line.len() % 41 != 0 || 300 < count {
         return None;
     }
     given[7] = 20 * count as u64;
-    read_entries(line, bytes)?;
-    Some(b'l')
+    Some(line)
 }
 
-#[tactic(auto, unfolding(crate::specs::Script::load_says))]
-pub(crate) fn read_load(line: &[u8], given: &mut Given, bytes: &mut EntryBuffer) -> Option<u8>
-    requires { bytes.old.items ≡ [] }
-    ensures { says result given.new bytes.new.items ≡ load_says line.now given.old }
+// The words of the history of a load: of one that names none, no words.
+#[tactic(auto, unfolding(crate::specs::Script::load_says, crate::specs::Script::entries_at))]
+pub(crate) fn read_load<'a>(line: &'a [u8], given: &mut Given) -> Option<&'a [u8]>
+    ensures read { by_words (option_copied result) given.new ≡ load_says line.now given.old }
+    ensures short { found_length (option_copied result) / 41 ≤ 300 }
 {
     let rest = read_values(line, given);
     given[7] = KEPT;
     if rest.is_empty() {
-        return Some(b'l');
+        return Some(rest);
     }
     let history = match_at(b" history", rest, given, 7)?;
-    read_history(history, given, bytes)
+    read_history(history, given)
 }
