@@ -130,17 +130,16 @@ pub fn remove(
 ) -> Result<(), Refusal>
     ensures { RemovedOn head.old (run nodes.old number.old) node result head.new (run nodes.new number.new) }
 {
-    let count = *number;
-    let found = survey(nodes, count, for_heard(node, 0)).ok_or(Refusal::WatchedNodes)?;
+    let found = survey(nodes, *number, for_heard(node, 0)).ok_or(Refusal::WatchedNodes)?;
     try_remove(Some(found.watched))?;
     let closing = Closing {
         left: 32,
-        number: count,
+        number: *number,
         node,
         next: WatchedNode::NONE,
     };
     close(nodes, closing);
-    *number = count - 1;
+    *number -= 1;
     set_earliest(head, moment(found.soonest));
     Ok(())
 }
