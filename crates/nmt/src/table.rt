@@ -58,18 +58,26 @@ fn place(state: NmtState) -> usize
     }
 }
 
-// A `static` as the table below.
-static STATES: [NmtState; 12] = NmtState::ALL;
-
 // No state has a place above 0xB; there it is GsOff.
 #[tactic(auto, unfolding(crate::specs::Table::state_at))]
 pub fn state_at(place: u8) -> NmtState
     ensures { result ≡ state_at place }
 {
-    STATES
-        .get(usize::from(place))
-        .copied()
-        .unwrap_or(NmtState::NmtGsOff)
+    match place {
+        0x0 => NmtState::NmtGsOff,
+        0x1 => NmtState::NmtGsInitialising,
+        0x2 => NmtState::NmtGsResetApplication,
+        0x3 => NmtState::NmtGsResetCommunication,
+        0x4 => NmtState::NmtGsResetConfiguration,
+        0x5 => NmtState::NmtNotActive,
+        0x6 => NmtState::NmtPreOperational1,
+        0x7 => NmtState::NmtPreOperational2,
+        0x8 => NmtState::NmtReadyToOperate,
+        0x9 => NmtState::NmtOperational,
+        0xA => NmtState::NmtCsStopped,
+        0xB => NmtState::NmtBasicEthernet,
+        _ => NmtState::NmtGsOff,
+    }
 }
 
 // The table: a block for each state, a line for each event, and in it four entries. Those where it is not enabled stand left, those where it is
