@@ -1,7 +1,7 @@
 -- The parts of an answer, written one after the other, are its numbers.
 -- Assumes nothing.
 use Prim.Native.Nat.{ℕ, suc}
-use mathlib.Core.Path.{◌≡◌, refl, ap, subst, ◌∙◌}
+use mathlib.Core.Path.{◌≡◌, refl, sym, ap, subst, ◌∙◌}
 use mathlib.Core.Bool.{Bool, true, false}
 use mir.Val.{bool_byte}
 use mathlib.Core.List.{List, [], map}
@@ -18,6 +18,8 @@ use Rattle.types.specs.Errors.{action_number, reported}
 use Rattle.types.specs.declared.frame.error.types.DllErrors.{DllErrors}
 use Rattle.types.specs.declared.frame.error.types.DllErrors.TheVariants as errors
 use Rattle.types.specs.declared.frame.error.types.NmtAction.{NmtAction}
+use Rattle.types.specs.declared.frame.error.types.NmtAction.TheVariants as asked
+use Rattle.types.specs.declared.types.NodeId.{NodeId}
 use Rattle.nmt.specs.Resets.{passed, entered_states, restored_ranges}
 use Rattle.nmt.specs.declared.state_machine.ResetSequence.{ResetSequence}
 use Rattle.nmt.specs.declared.state_machine.ResetSequence.TheVariants as sequence
@@ -50,17 +52,46 @@ pub one_is : (b : Bool) → bool_byte b ≡ one b
 one_is true = refl
 one_is false = refl
 
-pub error_taken_lem :
-    (a : NmtAction) (signal : Bool) (es : DllErrors) {ns ms : List ℕ} {node action said : ℕ} →
+-- before its node is written
+pub bare_taken :
+    (a : NmtAction) (signal : Bool) {ns : List ℕ} {number said : ℕ} →
     ns ≡ numbers_of taken →
-    node ≡ node_asked a →
-    action ≡ action_number a →
+    number ≡ action_number a →
     said ≡ bool_byte signal →
-    ms ≡ errors_put (set (set (set ns 1 node) 2 action) 3 said) es →
+    set (set ns 2 number) 3 said ≡ laid 0 nothing (action_number a) (one signal) [] [] []
+unfolding numbers_of
+bare_taken a signal p n s = (λ i. set (set (p i) 2 (n i)) 3 ((s ∙ one_is signal) i))
+
+-- the node that is asked to reset, in its place
+pub node_put :
+    (a : NmtAction) (n : NodeId) {ns ms : List ℕ} {action said k : ℕ} →
+    ns ≡ laid 0 nothing action said [] [] [] →
+    a ≡ asked.ResetNode n →
+    k ≡ n.0 →
+    ms ≡ set ns 1 k →
+    ms ≡ laid 0 (node_asked a) action said [] [] []
+node_put a n {action = action} {said = said} p e k q =
+    q ∙ (λ i. set (p i) 1 (k i)) ∙ ap (λ (b : NmtAction). laid 0 (node_asked b) action said [] [] []) (sym e)
+
+-- where none is asked, its place is left
+pub node_left :
+    (a : NmtAction) {ns ms : List ℕ} {action said : ℕ} →
+    ns ≡ laid 0 nothing action said [] [] [] →
+    ((n : NodeId) → a ≡ asked.ResetNode n → ⊥) →
+    ms ≡ ns →
+    ms ≡ laid 0 (node_asked a) action said [] [] []
+node_left asked.None p e q = q ∙ p
+node_left asked.ResetCommunication p e q = q ∙ p
+node_left (asked.ResetNode n) p e q = absurd (e n refl)
+
+pub error_taken_lem :
+    (a : NmtAction) (signal : Bool) (es : DllErrors) {ns ms : List ℕ} →
+    ns ≡ laid 0 (node_asked a) (action_number a) (one signal) [] [] [] →
+    ms ≡ errors_put ns es →
     ms ≡ numbers_of (error_answer a signal (reported es))
 unfolding numbers_of
-error_taken_lem a signal es p n k s q =
-    q ∙ (λ i. errors_put (set (set (set (p i) 1 (n i)) 2 (k i)) 3 ((s ∙ one_is signal) i)) es) ∙ errors_laid (node_asked a) (action_number a) (one signal) es
+error_taken_lem a signal es p q =
+    q ∙ ap (λ (l : List ℕ). errors_put l es) p ∙ errors_laid (node_asked a) (action_number a) (one signal) es
 
 reset_laid :
     (es : DllErrors) (r : ResetSequence) →

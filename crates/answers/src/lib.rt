@@ -6,7 +6,7 @@ ghost use Rattle.std.specs.Prelude.{◌≡◌, ◌≤◌, length};
 ghost use Rattle.types.specs.Refusals.{refusal_number};
 ghost use Rattle.node.specs.Plain.{Answer, taken, refused, cycle_answer, hand_out_answer, range_answer, margin_answer};
 ghost use Rattle.node.specs.InPlace.{answered, nmt_says, dll_says, error_says};
-ghost use Rattle.answers.specs.Numbers.{carries, node_asked, of_node, said_of, numbers_of, bytes_of};
+ghost use Rattle.answers.specs.Numbers.{carries, of_node, said_of, numbers_of, bytes_of};
 ghost use Rattle.answers.specs.Put.{error_put, errors_put, states_put, range_put, ranges_put, reset_put, verdict_put, margin_put};
 
 use entries::status_response::ErrorEntry;
@@ -171,16 +171,6 @@ fn put_reset(numbers: &mut Numbers, reset: ResetSequence)
     put_ranges(numbers, reset.restored());
 }
 
-fn node_asked(action: NmtAction) -> u64
-    ensures { result ≡ node_asked action }
-{
-    match action {
-        NmtAction::None => NOTHING,
-        NmtAction::ResetCommunication => NOTHING,
-        NmtAction::ResetNode(node) => u64::from(node.0),
-    }
-}
-
 // What a call says where it is taken, as numbers.
 pub trait Told {
     ghost says: { Self → Answer };
@@ -225,12 +215,13 @@ impl Told for ErrorTaken {
 
     fn put(self, numbers: &mut Numbers) {
         let action = self.action;
-        let logged = self.logged;
         put_taken(numbers);
-        numbers[NODE] = node_asked(action);
         numbers[ACTION] = u64::from(action.number());
         numbers[YES] = u64::from(self.signal);
-        put_errors(numbers, logged);
+        if let NmtAction::ResetNode(node) = action {
+            numbers[NODE] = u64::from(node.0);
+        }
+        put_errors(numbers, self.logged);
     }
 }
 
