@@ -10,6 +10,7 @@ use Rattle.node.specs.Plain.{Call}
 use Rattle.node.specs.Steps.{no_run}
 use Rattle.session.specs.declared.Session.{Session}
 use Rattle.played.specs.declared.Desk.{Desk}
+use Rattle.played.specs.declared.Station.{Station}
 use Rattle.session.specs.Session.{lent_number, with_run}
 use Rattle.calls.specs.Values.{at, byte_of, entry_of}
 use Rattle.calls.specs.Calls.{head_call, load_call, change_call, Makes, Starts, reading_numbers, write_numbers}
@@ -32,6 +33,10 @@ pub record Changes (s : Session) (adds : Bool) (g ws vs : List ℕ) (s' : Sessio
   pub watched : ℕ
   pub made : (q m : List ℕ) → Makes ws q m (change_call adds g (lent_run s vs)) ns ws' q m (run (nodes_of vs') watched)
   pub session : s' ≡ numbered_by s (at ns 0) watched
+
+-- what a call on the head and the nodes alone leaves as it is
+abbrev pub Keeps : Station → Station → Type 0
+Keeps x y = (y.queue ≡ x.queue) × (y.history ≡ x.history) × (y.places.rest ≡ x.places.rest) × (y.desk ≡ x.desk)
 
 abbrev pub desk : List ℕ → Desk
 desk ds = record { bytes = record { items = ds } }

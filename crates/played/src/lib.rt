@@ -7,7 +7,7 @@ ghost use Rattle.calls.specs.Values.{at, entry_of};
 ghost use Rattle.calls.specs.Calls.{Starts, write_numbers};
 ghost use Rattle.entries.specs.Desk.{write_reply};
 ghost use Rattle.session.specs.Session.{lent_number};
-ghost use Rattle.played.specs.Played.{started_by, numbered_by, Changes, desk, desk_written, Plays};
+ghost use Rattle.played.specs.Played.{started_by, numbered_by, Changes, Keeps, desk, desk_written, Plays};
 
 use answers::Numbers;
 use arrayvec::ArrayVec;
@@ -91,10 +91,7 @@ impl Station {
     fn start(&mut self, named: bool, given: Given)
         ensures starts { Starts self.old.head self.old.places.nodes (lent_number self.old.session) named given self.new.answer self.new.head self.new.places.nodes }
         ensures session { self.new.session ≡ started_by self.old.session (at self.new.answer 0) }
-        ensures queue { self.new.queue ≡ self.old.queue }
-        ensures history { self.new.history ≡ self.old.history }
-        ensures rest { self.new.places.rest ≡ self.old.places.rest }
-        ensures desk { self.new.desk ≡ self.old.desk }
+        ensures keeps { Keeps self.old self.new }
     {
         let lent = self.session.lent();
         let said = start(
@@ -111,10 +108,7 @@ impl Station {
 
     fn change(&mut self, adds: bool, given: Given)
         ensures changes { Changes self.old.session adds given self.old.head self.old.places.nodes self.new.session self.new.answer self.new.head self.new.places.nodes }
-        ensures queue { self.new.queue ≡ self.old.queue }
-        ensures history { self.new.history ≡ self.old.history }
-        ensures rest { self.new.places.rest ≡ self.old.places.rest }
-        ensures desk { self.new.desk ≡ self.old.desk }
+        ensures keeps { Keeps self.old self.new }
     {
         let head = &mut self.head;
         let nodes = &mut self.places.nodes;

@@ -24,15 +24,15 @@ returns-in-105-clause-plays c =
 
 pub returns-in-83-clause-plays : goal.returns-in-83-clause-plays
 returns-in-83-clause-plays c =
-    rw (c.start.ensures.queue, c.start.ensures.history, c.start.ensures.desk) (start c.in-83.is c.start.ensures.starts c.start.ensures.session)
+    rw (c.start.ensures.keeps.0, c.start.ensures.keeps.1, c.start.ensures.keeps.3) (start c.in-83.is c.start.ensures.starts c.start.ensures.session)
 
 pub returns-in-84-clause-plays : goal.returns-in-84-clause-plays
 returns-in-84-clause-plays c =
-    rw (c.start-in-84.ensures.queue, c.start-in-84.ensures.history, c.start-in-84.ensures.desk) (start_named c.in-84.is c.start-in-84.ensures.starts c.start-in-84.ensures.session)
+    rw (c.start-in-84.ensures.keeps.0, c.start-in-84.ensures.keeps.1, c.start-in-84.ensures.keeps.3) (start_named c.in-84.is c.start-in-84.ensures.starts c.start-in-84.ensures.session)
 
 pub returns-in-106-clause-plays : goal.returns-in-106-clause-plays
 returns-in-106-clause-plays c =
-    rw (c.change.ensures.queue, c.change.ensures.history, c.change.ensures.desk) (change c.in-106.is c.change.ensures.changes)
+    rw (c.change.ensures.keeps.0, c.change.ensures.keeps.1, c.change.ensures.keeps.3) (change c.in-106.is c.change.ensures.changes)
 
 pub returns-in-115-clause-plays : goal.returns-in-115-clause-plays
 returns-in-115-clause-plays c =
