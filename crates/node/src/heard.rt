@@ -6,7 +6,7 @@ ghost use Rattle.node.specs.Heard.{heard_answer, Heard};
 use head::parts::set_earliest;
 use head::state::Head;
 use types::refusals::Refusal;
-use watched::nodes::{NodeWords, find, set_heard};
+use watched::nodes::{NodeWords, find, moment, set_heard};
 use watched::time::in_time;
 
 // Numbers 3, 5 and 7, by what was found of the watched nodes: whether the node is among them, where they pass number 3.
@@ -40,6 +40,6 @@ pub fn heard(
     };
     try_heard(Some(place < count), time)?;
     set_heard(nodes, place, time);
-    set_earliest(head, soonest);
+    set_earliest(head, moment(soonest));
     Ok(())
 }

@@ -14,7 +14,7 @@ use head::parts::set_earliest;
 use head::state::Head;
 use types::refusals::Refusal;
 use types::types::NodeId;
-use watched::nodes::{NodeWords, find};
+use watched::nodes::{NodeWords, find, moment};
 use watched::record::NodeRecord;
 use watched::time::in_time;
 
@@ -132,7 +132,7 @@ pub fn add(
     };
     insert(nodes, number, added);
     *count = number + 1;
-    set_earliest(head, soonest);
+    set_earliest(head, moment(soonest));
     Ok(())
 }
 
@@ -152,6 +152,6 @@ pub fn remove(
     try_remove(Some(place < number))?;
     close(nodes, number, place);
     *count = number - 1;
-    set_earliest(head, soonest);
+    set_earliest(head, moment(soonest));
     Ok(())
 }

@@ -17,7 +17,7 @@ use Rattle.watched.specs.declared.nodes.Climbed.{Climbed}
 use Rattle.std.specs.declared.option.Option.{Option}
 use Rattle.std.specs.declared.option.Option.TheVariants.{Some, None}
 use Rattle.watched.specs.Watched.{latest, in_time, all_of, timed, heard_now, heard_at, place_of, watched_of}
-use Rattle.watched.specs.Nodes.{node_at, nodes_of, climbing, numbered, never, moment_of, sooner_by, soonest, found_of}
+use Rattle.watched.specs.Nodes.{node_at, nodes_of, climbing, numbered, never, sooner_by, soonest, found_of}
 use Rattle.watched.specs.Climb.{one_less, sum_of, three_before, climbed, over, climb_of, climbed_of, first_heard, heard_climbed}
 use Rattle.watched.proofs.Lists.{at_end, whole}
 use Rattle.watched.proofs.Climbing.{both_false, both_assoc, climb_head, not_climbing, not_numbered, is_rising}
@@ -358,7 +358,7 @@ module _ (ns : List ℕ) (k : ℕ) (below : k ≤ 32) (m t : ℕ) (r : Climbed) 
       pub seek_unnumbered : all_of numbered all ≡ false → None ≡ found_of m t vs
       seek_unnumbered n = find_unformed ns k m t (formed_begins ns k below ∙ not_numbered 0 all seek_climbs n)
 
-      pub seek_found : all_of numbered all ≡ true → Some (r.place, moment_of x) ≡ found_of m t vs
+      pub seek_found : all_of numbered all ≡ true → Some (r.place, x) ≡ found_of m t vs
       seek_found n =
           let w : vs ≡ all = whole (nodes_of ns) k (places ns) below in
           let p : place_of m all ≡ r.place = omega (arith, sought_at ns k below m 0 0 r e formed.0) in

@@ -292,8 +292,8 @@ module _ (ws : List ℕ) where
 
     -- what find answers, and what that says
     module _ (n t : ℕ) where
-      abbrev found_by : Bool → ℕ → ℕ → Option (ℕ × Option ℕ)
-      found_by b p s = pick b (Some (p, moment_of s)) None
+      abbrev found_by : Bool → ℕ → ℕ → Option (ℕ × ℕ)
+      found_by b p s = pick b (Some (p, s)) None
 
       abbrev soonest_heard : ℕ
       soonest_heard = soonest never (heard_at n t vs)
@@ -301,17 +301,17 @@ module _ (ws : List ℕ) where
       pub find_unformed : well_formed vs ≡ false → None ≡ found_of n t vs
       find_unformed h = sym (ap (λ (b : Bool). found_by b (place_of n vs) soonest_heard) h)
 
-      pub find_formed : well_formed vs ≡ true → (p s : ℕ) → place_of n vs ≡ p → soonest_heard ≡ s → Some (p, moment_of s) ≡ found_of n t vs
+      pub find_formed : well_formed vs ≡ true → (p s : ℕ) → place_of n vs ≡ p → soonest_heard ≡ s → Some (p, s) ≡ found_of n t vs
       find_formed h p s e f = sym (λ i. found_by (h i) (e i) (f i))
 
-      module _ (a : Option (ℕ × Option ℕ)) (e : a ≡ found_of n t vs) where
+      module _ (a : Option (ℕ × ℕ)) (e : a ≡ found_of n t vs) where
         pub found_unformed : a ≡ None → well_formed vs ≡ false
-        found_unformed = tried_unformed (well_formed vs) (place_of n vs, moment_of soonest_heard) a e
+        found_unformed = tried_unformed (well_formed vs) (place_of n vs, soonest_heard) a e
 
-        pub found_formed : (p : ℕ) (s : Option ℕ) → a ≡ Some (p, s) → (well_formed vs ≡ true) × (p ≡ place_of n vs) × (s ≡ moment_of soonest_heard)
+        pub found_formed : (p s : ℕ) → a ≡ Some (p, s) → (well_formed vs ≡ true) × (p ≡ place_of n vs) × (s ≡ soonest_heard)
         found_formed p s h =
-            let x = tried_formed (well_formed vs) (place_of n vs, moment_of soonest_heard) a e (p, s) h in
-            (x.0, ap (λ (z : ℕ × Option ℕ). z.0) x.1, ap (λ (z : ℕ × Option ℕ). z.1) x.1)
+            let x = tried_formed (well_formed vs) (place_of n vs, soonest_heard) a e (p, s) h in
+            (x.0, ap (λ (z : ℕ × ℕ). z.0) x.1, ap (λ (z : ℕ × ℕ). z.1) x.1)
 
     -- what look answers
     module _ (t : ℕ) where

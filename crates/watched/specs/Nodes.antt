@@ -75,8 +75,8 @@ roused_from n t ws = pick (rising n ws) (Some (all_of (not_before t) ws)) None
 abbrev pub nodes_tried : List WatchedNode → Option (Option ℕ)
 nodes_tried vs = pick (well_formed vs) (Some (moment_of (soonest never vs))) None
 
-abbrev pub found_of : ℕ → ℕ → List WatchedNode → Option (ℕ × Option ℕ)
-found_of n t vs = pick (well_formed vs) (Some (place_of n vs, moment_of (soonest never (heard_at n t vs)))) None
+abbrev pub found_of : ℕ → ℕ → List WatchedNode → Option (ℕ × ℕ)
+found_of n t vs = pick (well_formed vs) (Some (place_of n vs, soonest never (heard_at n t vs))) None
 
 abbrev pub seen_of : ℕ → List WatchedNode → Option Seen
 seen_of t vs =

@@ -220,8 +220,9 @@ pub fn well_formed(nodes: &NodeWords, count: usize) -> bool
     try_nodes(nodes, count).is_some()
 }
 
-// Up to the node that is sought in one walk, behind it in another.
-pub fn find(nodes: &NodeWords, count: usize, node: u64, time: u64) -> Option<(usize, Option<u64>)>
+// Up to the node that is sought in one walk, behind it in another. The soonest moment is a number, which the caller gives to moment: an Option within an
+// Option is handed on in more words.
+pub fn find(nodes: &NodeWords, count: usize, node: u64, time: u64) -> Option<(usize, u64)>
     ensures { result ≡ found_of node time (watched_of (nodes_of nodes.now) count) }
 {
     if 32 < count {
@@ -247,7 +248,7 @@ pub fn find(nodes: &NodeWords, count: usize, node: u64, time: u64) -> Option<(us
     if !all.have_numbers() {
         return None;
     }
-    Some((front.place, moment(soonest)))
+    Some((front.place, soonest))
 }
 
 // Whether some of well formed nodes does not rest, so that a tick is to look at them, and then whether its time is before no last-heard time (number 6);

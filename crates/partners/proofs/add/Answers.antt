@@ -1,9 +1,10 @@
 -- `partners::add` meets its contract: its tests, then the walk, and the earliest moment.
 -- Assumes nothing.
-use mathlib.Core.Path.{◌≡◌, refl}
+use mathlib.Core.Path.{◌≡◌, refl, ap, ◌∙◌}
 use mathlib.Core.Bool.{true, false}
 use Rattle.std.proofs.Common.{rules, Err}
 use native.Mathlib.Omega.{arith}
+use Rattle.watched.specs.Nodes.{moment_of}
 use Rattle.watched.proofs.Watching.{found_unformed, found_formed}
 use Rattle.partners.proofs.Told.{add_unformed, add_room, add_declined, add_taken}
 use Rattle.partners.proofs.add.Goals as goal
@@ -32,7 +33,7 @@ returns c =
     let a = c.args in
     let x = found_formed a.nodes.now a.count.now a.node 0 c.find.result c.find.ensures _ _ c.in-Some.is in
     add_taken a.head.now a.nodes.now a.count.now a.node x.0 _ x.1 _ refl a.timeout c.is_known-known.result c.is_known-known.ensures c.try_add-2.result (c.try_add-2.ensures true _ refl) c.in_ok-try_add.was
-    (omega arith) _ c.insert.ensures (omega arith) _ x.2 _ c.set_earliest.ensures
+    (omega arith) _ c.insert.ensures (omega arith) _ (c.moment.ensures ∙ ap moment_of x.2) _ c.set_earliest.ensures
 
 pub returns-in_err-try_add : goal.returns-in_err-try_add
 returns-in_err-try_add c =

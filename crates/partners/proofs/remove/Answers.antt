@@ -1,9 +1,10 @@
 -- `partners::remove` meets its contract: its tests, then the walk, and the earliest moment.
 -- Assumes nothing.
-use mathlib.Core.Path.{◌≡◌, refl}
+use mathlib.Core.Path.{◌≡◌, refl, ap, ◌∙◌}
 use mathlib.Core.Bool.{true, false}
 use Rattle.std.proofs.Common.{rules, Err}
 use native.Mathlib.Omega.{arith}
+use Rattle.watched.specs.Nodes.{moment_of}
 use Rattle.watched.proofs.Watching.{found_unformed, found_formed}
 use Rattle.partners.proofs.Told.{remove_unformed, remove_inside, remove_declined, remove_taken}
 use Rattle.partners.proofs.remove.Goals as goal
@@ -33,7 +34,7 @@ returns c =
     let a = c.args in
     let x = found_formed a.nodes.now a.count.now a.node 0 c.find.result c.find.ensures _ _ c.in-Some.is in
     remove_taken a.head.now a.nodes.now a.count.now a.node x.0 _ x.1 _ refl c.try_remove-2.result (c.try_remove-2.ensures true _ refl) c.in_ok-try_remove.was
-    (omega arith) _ c.close.ensures (omega arith) _ x.2 _ c.set_earliest.ensures
+    (omega arith) _ c.close.ensures (omega arith) _ (c.moment.ensures ∙ ap moment_of x.2) _ c.set_earliest.ensures
 
 pub returns-in_err-try_remove : goal.returns-in_err-try_remove
 returns-in_err-try_remove c =

@@ -1,11 +1,12 @@
 -- `node::heard::heard` meets its contract: its tests, then one store, and the earliest moment.
 -- Assumes nothing.
-use mathlib.Core.Path.{◌≡◌, refl}
+use mathlib.Core.Path.{◌≡◌, refl, ap, ◌∙◌}
 use mathlib.Core.Bool.{true}
 use borrow.Author.Rules.{rules}
 use native.Mathlib.Omega.{arith}
 use Rattle.std.specs.declared.result.Result.TheVariants.{Err}
 use Rattle.types.specs.declared.refusals.Refusal.TheVariants.{WatchedNodes}
+use Rattle.watched.specs.Nodes.{moment_of}
 use Rattle.watched.proofs.Watching.{found_unformed, found_formed, few}
 use Rattle.node.proofs.Hearing.{unformed, inside, declined, there}
 use Rattle.node.proofs.heard.heard.Goals as goal
@@ -26,7 +27,7 @@ pub returns : goal.returns
 returns c =
     let a = c.args in
     let x = found_formed a.nodes.now a.count a.node a.time c.find.result c.find.ensures _ _ c.in-Some.is in
-    there a.head.now a.nodes.now a.count a.node a.time x.0 _ x.1 _ refl c.try_heard.result (c.try_heard.ensures true _ refl) c.in_ok-try_heard.was c.told-head c.told-nodes _ c.set_heard.ensures _ x.2 _ c.set_earliest.ensures
+    there a.head.now a.nodes.now a.count a.node a.time x.0 _ x.1 _ refl c.try_heard.result (c.try_heard.ensures true _ refl) c.in_ok-try_heard.was c.told-head c.told-nodes _ c.set_heard.ensures _ (c.moment.ensures ∙ ap moment_of x.2) _ c.set_earliest.ensures
 
 pub returns-in_err-try_heard : goal.returns-in_err-try_heard
 returns-in_err-try_heard c =

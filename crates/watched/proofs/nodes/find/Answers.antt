@@ -1,9 +1,6 @@
 -- `watched::nodes::find` meets its contract: one walk up to the node sought, then that node and those behind it.
 -- Assumes nothing.
-use Prim.Native.Nat.{ℕ}
-use mathlib.Core.Path.{◌≡◌, sym, ap, ◌∙◌}
-use Rattle.std.specs.declared.option.Option.{Option}
-use Rattle.std.specs.declared.option.Option.TheVariants.{Some}
+use mathlib.Core.Path.{◌≡◌, sym, ◌∙◌}
 use mathlib.Core.Bool.{true}
 use native.Mathlib.Omega.{arith}
 use Rattle.watched.specs.Watched.{in_time}
@@ -67,5 +64,4 @@ returns c =
     let t : in_time r.times ≡ true = sym c.in_time.ensures ∙ c.if-not-in_time.false in
     let s : c.saturating_add.result ≡ sum_of r.soonest 3 = omega (arith, c.saturating_add.ensures) in
     let h = c.hear_first.ensures in
-    ap (λ (m : Option ℕ). Some (r.place, m)) c.moment.ensures
-    ∙ seek_found a.nodes.now a.count k a.node a.time r f c.saturating_add.result s c.hear_first.result h t _ c.in_ok-soonest.was (sym c.have_numbers.ensures ∙ c.if-not-have_numbers.false)
+    seek_found a.nodes.now a.count k a.node a.time r f c.saturating_add.result s c.hear_first.result h t _ c.in_ok-soonest.was (sym c.have_numbers.ensures ∙ c.if-not-have_numbers.false)
