@@ -94,14 +94,6 @@ module _ (ws ns : List ℕ) (k n t : ℕ) where
   abbrev Left : Result (Unit {0}) Refusal → List ℕ → List ℕ → Type 0
   Left a ws' ns' = Heard ws ns k n t a ws' ns'
 
-  pub unformed : well_formed vs ≡ false → (a : Result (Unit {0}) Refusal) → a ≡ heard_answer false t false → Left a ws ns
-  unformed f a e =
-      subst (λ (a : Result (Unit {0}) Refusal). Left a ws ns) (sym e)
-      (record {
-        on = run_declined ws (heard n t lent_run) lent_run WatchedNodes (λ p. rw (lent_words ns k ∙ f));
-        nodes = refl;
-      })
-
   module _ (a : well_formed vs ≡ true) (p : ℕ) (e : p ≡ place_of n vs) (w : Bool) (z : w ≡ ltb p k) (r : Result (Unit {0}) Refusal) (x : r ≡ heard_answer true t w) where
     below : k ≤ 32
     below = few (nodes_of ns) k true (sym a) refl

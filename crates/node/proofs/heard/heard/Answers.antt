@@ -5,17 +5,10 @@ use mathlib.Core.Bool.{true}
 use borrow.Author.Rules.{rules}
 use native.Mathlib.Omega.{arith}
 use Rattle.std.specs.declared.result.Result.TheVariants.{Err}
-use Rattle.types.specs.declared.refusals.Refusal.TheVariants.{WatchedNodes}
 use Rattle.watched.specs.Nodes.{moment_of}
-use Rattle.watched.proofs.Watching.{found_unformed, found_formed, few}
-use Rattle.node.proofs.Hearing.{unformed, inside, declined, there}
+use Rattle.watched.proofs.Watching.{found_formed, few}
+use Rattle.node.proofs.Hearing.{inside, declined, there}
 use Rattle.node.proofs.heard.heard.Goals as goal
-
-pub returns-in_default : goal.returns-in_default
-returns-in_default c =
-    let a = c.args in
-    unformed a.head.now a.nodes.now a.count a.node a.time
-    (found_unformed a.nodes.now a.count a.node a.time c.find.result c.find.ensures c.in_default.is) (Err WatchedNodes) refl
 
 pub set_heard-requires : goal.set_heard-requires
 set_heard-requires c =
