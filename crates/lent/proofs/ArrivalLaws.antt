@@ -34,7 +34,6 @@ use Rattle.partners.proofs.Held.{added_moment, removed_moment}
 use Rattle.partners.proofs.Left.{add_left, remove_left}
 use Rattle.node.specs.Plain.{add}
 use Rattle.node.proofs.OnRuns.{run_declined}
-use Rattle.partners.proofs.Told.{known}
 use Rattle.partners.proofs.Adding as Adding
 use Rattle.partners.proofs.Removing as Removing
 use Rattle.lentlaws.specs.Scan.{scanned, carried_back, scanned_back}
@@ -183,27 +182,6 @@ module _ (k n : ℕ) (x : WatchedNode) where
           step L w ws
           ∙ ap₂ (λ (v : WatchedNode) (vs : List WatchedNode). v ∷ vs) (stays L j m w ws a b (omega (arith, i)) u) (more p g i)
           ∙ ap (λ (j : ℕ). w ∷ (take p ws ++ closed j (drop p ws))) y
-
--- the number of a node that is added
-pub read_known : (n : ℕ) (x : NodeId) → read_node n ≡ Ok x → is_node n ≡ true
-read_known n x e = sym (known n) ∙ ap is_ok e
-
-refusal_of : Result NodeId Refusal → Refusal
-refusal_of (Ok x) = NodeNumber
-refusal_of (Err x) = x
-
-read_unknown : (n : ℕ) (x : Refusal) → read_node n ≡ Err x → (is_node n ≡ false) × (x ≡ NodeNumber)
-unfolding read_node refusal_of
-read_unknown n x = by (is_node n)
-  where
-    by : (b : Bool) → pick {A = Result NodeId Refusal} b (Ok (node n)) (Err NodeNumber) ≡ Err x → (b ≡ false) × (x ≡ NodeNumber)
-    by true e = absurd (false≢true (sym (ap is_ok e)))
-    by false e = (refl, sym (ap refusal_of e))
-
-pub add_unknown : (ws : List ℕ) (r : Run) (n t : ℕ) (x : Refusal) → read_node n ≡ Err x → AddedOn ws r n t (Err x) ws r
-add_unknown ws r n t x e =
-    let u = read_unknown n x e in
-    subst (λ (x : Refusal). AddedOn ws r n t (Err x) ws r) (sym u.1) (run_declined ws (add n t r) r NodeNumber (λ p. rw u.0))
 
 -- the calls, by what was found of the run and what their tests say
 module _ (ws : List ℕ) (vs : List WatchedNode) (k n : ℕ) (f : Findings) (asks : f ≡ for_heard n 0) (o : Option Findings) (sees : o ≡ surveyed k f vs) where

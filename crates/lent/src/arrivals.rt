@@ -105,7 +105,7 @@ pub fn add(
     let count = *number;
     NodeId::try_from(node)?;
     let found = survey(nodes, count, for_heard(node, 0)).ok_or(Refusal::WatchedNodes)?;
-    try_add(true, Some(found.watched), timeout, count)?;
+    try_add(Some(found.watched), timeout, count)?;
     let added = WatchedNode {
         node,
         timeout,

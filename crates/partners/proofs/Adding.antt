@@ -2,13 +2,15 @@
 -- Assumes nothing.
 use Prim.Native.Nat.{ℕ}
 use mathlib.Core.Path.{◌≡◌, refl, sym, ap, subst, ◌∙◌}
-use mathlib.Core.Bool.{Bool, true, false, not}
+use mathlib.Core.Bool.{Bool, true, false, not, false≢true}
 use mathlib.Core.List.{List}
 use native.Mathlib.Omega.{arith}
 use lib.Dec.{ltb}
 use lib.ListN.{length}
 use Rattle.types.specs.Pick.{pick, both}
-use Rattle.types.specs.Types.{is_node}
+use Rattle.types.specs.Types.{is_node, node, read_node}
+use Rattle.types.specs.declared.types.NodeId.{NodeId}
+use Rattle.std.specs.Prelude.{is_ok}
 use Rattle.types.specs.Refusals.{refusal_number}
 use Rattle.types.specs.declared.refusals.Refusal.{Refusal}
 use Rattle.types.specs.declared.refusals.Refusal.TheVariants.{NodeNumber, WatchedNodes, AllWatched, AlreadyWatched}
@@ -22,6 +24,36 @@ use Rattle.node.specs.Steps.{declines, leaves, earliest, added}
 use Rattle.node.specs.Run.{step}
 use Rattle.node.proofs.OnRuns.{run_declined, run_taken}
 use Rattle.partners.specs.Partners.{add_answer, AddedOn}
+
+-- the number of a node that is added
+known : (n : ℕ) → is_ok (read_node n) ≡ is_node n
+unfolding read_node
+known n = by (is_node n)
+  where
+    by : (b : Bool) → is_ok (pick {A = Result NodeId Refusal} b (Ok (node n)) (Err NodeNumber)) ≡ b
+    by true = refl
+    by false = refl
+
+-- the number of a node that is added
+pub read_known : (n : ℕ) (x : NodeId) → read_node n ≡ Ok x → is_node n ≡ true
+read_known n x e = sym (known n) ∙ ap is_ok e
+
+refusal_of : Result NodeId Refusal → Refusal
+refusal_of (Ok x) = NodeNumber
+refusal_of (Err x) = x
+
+read_unknown : (n : ℕ) (x : Refusal) → read_node n ≡ Err x → (is_node n ≡ false) × (x ≡ NodeNumber)
+unfolding read_node refusal_of
+read_unknown n x = by (is_node n)
+  where
+    by : (b : Bool) → pick {A = Result NodeId Refusal} b (Ok (node n)) (Err NodeNumber) ≡ Err x → (b ≡ false) × (x ≡ NodeNumber)
+    by true e = absurd (false≢true (sym (ap is_ok e)))
+    by false e = (refl, sym (ap refusal_of e))
+
+pub add_unknown : (ws : List ℕ) (r : Run) (n t : ℕ) (x : Refusal) → read_node n ≡ Err x → AddedOn ws r n t (Err x) ws r
+add_unknown ws r n t x e =
+    let u = read_unknown n x e in
+    subst (λ (x : Refusal). AddedOn ws r n t (Err x) ws r) (sym u.1) (run_declined ws (add n t r) r NodeNumber (λ p. rw u.0))
 
 abbrev by_tests : Bool → Bool → Bool → Bool → Bool → Result (Unit {0}) Refusal
 by_tests v f b w l =

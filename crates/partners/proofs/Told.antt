@@ -7,11 +7,8 @@ use mathlib.Core.List.{List, ◌++◌}
 use lib.Dec.{ltb}
 use lib.ListN.{length, take, drop, replicate}
 use borrow.Author.Tests.{ltb-true, ltb-false}
-use Rattle.types.specs.Pick.{pick}
-use Rattle.types.specs.Types.{is_node, node, read_node}
-use Rattle.types.specs.declared.types.NodeId.{NodeId}
+use Rattle.types.specs.Types.{is_node, read_node}
 use Rattle.std.specs.declared.result.Result.{Result}
-use Rattle.std.specs.Prelude.{is_ok}
 use Rattle.std.specs.declared.option.Option.{Option}
 use Rattle.std.specs.declared.result.Result.TheVariants.{Ok, Err}
 use Rattle.types.specs.declared.refusals.Refusal.{Refusal}
@@ -32,15 +29,6 @@ use Rattle.partners.proofs.Fixed.{words_of_lem}
 use Rattle.partners.proofs.Adding as Adding
 use Rattle.partners.proofs.Removing as Removing
 
--- a node's number is one that is read
-pub known : (n : ℕ) → is_ok (read_node n) ≡ is_node n
-unfolding read_node
-known n = by (is_node n)
-  where
-    by : (b : Bool) → is_ok (pick {A = Result NodeId Refusal} b (Ok (node n)) (Err NodeNumber)) ≡ b
-    by true = refl
-    by false = refl
-
 module _ (ws ns : List ℕ) (k n : ℕ) where
   abbrev ps : List WatchedNode
   ps = nodes_of ns
@@ -54,6 +42,9 @@ module _ (ws ns : List ℕ) (k n : ℕ) where
   -- a declined call leaves every word
   leaves_all : (c : Result (Unit {0}) Refusal) (y : Refusal) → c ≡ Err y → (l : List ℕ) → ns ≡ unless_refused c ns l
   leaves_all c y g l = ap (λ (c : Result (Unit {0}) Refusal). unless_refused c ns l) (sym g)
+
+  pub add_unknown : (o : ℕ) (x : Refusal) → read_node n ≡ Err x → Added ws ns k n o (Err x) ws ns k
+  add_unknown o x e = record { on = Adding.add_unknown ws r n o x e; nodes = refl }
 
   pub add_unformed :
       well_formed vs ≡ false → (o : ℕ) (v : Bool) → v ≡ is_node n → (c : Result (Unit {0}) Refusal) → c ≡ add_answer v false o false k → Added ws ns k n o c ws ns k

@@ -2,9 +2,8 @@
 // are lent, three words each, with the number of the first ones that are watched.
 #![tactic(auto)]
 
-ghost use Rattle.std.specs.Prelude.{◌≡◌, ◌++◌, ◌-◌, ◌≤◌, ◌<◌, Bool, take, drop, replicate};
+ghost use Rattle.std.specs.Prelude.{◌≡◌, ◌++◌, ◌-◌, ◌≤◌, ◌<◌, Bool, true, take, drop, replicate};
 ghost use Rattle.std.specs.Bool.{then_some};
-ghost use Rattle.types.specs.Types.{is_node};
 ghost use Rattle.watched.specs.Nodes.{node_of, nodes_of};
 ghost use Rattle.watched.specs.Watched.{no_node, inserted};
 ghost use Rattle.partners.specs.Walks.{place_before, closed};
@@ -62,25 +61,10 @@ fn close(nodes: &mut NodeWords, count: usize, place: usize)
     clear(nodes, count - 1);
 }
 
-// Number 1.
-pub fn is_known(node: u8) -> bool
-    ensures { result ≡ is_node node }
+// Numbers 3, 10 and 9, behind number 1, by what was found: whether the node is among the watched ones, where they pass number 3.
+pub fn try_add(watched: Option<bool>, timeout: u64, number: usize) -> Result<(), Refusal>
+    ensures { (formed among : Bool) → watched ≡ then_some formed among → result ≡ add_answer true formed timeout among number }
 {
-    NodeId::try_from(node).is_ok()
-}
-
-// Numbers 1, 3, 10 and 9, by what was found: whether a node has the number, and whether the node is among the watched ones, where they pass number 3.
-pub fn try_add(
-    known: bool,
-    watched: Option<bool>,
-    timeout: u64,
-    number: usize,
-) -> Result<(), Refusal>
-    ensures { (formed among : Bool) → watched ≡ then_some formed among → result ≡ add_answer known formed timeout among number }
-{
-    if !known {
-        return Err(Refusal::NodeNumber);
-    }
     let Some(watched) = watched else {
         return Err(Refusal::WatchedNodes);
     };
@@ -119,12 +103,10 @@ pub fn add(
 ) -> Result<(), Refusal>
     ensures { Added head.old nodes.old count.old node timeout result head.new nodes.new count.new }
 {
+    NodeId::try_from(node)?;
     let number = *count;
-    let known = is_known(node);
-    let Some((place, soonest)) = find(nodes, number, node as u64, 0) else {
-        return try_add(known, None, timeout, number);
-    };
-    try_add(known, Some(place < number), timeout, number)?;
+    let (place, soonest) = find(nodes, number, node as u64, 0).ok_or(Refusal::WatchedNodes)?;
+    try_add(Some(place < number), timeout, number)?;
     let added = NodeRecord {
         node: node as u64,
         timeout,
@@ -146,9 +128,7 @@ pub fn remove(
     ensures { Removed head.old nodes.old count.old node result head.new nodes.new count.new }
 {
     let number = *count;
-    let Some((place, soonest)) = find(nodes, number, node as u64, 0) else {
-        return try_remove(None);
-    };
+    let (place, soonest) = find(nodes, number, node as u64, 0).ok_or(Refusal::WatchedNodes)?;
     try_remove(Some(place < number))?;
     close(nodes, number, place);
     *count = number - 1;

@@ -4,7 +4,8 @@ use mathlib.Core.Path.{sym, ◌∙◌}
 use Rattle.std.proofs.Common.{rules, ◌≡◌, Err, Some, None, refl}
 use Rattle.std.specs.Prelude.{true}
 use Rattle.types.specs.declared.refusals.Refusal.TheVariants.{WatchedNodes}
-use Rattle.lent.proofs.ArrivalLaws.{read_known, add_unknown, add_unformed, add_declined, add_taken}
+use Rattle.partners.proofs.Adding.{read_known, add_unknown}
+use Rattle.lent.proofs.ArrivalLaws.{add_unformed, add_declined, add_taken}
 use Rattle.lent.proofs.arrivals.add.Goals as goal
 use Rattle.watched.specs.Watched.{run}
 
