@@ -21,7 +21,7 @@ asking=$(echo "$public" | grep '^asks ' | grep -v \
     -e ' crates/watched/src/nodes\.rt: pub fn set_heard(' \
     -e ' crates/forms/src/find\.rt: pub fn find(' \
     -e ' crates/lentlaws/src/lib\.rt: pub fn \(change\|change_answer\|fold\|scan\|scan_back\)<' \
-    -e ' crates/counters/src/counters\.rt: pub fn by_kind<' || true)
+    -e ' crates/counters/src/counters\.rt: pub fn new<' || true)
 if [ -n "$asking" ]; then
     echo "public functions with a requires:"
     echo "$asking" | sed 's/^asks \(tells \)\?//'

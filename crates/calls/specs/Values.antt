@@ -6,8 +6,7 @@ use Rattle.types.specs.Common.{net_time}
 use Rattle.types.specs.Flags.{flags}
 use Rattle.entries.specs.Entry.{mode_of}
 use Rattle.entries.specs.declared.status_response.ErrorEntry.{ErrorEntry}
-use Rattle.counters.specs.Counters.{same_for_all}
-use Rattle.counters.specs.declared.counters.Thresholds.{Thresholds}
+use Rattle.counters.specs.Counters.{same_for_all, Thresholds}
 use Rattle.head.specs.declared.state.Dictionary.{Dictionary}
 use Rattle.start.specs.declared.start.Setup.{Setup}
 use Rattle.std.specs.declared.option.Option.{Option}

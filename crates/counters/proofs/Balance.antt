@@ -11,13 +11,12 @@ use borrow.Author.Tests.{ltb-true, ltb-false, leb-true, leb-false, eq-eqb}
 use lib.Dec.{leb, ltb}
 use Rattle.types.specs.Pick.{pick, both}
 use Rattle.types.specs.declared.frame.error.types.DllError.{DllError}
-use Rattle.counters.specs.Counters.{counter_kinds, place, same_kind, counter, replaced, top, new_counters, threshold_for, incremented, decremented, reaches, ThresholdCheck, after_check, after_error, active, lowered, HandledError, counted_error, link_lost, Effect, counts, loses_link, is_logged, nothing, effect, handled_as, handled, completed}
+use Rattle.counters.specs.Counters.{counter_kinds, place, same_kind, counter, replaced, top, new_counters, threshold_for, incremented, decremented, reaches, ThresholdCheck, after_check, after_error, active, lowered, HandledError, counted_error, link_lost, Effect, counts, loses_link, is_logged, nothing, effect, handled_as, handled, completed, Thresholds}
 use Rattle.counters.specs.Marks.{level, threshold_of, Mark, given, crossed, drained, is_given, is_crossed, is_drained, count_of, E, N, D, effect_marks, error_marks, drained_of, cycle_marks, CounterCall, handle_error, on_cycle_complete, after, marks}
 use Rattle.counters.specs.declared.counters.ThresholdCounter.{ThresholdCounter}
 use Rattle.counters.specs.declared.counters.CounterKind.{CounterKind}
 use Rattle.counters.specs.declared.counters.CounterKind.TheVariants.{Collision, LossOfSoc, LossOfSoa, LossOfPreq, SoCJitter, Crc, HeartbeatTimeout}
 use Rattle.counters.specs.declared.counters.CnErrorCounters.{CnErrorCounters}
-use Rattle.counters.specs.declared.counters.Thresholds.{Thresholds}
 use Rattle.counters.proofs.ByKind.{same_kind_lem, counter_of_lem, counter_replaced, counter_new}
 
 -- one counter with threshold T, from level L to level L'

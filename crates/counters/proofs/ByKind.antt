@@ -8,12 +8,12 @@ use borrow.Author.Tests.{eqb-true, leb-true}
 use lib.Dec.{leb}
 use lib.ListN.{get_or}
 use Rattle.types.specs.Pick.{pick, both}
-use Rattle.counters.specs.Counters.{counter_kinds, place, same_kind, counter, by_kind, replaced, new_counter, new_counters, threshold_for, all_of, thresholds_fit}
+use Rattle.counters.specs.Counters.{counter_kinds, place, same_kind, of_kind, for_each, counter, by_kind, replaced, new_counter, new_counters, threshold_for, all_of, thresholds_fit, Thresholds}
+use Rattle.counters.specs.declared.counters.ByKind.{ByKind}
 use Rattle.counters.specs.declared.counters.ThresholdCounter.{ThresholdCounter}
 use Rattle.counters.specs.declared.counters.CounterKind.{CounterKind}
 use Rattle.counters.specs.declared.counters.CounterKind.TheVariants.{Collision, LossOfSoc, LossOfSoa, LossOfPreq, SoCJitter, Crc, HeartbeatTimeout}
 use Rattle.counters.specs.declared.counters.CnErrorCounters.{CnErrorCounters}
-use Rattle.counters.specs.declared.counters.Thresholds.{Thresholds}
 
 -- a kind stands at its place, so two kinds with one place are the same
 kind_at : (k : CounterKind) → get_or counter_kinds (place k) Collision ≡ k
@@ -29,11 +29,9 @@ pub same_kind_lem : (j k : CounterKind) → same_kind j k ≡ true → j ≡ k
 same_kind_lem j k h =
     sym (kind_at j) ∙ ap (λ (n : ℕ). get_or counter_kinds n Collision) (eqb-true (place j) (place k) h) ∙ kind_at k
 
--- the counters are fixed by that of each kind, and their count of lost links
-pub from_kinds :
-    (s : CnErrorCounters) (f : CounterKind → ThresholdCounter) (n : ℕ) →
-    ((k : CounterKind) → counter k s ≡ f k) → s.loss_of_link_cumulative ≡ n → s ≡ by_kind f n
-from_kinds s f n each links =
+-- what there is for each kind is fixed by that of each
+pub from_each : {T : Type 0} (s : ByKind T) (f : CounterKind → T) → ((k : CounterKind) → of_kind k s ≡ f k) → s ≡ for_each f
+from_each s f each =
     λ i. record {
       collision = each Collision i;
       loss_of_soc = each LossOfSoc i;
@@ -42,7 +40,6 @@ from_kinds s f n each links =
       soc_jitter = each SoCJitter i;
       crc_errors = each Crc i;
       heartbeat_timeout = each HeartbeatTimeout i;
-      loss_of_link_cumulative = links i;
     }
 
 pub counter_of_lem : (f : CounterKind → ThresholdCounter) (n : ℕ) (k : CounterKind) → counter k (by_kind f n) ≡ f k

@@ -12,7 +12,7 @@ use Rattle.counters.specs.declared.counters.ThresholdCounter.{ThresholdCounter}
 use Rattle.counters.specs.declared.counters.CounterKind.{CounterKind}
 use Rattle.counters.specs.declared.counters.CounterKind.TheVariants.{Collision, LossOfSoc, LossOfSoa, LossOfPreq, SoCJitter, Crc, HeartbeatTimeout}
 use Rattle.counters.specs.declared.counters.CnErrorCounters.{CnErrorCounters}
-use Rattle.counters.specs.declared.counters.Thresholds.{Thresholds}
+use Rattle.counters.specs.declared.counters.ByKind.{ByKind}
 use Rattle.counters.specs.declared.counters.ErrorTaken.{ErrorTaken}
 use Rattle.counters.specs.declared.counters.ErrorEffect.{ErrorEffect}
 use Rattle.counters.specs.declared.counters.ErrorEffect.TheVariants as an-effect
@@ -34,18 +34,19 @@ place HeartbeatTimeout = 6
 abbrev pub same_kind : CounterKind → CounterKind → Bool
 same_kind j k = eqb (place j) (place k)
 
-abbrev pub counter : CounterKind → CnErrorCounters → ThresholdCounter
-counter Collision s = s.collision
-counter LossOfSoc s = s.loss_of_soc
-counter LossOfSoa s = s.loss_of_soa
-counter LossOfPreq s = s.loss_of_preq
-counter SoCJitter s = s.soc_jitter
-counter Crc s = s.crc_errors
-counter HeartbeatTimeout s = s.heartbeat_timeout
+-- that of a kind, of something for each
+abbrev pub of_kind : {T : Type 0} → CounterKind → ByKind T → T
+of_kind Collision s = s.collision
+of_kind LossOfSoc s = s.loss_of_soc
+of_kind LossOfSoa s = s.loss_of_soa
+of_kind LossOfPreq s = s.loss_of_preq
+of_kind SoCJitter s = s.soc_jitter
+of_kind Crc s = s.crc_errors
+of_kind HeartbeatTimeout s = s.heartbeat_timeout
 
--- the counters of which that of kind k is f k, and a count of lost links
-abbrev pub by_kind : (CounterKind → ThresholdCounter) → ℕ → CnErrorCounters
-by_kind f links =
+-- f k for each kind k
+abbrev pub for_each : {T : Type 0} → (CounterKind → T) → ByKind T
+for_each f =
     record {
       collision = f Collision;
       loss_of_soc = f LossOfSoc;
@@ -54,8 +55,14 @@ by_kind f links =
       soc_jitter = f SoCJitter;
       crc_errors = f Crc;
       heartbeat_timeout = f HeartbeatTimeout;
-      loss_of_link_cumulative = links;
     }
+
+abbrev pub counter : CounterKind → CnErrorCounters → ThresholdCounter
+counter k s = of_kind k s.counters
+
+-- the counters of which that of kind k is f k, and a count of lost links
+abbrev pub by_kind : (CounterKind → ThresholdCounter) → ℕ → CnErrorCounters
+by_kind f links = record { counters = for_each f; loss_of_link_cumulative = links }
 
 -- the counters with c for kind k, and the others as they were
 unfoldable pub replaced : CounterKind → ThresholdCounter → CnErrorCounters → CnErrorCounters
@@ -70,30 +77,18 @@ abbrev pub new_counter : ℕ → ThresholdCounter
 new_counter t = counter_of 0 0 t 0
 
 -- No. 6: "Each of the seven thresholds becomes part of the head, given at start"
+abbrev pub Thresholds : Type 0
+Thresholds = ByKind ℕ
+
 abbrev pub threshold_for : CounterKind → Thresholds → ℕ
-threshold_for Collision t = t.collision
-threshold_for LossOfSoc t = t.loss_of_soc
-threshold_for LossOfSoa t = t.loss_of_soa
-threshold_for LossOfPreq t = t.loss_of_preq
-threshold_for SoCJitter t = t.soc_jitter
-threshold_for Crc t = t.crc_errors
-threshold_for HeartbeatTimeout t = t.heartbeat_timeout
+threshold_for k t = of_kind k t
 
 abbrev pub new_counters : Thresholds → CnErrorCounters
 new_counters t = by_kind (λ (k : CounterKind). new_counter (threshold_for k t)) 0
 
 -- one for all kinds, as document 01's "threshold 15"
 abbrev pub same_for_all : ℕ → Thresholds
-same_for_all n =
-    record {
-      collision = n;
-      loss_of_soc = n;
-      loss_of_soa = n;
-      loss_of_preq = n;
-      soc_jitter = n;
-      crc_errors = n;
-      heartbeat_timeout = n;
-    }
+same_for_all n = for_each (λ (k : CounterKind). n)
 
 -- every item of the list passes the test
 abbrev pub all_of : {A : Type 0} → (A → Bool) → List A → Bool

@@ -1,6 +1,6 @@
 // The threshold counters (EPSG DS 301, Section 4.7.4.1) and those of a controlled node (Section 4.7.8).
 ghost use Rattle.std.specs.Prelude.{◌≡◌, true, false, map};
-ghost use Rattle.counters.specs.Counters.{new_counter, incremented, decremented, after_check, after_error, active, new_counters, threshold_for, counter, counter_kinds, replaced, replied, counted_error, effect, effect_of, handled, lowered, any_active, completed, same_for_all, thresholds_fit};
+ghost use Rattle.counters.specs.Counters.{new_counter, incremented, decremented, after_check, after_error, active, new_counters, of_kind, counter_kinds, replaced, replied, counted_error, effect, effect_of, handled, lowered, any_active, completed, same_for_all, thresholds_fit};
 
 use types::frame::error::types::{DllError, DllErrors, NmtAction};
 
@@ -117,37 +117,38 @@ pub fn effect_of(error: DllError) -> ErrorEffect
     }
 }
 
-// The thresholds of the seven counters, in their order. One of 0 is never reached.
+// Something for each kind of counter.
 #[derive(Clone, Copy, PartialEq, Eq)]
-pub struct Thresholds {
-    pub collision: u32,
-    pub loss_of_soc: u32,
-    pub loss_of_soa: u32,
-    pub loss_of_preq: u32,
-    pub soc_jitter: u32,
-    pub crc_errors: u32,
-    pub heartbeat_timeout: u32,
+pub struct ByKind<T> {
+    pub collision: T,
+    pub loss_of_soc: T,
+    pub loss_of_soa: T,
+    pub loss_of_preq: T,
+    pub soc_jitter: T,
+    pub crc_errors: T,
+    pub heartbeat_timeout: T,
 }
 
-impl Thresholds {
-    // One for all kinds; in the Rust it is 15.
-    pub fn same_for_all(threshold: u32) -> Self
-        ensures { result ≡ same_for_all threshold }
+impl<T: Copy> ByKind<T> {
+    // For each kind what `of` gives for it.
+    pub fn new<F: Fn(CounterKind) -> T>(of: F) -> Self
+        requires { F.IsAlwaysCallable of }
+        ensures { (k : CounterKind) → F.post of k (of_kind k result) }
     {
-        Thresholds {
-            collision: threshold,
-            loss_of_soc: threshold,
-            loss_of_soa: threshold,
-            loss_of_preq: threshold,
-            soc_jitter: threshold,
-            crc_errors: threshold,
-            heartbeat_timeout: threshold,
+        Self {
+            collision: of(CounterKind::Collision),
+            loss_of_soc: of(CounterKind::LossOfSoc),
+            loss_of_soa: of(CounterKind::LossOfSoa),
+            loss_of_preq: of(CounterKind::LossOfPreq),
+            soc_jitter: of(CounterKind::SoCJitter),
+            crc_errors: of(CounterKind::Crc),
+            heartbeat_timeout: of(CounterKind::HeartbeatTimeout),
         }
     }
 
     // That of a kind.
-    pub fn of(self, kind: CounterKind) -> u32
-        ensures { result ≡ threshold_for kind self }
+    pub fn of(self, kind: CounterKind) -> T
+        ensures { result ≡ of_kind kind self }
     {
         match kind {
             CounterKind::Collision => self.collision,
@@ -160,11 +161,11 @@ impl Thresholds {
         }
     }
 
-    #[tactic(auto, unfolding(crate::specs::Counters::thresholds_fit))]
-    pub fn is_within_limit(self) -> bool
-        ensures { result ≡ thresholds_fit self }
+    // Those of the seven kinds, in their order.
+    pub fn each(self) -> [T; 7]
+        ensures { result ≡ map (λ k. of_kind k self) counter_kinds }
     {
-        let all = [
+        [
             self.collision,
             self.loss_of_soc,
             self.loss_of_soa,
@@ -172,21 +173,35 @@ impl Thresholds {
             self.soc_jitter,
             self.crc_errors,
             self.heartbeat_timeout,
-        ];
-        all.iter().all(|threshold| *threshold <= 1_000_000)
+        ]
+    }
+}
+
+// The thresholds of the seven counters. One of 0 is never reached.
+pub type Thresholds = ByKind<u32>;
+
+impl ByKind<u32> {
+    // One for all kinds; in the Rust it is 15.
+    pub fn same_for_all(threshold: u32) -> Self
+        ensures { result ≡ same_for_all threshold }
+    {
+        Self::new(|_| threshold)
+    }
+
+    #[tactic(auto, unfolding(crate::specs::Counters::thresholds_fit))]
+    pub fn is_within_limit(self) -> bool
+        ensures { result ≡ thresholds_fit self }
+    {
+        self.each()
+            .iter()
+            .all(|threshold| *threshold <= 1_000_000)
     }
 }
 
 // The DLL error counters of a controlled node.
 #[derive(Clone, Copy, PartialEq, Eq)]
 pub struct CnErrorCounters {
-    pub collision: ThresholdCounter,
-    pub loss_of_soc: ThresholdCounter,
-    pub loss_of_soa: ThresholdCounter,
-    pub loss_of_preq: ThresholdCounter,
-    pub soc_jitter: ThresholdCounter,
-    pub crc_errors: ThresholdCounter,
-    pub heartbeat_timeout: ThresholdCounter,
+    pub counters: ByKind<ThresholdCounter>,
     // Never reset.
     pub loss_of_link_cumulative: u32,
 }
@@ -225,61 +240,13 @@ impl ErrorTaken {
 }
 
 impl CnErrorCounters {
-    // The counter of each kind is what `of` gives for it.
-    pub fn by_kind<F: Fn(CounterKind) -> ThresholdCounter>(
-        of: F,
-        loss_of_link_cumulative: u32,
-    ) -> Self
-        requires { F.IsAlwaysCallable of }
-        ensures counters { (k : CounterKind) → F.post of k (counter k result) }
-        ensures links { result.loss_of_link_cumulative ≡ loss_of_link_cumulative }
-    {
-        Self {
-            collision: of(CounterKind::Collision),
-            loss_of_soc: of(CounterKind::LossOfSoc),
-            loss_of_soa: of(CounterKind::LossOfSoa),
-            loss_of_preq: of(CounterKind::LossOfPreq),
-            soc_jitter: of(CounterKind::SoCJitter),
-            crc_errors: of(CounterKind::Crc),
-            heartbeat_timeout: of(CounterKind::HeartbeatTimeout),
-            loss_of_link_cumulative,
-        }
-    }
-
     pub fn new(thresholds: Thresholds) -> Self
         ensures { result ≡ new_counters thresholds }
     {
-        Self::by_kind(|kind| ThresholdCounter::new(thresholds.of(kind)), 0)
-    }
-
-    // The counter of a kind.
-    pub fn counter(self, kind: CounterKind) -> ThresholdCounter
-        ensures { result ≡ counter kind self }
-    {
-        match kind {
-            CounterKind::Collision => self.collision,
-            CounterKind::LossOfSoc => self.loss_of_soc,
-            CounterKind::LossOfSoa => self.loss_of_soa,
-            CounterKind::LossOfPreq => self.loss_of_preq,
-            CounterKind::SoCJitter => self.soc_jitter,
-            CounterKind::Crc => self.crc_errors,
-            CounterKind::HeartbeatTimeout => self.heartbeat_timeout,
+        Self {
+            counters: ByKind::new(|kind| ThresholdCounter::new(thresholds.of(kind))),
+            loss_of_link_cumulative: 0,
         }
-    }
-
-    // The counters of the seven kinds, in the order of the kinds.
-    pub fn each(self) -> [ThresholdCounter; 7]
-        ensures { result ≡ map (λ k. counter k self) counter_kinds }
-    {
-        [
-            self.collision,
-            self.loss_of_soc,
-            self.loss_of_soa,
-            self.loss_of_preq,
-            self.soc_jitter,
-            self.crc_errors,
-            self.heartbeat_timeout,
-        ]
     }
 
     // That of a kind is replaced.
@@ -288,13 +255,13 @@ impl CnErrorCounters {
         ensures { self.new ≡ replaced kind by self.old }
     {
         match kind {
-            CounterKind::Collision => self.collision = by,
-            CounterKind::LossOfSoc => self.loss_of_soc = by,
-            CounterKind::LossOfSoa => self.loss_of_soa = by,
-            CounterKind::LossOfPreq => self.loss_of_preq = by,
-            CounterKind::SoCJitter => self.soc_jitter = by,
-            CounterKind::Crc => self.crc_errors = by,
-            CounterKind::HeartbeatTimeout => self.heartbeat_timeout = by,
+            CounterKind::Collision => self.counters.collision = by,
+            CounterKind::LossOfSoc => self.counters.loss_of_soc = by,
+            CounterKind::LossOfSoa => self.counters.loss_of_soa = by,
+            CounterKind::LossOfPreq => self.counters.loss_of_preq = by,
+            CounterKind::SoCJitter => self.counters.soc_jitter = by,
+            CounterKind::Crc => self.counters.crc_errors = by,
+            CounterKind::HeartbeatTimeout => self.counters.heartbeat_timeout = by,
         }
     }
 
@@ -304,7 +271,7 @@ impl CnErrorCounters {
         ensures counters { self.new ≡ (counted_error kind self.old error).counters }
         ensures taken { result ≡ replied (counted_error kind self.old error) }
     {
-        let mut counter = self.counter(kind);
+        let mut counter = self.counters.of(kind);
         let reached = counter.count_error();
         self.replace(kind, counter);
         if reached {
@@ -335,28 +302,25 @@ impl CnErrorCounters {
     fn decrement(&mut self)
         ensures { self.new ≡ lowered self.old }
     {
-        let before = *self;
-        *self = Self::by_kind(
-            |kind| {
-                let mut counter = before.counter(kind);
-                counter.decrement();
-                counter
-            },
-            before.loss_of_link_cumulative,
-        );
+        let before = self.counters;
+        self.counters = ByKind::new(|kind| {
+            let mut counter = before.of(kind);
+            counter.decrement();
+            counter
+        });
     }
 
     #[tactic(auto, unfolding(crate::specs::Counters::any_active))]
     fn is_any_active(self) -> bool
         ensures { result ≡ any_active self }
     {
-        self.collision.is_active()
-            || self.loss_of_soc.is_active()
-            || self.loss_of_soa.is_active()
-            || self.loss_of_preq.is_active()
-            || self.soc_jitter.is_active()
-            || self.crc_errors.is_active()
-            || self.heartbeat_timeout.is_active()
+        self.counters.collision.is_active()
+            || self.counters.loss_of_soc.is_active()
+            || self.counters.loss_of_soa.is_active()
+            || self.counters.loss_of_preq.is_active()
+            || self.counters.soc_jitter.is_active()
+            || self.counters.crc_errors.is_active()
+            || self.counters.heartbeat_timeout.is_active()
     }
 
     // Whether it cleared the last level.

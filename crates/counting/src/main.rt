@@ -21,7 +21,7 @@ fn say_each<F: Fn(ThresholdCounter) -> u32>(
     requires { F.IsAlwaysCallable number }
 {
     write!(out, " ({name}");
-    for counter in counters.each() {
+    for counter in counters.counters.each() {
         write!(out, " {}", number(counter));
     }
     write!(out, ")");

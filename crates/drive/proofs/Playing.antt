@@ -9,7 +9,7 @@ use lib.ListN.{length, get_or, drop, length-append, length-drop, get_or-append, 
 use lib.Seq.{get_or-drop, drop-drop, drop_at}
 use Rattle.types.specs.declared.refusals.Refusal.{Refusal}
 use Rattle.types.specs.declared.nmt.flags.FeatureFlags.{FeatureFlags}
-use Rattle.counters.specs.declared.counters.Thresholds.{Thresholds}
+use Rattle.counters.specs.Counters.{Thresholds}
 use Rattle.head.specs.declared.state.Dictionary.{Dictionary}
 use Rattle.node.specs.Plain.{Call}
 use Rattle.node.specs.Run.{Said}

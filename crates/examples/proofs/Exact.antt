@@ -100,8 +100,10 @@ pub exact_errors : (x y : CnErrorCounters) (r : Bool) → r ≡ (errors.ghosts).
 exact_errors x y r e =
     exact_is e
     (exact_by
+    (exact_and
+    (exact_by
     (exact_and (exact_counter _ _) (exact_and (exact_counter _ _) (exact_and (exact_counter _ _) (exact_and (exact_counter _ _) (exact_and (exact_counter _ _)
-    (exact_and (exact_counter _ _) (exact_and (exact_counter _ _) (exact_number _ _))))))))
+    (exact_and (exact_counter _ _) (exact_counter _ _)))))))
     (λ h. λ i.
     record {
       collision = h.0 i;
@@ -110,10 +112,12 @@ exact_errors x y r e =
       loss_of_preq = h.1.1.1.0 i;
       soc_jitter = h.1.1.1.1.0 i;
       crc_errors = h.1.1.1.1.1.0 i;
-      heartbeat_timeout = h.1.1.1.1.1.1.0 i;
-      loss_of_link_cumulative = h.1.1.1.1.1.1.1 i;
+      heartbeat_timeout = h.1.1.1.1.1.1 i;
     })
-    (λ e. (ap (λ z. z.collision) e, (ap (λ z. z.loss_of_soc) e, (ap (λ z. z.loss_of_soa) e, (ap (λ z. z.loss_of_preq) e, (ap (λ z. z.soc_jitter) e, (ap (λ z. z.crc_errors) e, (ap (λ z. z.heartbeat_timeout) e, ap (λ z. z.loss_of_link_cumulative) e)))))))))
+    (λ e. (ap (λ z. z.collision) e, (ap (λ z. z.loss_of_soc) e, (ap (λ z. z.loss_of_soa) e, (ap (λ z. z.loss_of_preq) e, (ap (λ z. z.soc_jitter) e, (ap (λ z. z.crc_errors) e, ap (λ z. z.heartbeat_timeout) e))))))))
+    (exact_number _ _))
+    (λ h. λ i. record { counters = h.0 i; loss_of_link_cumulative = h.1 i })
+    (λ e. (ap (λ z. z.counters) e, ap (λ z. z.loss_of_link_cumulative) e)))
 
 pub exact_soc : (x y : SocWatch) (r : Bool) → r ≡ (soc.ghosts).eq x y → Exactly r (x ≡ y)
 exact_soc x y r e = search rules

@@ -22,8 +22,7 @@ use Rattle.node.specs.Steps.{fresh, started}
 use Rattle.watched.specs.Watched.{well_formed, Run, run}
 use Rattle.watched.specs.Nodes.{nodes_of}
 use Rattle.node.specs.Run.{step}
-use Rattle.counters.specs.Counters.{same_for_all, thresholds_fit}
-use Rattle.counters.specs.declared.counters.Thresholds.{Thresholds}
+use Rattle.counters.specs.Counters.{same_for_all, thresholds_fit, Thresholds}
 use Rattle.start.specs.Started.{start_of}
 use Rattle.node.specs.Refines.{plain, Rings, rings, joins, joins_all}
 use Rattle.node.specs.InPlace.{said}

@@ -46,7 +46,7 @@ pub fn dll_comes(head: &mut Head, event: u64, preq: bool, stated: DllErrors, aft
 
 // The level that a lost SoC makes, before the threshold is looked at.
 pub fn raises_to(head: &Head, level: u32) -> bool
-    ensures { Exactly result ((incremented (errors_of head.now).loss_of_soc).threshold_cnt ≡ level) }
+    ensures { Exactly result ((incremented (errors_of head.now).counters.loss_of_soc).threshold_cnt ≡ level) }
 {
     let mut counter = counter_of(head, CounterKind::LossOfSoc);
     counter.increment();

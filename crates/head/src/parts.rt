@@ -8,7 +8,7 @@ ghost use Rattle.head.specs.Words.{word, yes, one, time_at, state_of, nmt_of, dl
 ghost use Rattle.head.specs.Written.{forgotten_written, nmt_written, counter_written, each_written, levels_written, time_written, moment_written, deadline_written, earliest_written, soc_written, queue_written, history_written, identity_written, thresholds_written, object_written, od_written, WritesThere};
 
 use crate::state::{Dictionary, Head, Object, SocWatch, Statistic};
-use counters::counters::{CnErrorCounters, CounterKind, ThresholdCounter};
+use counters::counters::{ByKind, CnErrorCounters, CounterKind, ThresholdCounter};
 use dll::cs_state_machine::{DllCsState, DllCsStateMachine};
 use entries::emergency_queue::EmergencyQueue;
 use entries::error_history::ErrorHistory;
@@ -247,7 +247,10 @@ pub fn set_links(head: &mut Head, links: u32)
 pub fn errors_of(head: &Head) -> CnErrorCounters
     ensures { result ≡ errors_of head.now }
 {
-    CnErrorCounters::by_kind(|kind| counter_of(head, kind), head[LOSS_OF_LINK])
+    CnErrorCounters {
+        counters: ByKind::new(|kind| counter_of(head, kind)),
+        loss_of_link_cumulative: head[LOSS_OF_LINK],
+    }
 }
 
 // A word of each counter, at one place of its four.
@@ -261,13 +264,13 @@ fn set_each<F: Fn(ThresholdCounter) -> u32>(
     requires callable { F.IsAlwaysCallable word }
     ensures { (v : CounterKind → ℕ) × ((k : CounterKind) → F.post word (counter k errors) (v k)) × (head.new ≡ each_written head.old nth v) }
 {
-    head[COLLISION + nth] = word(errors.collision);
-    head[LOSS_OF_SOC + nth] = word(errors.loss_of_soc);
-    head[LOSS_OF_SOA + nth] = word(errors.loss_of_soa);
-    head[LOSS_OF_PREQ + nth] = word(errors.loss_of_preq);
-    head[SOC_JITTER + nth] = word(errors.soc_jitter);
-    head[CRC + nth] = word(errors.crc_errors);
-    head[HEARTBEAT_TIMEOUT + nth] = word(errors.heartbeat_timeout);
+    head[COLLISION + nth] = word(errors.counters.collision);
+    head[LOSS_OF_SOC + nth] = word(errors.counters.loss_of_soc);
+    head[LOSS_OF_SOA + nth] = word(errors.counters.loss_of_soa);
+    head[LOSS_OF_PREQ + nth] = word(errors.counters.loss_of_preq);
+    head[SOC_JITTER + nth] = word(errors.counters.soc_jitter);
+    head[CRC + nth] = word(errors.counters.crc_errors);
+    head[HEARTBEAT_TIMEOUT + nth] = word(errors.counters.heartbeat_timeout);
 }
 
 // A cycle changes the levels.

@@ -55,12 +55,12 @@ came p b = came_by p b b.crossed
 
 -- before the first error
 abbrev fresh : Plain → Beats
-fresh p = record { counter = p.errors.heartbeat_timeout; crossed = None }
+fresh p = record { counter = p.errors.counters.heartbeat_timeout; crossed = None }
 
 -- the error of one late node, by whether it crosses
 module _ (p : Plain) (w : WatchedNode) where
   abbrev c : ThresholdCounter
-  c = p.errors.heartbeat_timeout
+  c = p.errors.counters.heartbeat_timeout
 
   abbrev ms : List Mark
   ms = error_marks p.errors (timeout_of w)

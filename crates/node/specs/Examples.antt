@@ -42,7 +42,7 @@ pub record Example : Type 0 where
 -- a call loses at most one SoC
 abbrev pub raised_by : Plain → Step → List ℕ
 raised_by p s =
-    pick (ltb 0 (E LossOfSoc s.marks)) ((incremented p.errors.loss_of_soc).threshold_cnt ∷ []) []
+    pick (ltb 0 (E LossOfSoc s.marks)) ((incremented p.errors.counters.loss_of_soc).threshold_cnt ∷ []) []
 
 abbrev pub coming_of : Plain → Step → Coming
 coming_of p s = record { all = s; state = state_number s.head.nmt.current_state; raised = raised_by p s }
@@ -87,13 +87,16 @@ values r a b c e =
 abbrev pub counters_of : ℕ → ℕ → ℕ → ℕ → ℕ → CnErrorCounters
 counters_of socs crossings soc beats beat =
     record {
-      collision = counter_of 0 0 15 0;
-      loss_of_soc = counter_of socs soc 15 crossings;
-      loss_of_soa = counter_of 0 0 15 0;
-      loss_of_preq = counter_of 0 0 15 0;
-      soc_jitter = counter_of 0 0 15 0;
-      crc_errors = counter_of 0 0 15 0;
-      heartbeat_timeout = counter_of beats beat 15 0;
+      counters =
+          record {
+            collision = counter_of 0 0 15 0;
+            loss_of_soc = counter_of socs soc 15 crossings;
+            loss_of_soa = counter_of 0 0 15 0;
+            loss_of_preq = counter_of 0 0 15 0;
+            soc_jitter = counter_of 0 0 15 0;
+            crc_errors = counter_of 0 0 15 0;
+            heartbeat_timeout = counter_of beats beat 15 0;
+          };
       loss_of_link_cumulative = 0;
     }
 

@@ -4,6 +4,7 @@
 use Rattle.std.specs.Prelude.{ℕ, List, [], ◌∷◌, ◌++◌, replicate, map}
 use Rattle.types.specs.States.{state_number}
 use Rattle.dll.specs.Dll.{cs_state_number}
+use Rattle.counters.specs.Counters.{counter, counter_kinds}
 use Rattle.counters.specs.declared.counters.ThresholdCounter.{ThresholdCounter}
 use Rattle.counters.specs.declared.counters.CnErrorCounters.{CnErrorCounters}
 use Rattle.entries.specs.Entry.{mode_number, entry_bytes}
@@ -29,7 +30,7 @@ machines_shown h =
 -- the seven kinds, in the order of the lines
 abbrev pub kinds_of : CnErrorCounters → List ThresholdCounter
 kinds_of e =
-    e.collision ∷ e.loss_of_soc ∷ e.loss_of_soa ∷ e.loss_of_preq ∷ e.soc_jitter ∷ e.crc_errors ∷ e.heartbeat_timeout ∷ []
+    map (λ k. counter k e) counter_kinds
 
 -- one number of each
 abbrev pub of_each : (ThresholdCounter → ℕ) → CnErrorCounters → List ℕ
@@ -41,9 +42,9 @@ level_and_count c ns = c.threshold_cnt ∷ c.cumulative_cnt ∷ ns
 
 abbrev pub counters_shown : Head → List ℕ
 counters_shown h =
-    level_and_count h.errors.collision (level_and_count h.errors.loss_of_soc (level_and_count h.errors.loss_of_soa
-    (level_and_count h.errors.loss_of_preq (level_and_count h.errors.soc_jitter (level_and_count h.errors.crc_errors
-    (level_and_count h.errors.heartbeat_timeout (h.errors.loss_of_link_cumulative ∷ [])))))))
+    level_and_count h.errors.counters.collision (level_and_count h.errors.counters.loss_of_soc (level_and_count h.errors.counters.loss_of_soa
+    (level_and_count h.errors.counters.loss_of_preq (level_and_count h.errors.counters.soc_jitter (level_and_count h.errors.counters.crc_errors
+    (level_and_count h.errors.counters.heartbeat_timeout (h.errors.loss_of_link_cumulative ∷ [])))))))
 
 -- the last SoC, whether the check is on, the deadline, whether the error status changed
 abbrev pub soc_shown : Head → List ℕ

@@ -40,14 +40,15 @@ fn machines(head: &Head) -> [u64; 7]
 fn kinds(head: &Head) -> [ThresholdCounter; 7]
     ensures { result ≡ kinds_of (head_of head.now).errors }
 {
-    errors_of(head).each()
+    errors_of(head).counters.each()
 }
 
 // The level and the cumulative count of each kind, and the lost links: written out, as two numbers of a kind stand side by side.
 fn counters(head: &Head) -> [u64; 15]
     ensures { result ≡ counters_shown (head_of head.now) }
 {
-    let counters = errors_of(head);
+    let errors = errors_of(head);
+    let counters = errors.counters;
     [
         u64::from(counters.collision.threshold_cnt),
         u64::from(counters.collision.cumulative_cnt),
@@ -63,7 +64,7 @@ fn counters(head: &Head) -> [u64; 15]
         u64::from(counters.crc_errors.cumulative_cnt),
         u64::from(counters.heartbeat_timeout.threshold_cnt),
         u64::from(counters.heartbeat_timeout.cumulative_cnt),
-        u64::from(counters.loss_of_link_cumulative),
+        u64::from(errors.loss_of_link_cumulative),
     ]
 }
 

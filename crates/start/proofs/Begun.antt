@@ -14,9 +14,8 @@ use Rattle.types.specs.declared.refusals.Refusal.{Refusal}
 use Rattle.types.specs.declared.nmt.flags.FeatureFlags.{FeatureFlags}
 use Rattle.nmt.specs.Nmt as Nmt
 use Rattle.nmt.specs.declared.cn_state_machine.CnNmtStateMachine.{CnNmtStateMachine}
-use Rattle.counters.specs.Counters.{new_counters}
+use Rattle.counters.specs.Counters.{new_counters, Thresholds}
 use Rattle.counters.specs.declared.counters.CnErrorCounters.{CnErrorCounters}
-use Rattle.counters.specs.declared.counters.Thresholds.{Thresholds}
 use Rattle.head.specs.declared.state.Dictionary.{Dictionary}
 use Rattle.head.specs.Head.{dictionary}
 use Rattle.std.specs.declared.result.Result.{Result}

@@ -19,8 +19,7 @@ use Rattle.std.specs.declared.option.Option.TheVariants.{None}
 use Rattle.types.specs.declared.nmt.flags.FeatureFlags.{FeatureFlags}
 use Rattle.nmt.specs.Nmt as Nmt
 use Rattle.dll.specs.declared.cs_state_machine.DllCsState.TheVariants.{NonCyclic}
-use Rattle.counters.specs.Counters.{new_counters, thresholds_fit}
-use Rattle.counters.specs.declared.counters.Thresholds.{Thresholds}
+use Rattle.counters.specs.Counters.{new_counters, thresholds_fit, Thresholds}
 use Rattle.entries.proofs.Lists.{waiting_new, history_new}
 use Rattle.head.specs.declared.state.Dictionary.{Dictionary}
 use Rattle.head.specs.Head.{Head, soc_watch}

@@ -8,8 +8,7 @@ use Rattle.types.specs.declared.refusals.Refusal.TheVariants.{NodeNumber, QueueC
 use Rattle.types.specs.declared.nmt.flags.FeatureFlags.{FeatureFlags}
 use Rattle.nmt.specs.Nmt as Nmt
 use Rattle.dll.specs.Dll.{fresh_machine}
-use Rattle.counters.specs.Counters.{new_counters, thresholds_fit}
-use Rattle.counters.specs.declared.counters.Thresholds.{Thresholds}
+use Rattle.counters.specs.Counters.{new_counters, thresholds_fit, Thresholds}
 use Rattle.entries.specs.Queue.{queue}
 use Rattle.entries.specs.History.{error_history}
 use Rattle.std.specs.Result.{IfOk}

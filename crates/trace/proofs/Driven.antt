@@ -6,7 +6,7 @@ use mathlib.Core.List.{List, [], ◌∷◌, ◌++◌}
 use Rattle.types.specs.Refusals.{refusal_number}
 use Rattle.types.specs.declared.refusals.Refusal.{Refusal}
 use Rattle.types.specs.declared.nmt.flags.FeatureFlags.{FeatureFlags}
-use Rattle.counters.specs.declared.counters.Thresholds.{Thresholds}
+use Rattle.counters.specs.Counters.{Thresholds}
 use Rattle.head.specs.declared.state.Dictionary.{Dictionary}
 use Rattle.head.specs.Words.{head_of}
 use Rattle.watched.specs.Watched.{Run}

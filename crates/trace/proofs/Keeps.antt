@@ -7,10 +7,9 @@ use mathlib.Core.List.{List, [], ◌∷◌, ◌++◌}
 use native.Mathlib.Omega.{arith}
 use lib.ListN.{length, length-append}
 use Rattle.types.specs.Pick.{either}
-use Rattle.counters.specs.Counters.{counter, new_counter, top, threshold_for, thresholds_fit}
+use Rattle.counters.specs.Counters.{counter, new_counter, top, threshold_for, thresholds_fit, Thresholds}
 use Rattle.counters.specs.Marks.{is_crossing, count_of, level, E, N}
 use Rattle.counters.specs.declared.counters.CounterKind.{CounterKind}
-use Rattle.counters.specs.declared.counters.Thresholds.{Thresholds}
 use Rattle.counters.proofs.ByKind.{counter_new, limited}
 use Rattle.counters.proofs.Balance.{Balanced, balanced_none, balanced_then, FromZero, from_zero, count_append}
 use Rattle.std.specs.declared.option.Option.TheVariants.{None}

@@ -8,7 +8,7 @@ use Rattle.types.specs.Events.{read_event}
 use Rattle.types.specs.CsEvents.{read_cs_event}
 use Rattle.types.specs.Errors.{read_error}
 use Rattle.types.specs.declared.nmt.flags.FeatureFlags.{FeatureFlags}
-use Rattle.counters.specs.declared.counters.Thresholds.{Thresholds}
+use Rattle.counters.specs.Counters.{Thresholds}
 use Rattle.head.specs.declared.state.Dictionary.{Dictionary}
 use Rattle.head.specs.Words.{head_of}
 use Rattle.std.specs.declared.result.Result.{Result}

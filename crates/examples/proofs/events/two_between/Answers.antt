@@ -13,6 +13,6 @@ returns c =
     let f = next (begin two_between _ c.counting.ensures (holds 6) q m) (c.error_comes-lost.ensures q m) refl refl c.counting-2.ensures in
     let d = next f.1 (c.cycle_comes-lowered.ensures q m) refl refl c.counting-3.ensures in
     let g = next d.1 (c.cycle_comes-again.ensures q m) refl refl c.counting-4.ensures in
-    let u = c.raises_to.ensures.holds (ap (λ (e : CnErrorCounters). (incremented e.loss_of_soc).threshold_cnt) (counters_are _ q m _ g.1.whole)) in
+    let u = c.raises_to.ensures.holds (ap (λ (e : CnErrorCounters). (incremented e.counters.loss_of_soc).threshold_cnt) (counters_are _ q m _ g.1.whole)) in
     let s = next g.1 (c.error_comes.ensures q m) refl refl c.counting-5.ensures in
     record { head = s.0.whole; lent = s.0.lent; same = also (also (also (also f.0.same d.0.same) g.0.same) u) s.0.same }

@@ -2,9 +2,10 @@
 -- Assumes nothing.
 use Rattle.std.proofs.Common.{rules}
 use Rattle.counters.specs.Counters.{new_counter, threshold_for}
-use Rattle.counters.proofs.ByKind.{from_kinds}
+use Rattle.counters.proofs.ByKind.{from_each}
 use Rattle.counters.proofs.counters.CnErrorCounters.new.Goals as goal
 
 pub returns : goal.returns
 returns c =
-    from_kinds c.by_kind.result (λ k. new_counter (threshold_for k c.args.thresholds)) 0 (λ k. let h = c.by_kind.ensures.counters k in search rules) c.by_kind.ensures.links
+    let e = from_each c.new.result (λ k. new_counter (threshold_for k c.args.thresholds)) (λ k. let h = c.new.ensures k in search rules) in
+    λ i. record { counters = e i; loss_of_link_cumulative = 0 }

@@ -1,4 +1,4 @@
--- `counters::counters::Thresholds::is_within_limit` meets its contract: each of the seven passes the test.
+-- `counters::counters::ByKind<u32>::is_within_limit` meets its contract: each of the seven passes the test.
 -- Assumes nothing.
 use Rattle.std.proofs.Common.{rules, tests, map, ◌&&◌, ◌≡◌, ℕ, List, [], ◌∷◌, Bool, true, false}
 use mathlib.Core.Path.{refl, ◌∙◌}
@@ -7,17 +7,12 @@ use Rattle.std.specs.List.{list_all}
 use Rattle.std.proofs.lemmas.Iterator.{YieldsList-from_slice}
 use Rattle.std.proofs.lemmas.Iterator.Search.{all_from_yields_List}
 use Rattle.types.specs.Pick.{both}
-use Rattle.counters.specs.Counters.{counter_kinds, threshold_for, all_of, thresholds_fit}
+use Rattle.counters.specs.Counters.{counter_kinds, threshold_for, all_of, Thresholds, thresholds_fit}
 use Rattle.counters.specs.declared.counters.CounterKind.{CounterKind}
-use Rattle.counters.specs.declared.counters.Thresholds.{Thresholds}
-use Rattle.counters.proofs.counters.Thresholds.is_within_limit.Goals as goal
+use Rattle.counters.proofs.counters.ByKind+u32.is_within_limit.Goals as goal
 
 abbrev within : ℕ → Bool
 within n = leb n 1000000
-
-abbrev listed : Thresholds → List ℕ
-listed t =
-    t.collision ∷ t.loss_of_soc ∷ t.loss_of_soa ∷ t.loss_of_preq ∷ t.soc_jitter ∷ t.crc_errors ∷ t.heartbeat_timeout ∷ []
 
 by_both : (a : Bool) {b c : Bool} → b ≡ c → (a && b) ≡ both a c
 by_both true e = e
@@ -30,5 +25,5 @@ of_kinds t (k ∷ ks) = by_both (within (threshold_for k t)) (of_kinds t ks)
 pub returns : goal.returns
 unfolding thresholds_fit
 returns c =
-    all_from_yields_List within _ _ _ c.all.ensures.ran (YieldsList-from_slice (listed c.args.self) c.iter.ensures.rest) (λ x b q k. search (rules, tests)) ∙
+    all_from_yields_List within _ _ _ c.all.ensures.ran (YieldsList-from_slice (map (λ k. threshold_for k c.args.self) counter_kinds) (c.iter.ensures.rest ∙ c.each.ensures)) (λ x b q k. search (rules, tests)) ∙
     of_kinds c.args.self counter_kinds
