@@ -60,14 +60,10 @@ fn beat(head: &mut Head, node: u64) -> Dealt
 {
     let node_id = NodeId(node as u8);
     let answer = handled(head, DllError::HeartbeatTimeout { node_id });
-    let action = answer.action;
-    let ended = acts(action);
-    let logged = answer.logged;
     if answer.signal {
         signal(head);
-        return finish(head, logged, ended);
     }
-    finish(head, logged, ended)
+    finish(head, answer.logged, acts(answer.action))
 }
 
 // The errors of the late nodes, ascending: the first whose handling brings an action ends the walk. The nodes are those before the look.

@@ -1,14 +1,21 @@
 -- `heartbeats::heartbeats::beat` meets its contract: counted, and registered on a signal.
 -- Assumes nothing.
+use Prim.Native.Nat.{ℕ}
+use mathlib.Core.Path.{subst}
+use mathlib.Core.List.{List}
+use Rattle.heartbeats.specs.PartsIn.{FinishesIn}
 use Rattle.heartbeats.proofs.Beatings.{beat_loud, beat_quiet}
 use Rattle.heartbeats.proofs.heartbeats.beat.Goals as goal
-
-pub returns-then-answer : goal.returns-then-answer
-returns-then-answer c =
-    λ w x. beat_loud c.args.head.now c.told-head c.args.node c.handled-answer.result c.handled-answer.ensures.0 _ c.handled-answer.ensures.1 c.acts-ended.result c.acts-ended.ensures c.finish.result _ w x
-    c.if-answer.true _ c.signal.ensures c.finish.ensures
+use Rattle.heartbeats.proofs.heartbeats.beat.Goals.{then-answer, else-answer}
 
 pub returns : goal.returns
 returns c =
-    λ w x. beat_quiet c.args.head.now c.told-head c.args.node c.handled-answer.result c.handled-answer.ensures.0 _ c.handled-answer.ensures.1 c.acts-ended.result c.acts-ended.ensures c.finish-2.result _ w x
-    c.if-answer.false c.finish-2.ensures
+    let a = c.args in
+    λ w x. elim c.if-answer.branch [
+      | then-answer y ↦
+          beat_loud a.head.now c.told-head a.node c.handled-answer.result c.handled-answer.ensures.0 _ c.handled-answer.ensures.1 c.acts.result c.acts.ensures c.finish.result _ w x
+          y.if-answer.true _ y.signal.ensures (subst (λ (ws : List ℕ). FinishesIn ws c.handled-answer.result.logged c.acts.result c.finish.result c.finish.new.head) y.head-is c.finish.ensures)
+      | else-answer y ↦
+          beat_quiet a.head.now c.told-head a.node c.handled-answer.result c.handled-answer.ensures.0 _ c.handled-answer.ensures.1 c.acts.result c.acts.ensures c.finish.result _ w x
+          y.if-answer.false (subst (λ (ws : List ℕ). FinishesIn ws c.handled-answer.result.logged c.acts.result c.finish.result c.finish.new.head) y.head-is c.finish.ensures)
+    ]
