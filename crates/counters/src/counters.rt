@@ -192,9 +192,7 @@ impl ByKind<u32> {
     pub fn is_within_limit(self) -> bool
         ensures { result ≡ thresholds_fit self }
     {
-        self.each()
-            .iter()
-            .all(|threshold| *threshold <= 1_000_000)
+        self.each().iter().all(|threshold| *threshold <= 1_000_000)
     }
 }
 
