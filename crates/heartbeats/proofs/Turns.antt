@@ -99,14 +99,22 @@ module _ (ws : List ℕ) (long : length ws ≡ 60) (ws' : List ℕ) where
         words = w ∙ sym f;
       }
 
+  -- counter 5 is raised behind the writes of flag and register, which leave it
+  counter_kept : (r : ℕ) → word (set (set ws at.changed 1) at.register r) at.counter5 ≡ word ws at.counter5
+  counter_kept r = whole (λ ws. word (set (set ws at.changed 1) at.register r) at.counter5 ≡ word ws at.counter5) ws long refl
+
   pub signal_even :
       word ws at.register % 256 % 2 ≡ 0 →
-      ws' ≡ set (set (set ws at.changed 1) at.register (word ws at.register % 256 + 1)) at.counter5 (one_more (word ws at.counter5)) →
+      (mid : List ℕ) → mid ≡ set (set ws at.changed 1) at.register (word ws at.register % 256 + 1) →
+      ws' ≡ set mid at.counter5 (one_more (word mid at.counter5)) →
       Turns ws signalled ws' (signal_words ws)
-  signal_even h w =
+  signal_even h mid m w =
+      let r : ℕ = word ws at.register % 256 + 1 in
       let t : is_even (word ws at.register % 256) ≡ true = eq-eqb (word ws at.register % 256 % 2) 0 h in
-      let fits : (word ws at.register % 256 + 1) % 256 ≡ word ws at.register % 256 + 1 = omega arith in
-      signals _ _ _ true t (signal_written ws long _ _) fits refl (rw t) w
+      let fits : r % 256 ≡ r = omega arith in
+      signals _ _ _ true t (signal_written ws long _ _) fits refl (rw t)
+      (w ∙ ap (λ (l : List ℕ). set l at.counter5 (one_more (word l at.counter5))) m
+      ∙ ap (λ (n : ℕ). set (set (set ws at.changed 1) at.register r) at.counter5 (one_more n)) (counter_kept r))
 
   pub signal_odd : (word ws at.register % 256 % 2 ≡ 0 → ⊥) → ws' ≡ set ws at.changed 1 → Turns ws signalled ws' (signal_words ws)
   signal_odd h w =

@@ -7,7 +7,7 @@ ghost use Rattle.heartbeats.specs.PartWords.{signal_words, event_words};
 ghost use Rattle.heartbeats.specs.PartsIn.{Turns, FinishesIn};
 
 use head::parts::{
-    check_off, nmt_of, register_of, set_changed, set_nmt, set_register, set_statistic, statistic_of,
+    check_off, increment_counter, nmt_of, register_of, set_changed, set_nmt, set_register,
 };
 use head::state::{Head, Statistic};
 use types::frame::error::types::{DllErrors, NmtAction};
@@ -25,18 +25,11 @@ pub fn signal(head: &mut Head)
     ensures { Turns head.old signalled head.new (signal_words head.old) }
 {
     let register = register_of(head);
-    let counter = statistic_of(head, Statistic::Counter5);
-    if register % 2 == 0 {
-        set_changed(head);
-        set_register(head, register + 1);
-        set_statistic(
-            head,
-            Statistic::Counter5,
-            std::num::wrapping_add_u32(counter, 1),
-        );
-        return;
-    }
     set_changed(head);
+    if register % 2 == 0 {
+        set_register(head, register + 1);
+        increment_counter(head, Statistic::Counter5);
+    }
 }
 
 // An NMT event in a tick; the check goes off. Not public, since it forgets nothing where the event is a reset: a tick has Error (`finish`) and
@@ -64,13 +57,20 @@ pub struct Dealt {
     pub ended: bool,
 }
 
+impl Dealt {
+    // Nothing was logged, and nothing ends the tick.
+    pub const GOES_ON: Dealt = Dealt {
+        logged: DllErrors::None,
+        ended: false,
+    };
+}
+
 // An action ends the tick with event Error.
 pub fn finish(head: &mut Head, logged: DllErrors, ended: bool) -> Dealt
     ensures { FinishesIn head.old logged ended result head.new }
 {
     if ended {
         event_in_tick(head, NmtEvent::Error);
-        return Dealt { logged, ended };
     }
     Dealt { logged, ended }
 }

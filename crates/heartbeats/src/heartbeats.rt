@@ -14,7 +14,7 @@ use crate::dealt::{Dealt, acts, finish, signal};
 use head::state::Head;
 use node::calls::handled;
 use node::timing::time_since;
-use types::frame::error::types::{DllError, DllErrors};
+use types::frame::error::types::DllError;
 use types::types::NodeId;
 use watched::nodes::{Formed, NEVER, NodeWords, moment, set_heard};
 use watched::record::NodeRecord;
@@ -71,10 +71,7 @@ pub fn beat_all(head: &mut Head, formed: Formed, time: u64) -> Dealt
     ensures { (q m : List ℕ) → TicksIn head.old q m (beat_all (plain (head_of head.old) q m) (late_ones time (watched_of (nodes_of formed.entry.nodes.now) formed.entry.count))) result head.new q m
         (beat_all_words head.old (late_ones time (watched_of (nodes_of formed.entry.nodes.now) formed.entry.count))) }
 {
-    let mut dealt = Dealt {
-        logged: DllErrors::None,
-        ended: false,
-    };
+    let mut dealt = Dealt::GOES_ON;
     'walk: for place in 0..formed.count {
         let node = NodeRecord::at(formed.nodes, place);
         if is_late(node, time) {

@@ -22,12 +22,6 @@ use types::frame::error::types::DllErrors;
 use types::nmt::states::NmtState;
 use watched::time::Time;
 
-// The tick goes on, or is over, with nothing logged.
-pub(crate) const GOES_ON: Dealt = Dealt {
-    logged: DllErrors::None,
-    ended: false,
-};
-
 fn with_deadline(head: &mut Head, deadline: Option<u64>)
     ensures { Turns head.old (λ p. with_deadline p deadline) head.new (deadline_written head.old deadline) }
 {
@@ -102,7 +96,7 @@ fn soc_check(head: &mut Head, queue: &mut [u8; 640], history: &mut [u8; 5080], t
         }
         within_limit(head, time);
     }
-    GOES_ON
+    Dealt::GOES_ON
 }
 
 fn at_not_active(head: &Head) -> bool
@@ -141,15 +135,15 @@ pub fn by_deadline(
         if at_not_active(head) {
             set_basic(head, time);
         }
-        return GOES_ON;
+        return Dealt::GOES_ON;
     };
     if time.us < at {
-        return GOES_ON;
+        return Dealt::GOES_ON;
     }
     with_deadline(head, None);
     if at_not_active(head) {
         time_out(head);
-        return GOES_ON;
+        return Dealt::GOES_ON;
     }
     soc_check(head, queue, history, time)
 }

@@ -10,7 +10,6 @@ ghost use Rattle.head.specs.Words.{head_of};
 ghost use Rattle.tick.specs.TickWords.{entry_words, deal_words, deal_all_words};
 ghost use Rattle.heartbeats.specs.PartsIn.{TicksIn};
 
-use crate::deadline::GOES_ON;
 use entries::error_history::write_error_to_history;
 use entries::status_response::ErrorEntry;
 use head::parts::{history_of, increment_counter, queue_of, set_history, set_queue};
@@ -75,7 +74,7 @@ pub(crate) fn deal_all(
     ensures { TicksIn head.old queue.old history.old (deal_all time (plain (head_of head.old) queue.old history.old) (reported errors)) result head.new queue.new history.new (deal_all_words head.old (reported errors)) }
 {
     match errors {
-        DllErrors::None => GOES_ON,
+        DllErrors::None => Dealt::GOES_ON,
         DllErrors::One(error) => deal(head, queue, history, error, time),
         DllErrors::Two(first, second) => {
             let dealt = deal(head, queue, history, first, time);

@@ -7,6 +7,6 @@ pub returns-then-ended : goal.returns-then-ended
 returns-then-ended c =
     ends_off c.args.head.now c.args.logged c.args.ended c.if-ended.true _ c.event_in_tick.ensures
 
-pub returns : goal.returns
-returns c =
+pub returns-else-ended : goal.returns-else-ended
+returns-else-ended c =
     ends_on c.args.head.now c.args.logged c.args.ended c.if-ended.false
