@@ -28,6 +28,16 @@ impl Write for Short {
 #[test]
 fn bytes_and_numbers_join(rt: HostRuntime) {
     let mut out = Output::new(Vec::new(rt.alloc()));
+    out.write(b"(entries ");
+    out.write_number(120);
+    out.write(b")\n");
+    assert!(rt; out.outcome.is_ok());
+    assert_eq!(rt; out.to.as_slice(), b"(entries 120)\n".as_slice());
+}
+
+#[test]
+fn formatted_text_joins(rt: HostRuntime) {
+    let mut out = Output::new(Vec::new(rt.alloc()));
     writeln!(out, "(entries {})", 120);
     assert!(rt; out.outcome.is_ok());
     assert_eq!(rt; out.to.as_slice(), b"(entries 120)\n".as_slice());
@@ -42,7 +52,7 @@ fn nothing_behind_a_failure(rt: HostRuntime) {
     assert!(rt; out.outcome.is_err());
     out.to.room = 9;
     out.write(b"h");
-    write!(out, "7");
+    out.write_number(7);
     assert_eq!(rt; out.to.room, 9);
     assert!(rt; out.end().is_err());
 }
@@ -50,6 +60,6 @@ fn nothing_behind_a_failure(rt: HostRuntime) {
 #[test]
 fn first_semicolon(rt: HostRuntime) {
     let text = b"a;b;c".as_slice();
-    assert_eq!(rt; find(&text[2..5], b';'), Some(1));
-    assert_eq!(rt; find(&text[4..5], b';'), None);
+    assert_eq!(rt; find(&text[2..5], b';').map_or(5, |at| 2 + at), 3);
+    assert_eq!(rt; find(&text[4..5], b';').map_or(5, |at| 4 + at), 5);
 }
