@@ -1,6 +1,6 @@
 // The watched nodes in lent words, three a node: its number, its timeout, when it was last heard. 32 places, of which the first so many are
 // watched.
-ghost use Rattle.std.specs.Prelude.{◌≡◌, ◌≤◌, ◌<◌, ◌+◌, ◌*◌, set, true};
+ghost use Rattle.std.specs.Prelude.{◌≡◌, ◌≤◌, ◌<◌, ◌+◌, ◌*◌, set, true, MatchOption};
 ghost use Rattle.watched.specs.Watched.{all_of, well_formed, watched_of};
 ghost use Rattle.watched.specs.Climb.{climbed, over, climb_of, climbed_of, heard_climbed, nodes_from};
 ghost use Rattle.watched.specs.Nodes.{never, moment_of, climbing, numbered, roused_from, nodes_tried, found_of, seen_of, node_of, nodes_of};
@@ -36,10 +36,7 @@ pub const NEVER: u64 = 18446744073709551615;
 pub fn moment(soonest: u64) -> Option<u64>
     ensures { result ≡ moment_of soonest }
 {
-    if soonest == NEVER {
-        return None;
-    }
-    Some(soonest)
+    (soonest != NEVER).then_some(soonest)
 }
 
 // The time of the node at a place.
@@ -86,6 +83,34 @@ struct Ahead<'a> {
 }
 
 impl<'a> Ahead<'a> {
+    // All watched nodes, where they are at most 32. Inlined as it stands: else the compiler makes one case of both by selects, which slows the walks.
+    #[inline(always)]
+    fn all(nodes: &'a NodeWords, count: usize) -> Option<Self>
+        ensures { MatchOption result (32 < count) (λ a. (a.nodes.now ≡ nodes.now) × (a.count ≡ count) × (a.place ≡ 0) × (a.last ≡ 0)) }
+    {
+        if 32 < count {
+            return None;
+        }
+        Some(Ahead {
+            nodes,
+            count,
+            place: 0,
+            last: 0,
+        })
+    }
+
+    // The nodes from another place on, where `last` is the number before them.
+    fn behind(self, place: usize, last: u64) -> Self
+        ensures { (result.nodes.now ≡ self.entry.nodes.now) × (result.count ≡ self.entry.count) × (result.place ≡ place) × (result.last ≡ last) }
+    {
+        Ahead {
+            nodes: self.nodes,
+            count: self.count,
+            place,
+            last,
+        }
+    }
+
     // Walks the nodes as long as their numbers climb and none is the one sought. What is asked of their times is asked of all together, behind the walk: it
     // has no other test, and is as fast whatever the times are.
     fn climb(self, sought: u64) -> Climbed
@@ -156,12 +181,7 @@ impl<'a> Ahead<'a> {
             last_heard: time,
             ..node
         };
-        let rest = Ahead {
-            nodes: self.nodes,
-            count: self.count,
-            place: self.place + 1,
-            last: node.node,
-        };
+        let rest = self.behind(self.place + 1, node.node);
         rest.climb_from(heard.sooner(before))
     }
 
@@ -190,15 +210,7 @@ impl<'a> Ahead<'a> {
 pub fn try_nodes(nodes: &NodeWords, count: usize) -> Option<Option<u64>>
     ensures { result ≡ nodes_tried (watched_of (nodes_of nodes.now) count) }
 {
-    if 32 < count {
-        return None;
-    }
-    let all = Ahead {
-        nodes,
-        count,
-        place: 0,
-        last: 0,
-    };
+    let all = Ahead::all(nodes, count)?;
     let soonest = all.climb_from(NEVER)?;
     if !all.have_numbers() {
         return None;
@@ -225,25 +237,12 @@ pub fn well_formed(nodes: &NodeWords, count: usize) -> bool
 pub fn find(nodes: &NodeWords, count: usize, node: u64, time: u64) -> Option<(usize, u64)>
     ensures { result ≡ found_of node time (watched_of (nodes_of nodes.now) count) }
 {
-    if 32 < count {
-        return None;
-    }
-    let all = Ahead {
-        nodes,
-        count,
-        place: 0,
-        last: 0,
-    };
+    let all = Ahead::all(nodes, count)?;
     let front = all.climb(node);
     if !in_time(front.times) {
         return None;
     }
-    let rest = Ahead {
-        nodes,
-        count,
-        place: front.place,
-        last: front.last,
-    };
+    let rest = all.behind(front.place, front.last);
     let soonest = rest.hear_first(front.soonest.saturating_add(3), time)?;
     if !all.have_numbers() {
         return None;
@@ -263,9 +262,7 @@ pub enum Seen {
 pub fn look(nodes: &NodeWords, count: usize, time: u64) -> Option<Seen>
     ensures { result ≡ seen_of time (watched_of (nodes_of nodes.now) count) }
 {
-    if 32 < count {
-        return None;
-    }
+    let all = Ahead::all(nodes, count)?;
     let mut last: u64 = 0;
     let mut soonest = NEVER;
     for i in 0..count {
@@ -274,13 +271,7 @@ pub fn look(nodes: &NodeWords, count: usize, time: u64) -> Option<Seen>
             return None;
         }
         let Some(until) = node.rest_until(soonest, time) else {
-            let rest = Ahead {
-                nodes,
-                count,
-                place: i,
-                last,
-            };
-            return Some(Seen::Roused(rest.roused(time)?));
+            return Some(Seen::Roused(all.behind(i, last).roused(time)?));
         };
         soonest = until;
         last = node.node;
