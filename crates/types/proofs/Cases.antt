@@ -5,12 +5,9 @@ use Prim.Native.Nat.{ℕ, zero, suc}
 use mathlib.Core.Path.{◌≡◌, refl, ap, sym, subst, ◌∙◌}
 use mathlib.Core.List.{List, [], ◌∷◌, map}
 use mathlib.Core.Logic.{inl, inr}
-use mathlib.Core.Bool.{Bool, true, false}
-use lib.Dec.{eqb}
 use lib.ListN.{get_or, get_or-map}
 use types.Run.{OneOf}
 use denote.Enum.Declared.{tag_of}
-use Rattle.types.specs.Pick.{pick}
 use Rattle.types.specs.States.{states}
 use Rattle.types.specs.Events.{events}
 use Rattle.types.specs.CsEvents.{cs_events}
@@ -33,10 +30,10 @@ use Rattle.types.specs.contracts.nmt.events.NmtEvent as NmtEventType
 use Rattle.types.specs.contracts.types.MessageType as MessageTypeType
 use Rattle.types.specs.contracts.frame.error.kinds.DllErrorKind as DllErrorKindType
 
-first_same : {B : Type 0} {a b : B} {xs ys : List B} → a ∷ xs ≡ b ∷ ys → a ≡ b
+pub first_same : {B : Type 0} {a b : B} {xs ys : List B} → a ∷ xs ≡ b ∷ ys → a ≡ b
 first_same e = cc
 
-rest_same : {B : Type 0} {a b : B} {xs ys : List B} → a ∷ xs ≡ b ∷ ys → xs ≡ ys
+pub rest_same : {B : Type 0} {a b : B} {xs ys : List B} → a ∷ xs ≡ b ∷ ys → xs ≡ ys
 rest_same e = cc
 
 -- where g and f agree at each of the keys, they agree at a number that is one of them
@@ -46,25 +43,12 @@ at_keys g f (k ∷ []) n e h = ap g h ∙ first_same e ∙ ap f (sym h)
 at_keys g f (k ∷ j ∷ ks) n e (inl h) = ap g h ∙ first_same e ∙ ap f (sym h)
 at_keys g f (k ∷ j ∷ ks) n e (inr h) = at_keys g f (j ∷ ks) n (rest_same e) h
 
--- the numbers of a list of which a test does not hold
-abbrev out : (ℕ → Bool) → List ℕ → List ℕ
-out t [] = []
-out t (k ∷ ks) = pick (t k) (out t ks) (k ∷ out t ks)
-
-abbrev among : List ℕ → ℕ → Bool
-among [] k = false
-among (j ∷ js) k = pick (eqb j k) true (among js k)
-
 -- an enum: the position of an item, all items in order, and that an item is the one at its position
 pub record Enum (A : Type 0) : Type 0 where
   pub position : A → ℕ
   pub first : A
   pub items : List A
   pub back : (x : A) → get_or items (position x) first ≡ x
-
--- the keys of an arm that takes all but some items
-abbrev pub keys_but : {A : Type 0} → Enum A → List A → List ℕ
-keys_but E xs = out (among (map E.position xs)) (map E.position E.items)
 
 module _ {A B : Type 0} (E : Enum A) (g f : A → B) where
   -- an arm of several variants: what holds at each of its keys holds at the value

@@ -1,32 +1,16 @@
--- Laws of `read_by`, for any list of things with numbers: what a number that names nothing gives, and what holds of an answer because it holds
--- of the answer of each thing.
+-- Laws of `read_by`, for any list of things with numbers: what holds of an answer because it holds of the answer of each
+-- thing.
 -- Assumes nothing.
 use Prim.Native.Nat.{ℕ}
 use mathlib.Core.Path.{◌≡◌, refl, ap}
-use mathlib.Core.List.{List, [], ◌∷◌, map}
+use mathlib.Core.List.{List, [], ◌∷◌}
 use mathlib.Core.Bool.{Bool, true, false}
 use lib.Dec.{eqb}
-use borrow.Author.Tests.{ne_eqb, eqb-true}
+use borrow.Author.Tests.{eqb-true}
 use Rattle.std.specs.List.{AllByRecursion}
 use Rattle.types.specs.Pick.{pick, read_by}
 
--- what the last arm of a `match` on n is told: P, and that n is none of the keys
-abbrev pub NoneOf : Type 0 → List ℕ → ℕ → Type 0
-NoneOf P [] n = P
-NoneOf P (k ∷ ks) n = NoneOf (P × (n ≡ k → ⊥)) ks n
-
-none_told : (P : Type 0) (ks : List ℕ) (n : ℕ) → NoneOf P ks n → P
-none_told P [] n h = h
-none_told P (k ∷ ks) n h = (none_told (P × (n ≡ k → ⊥)) ks n h).0
-
 module _ {A R : Type 0} (number : A → ℕ) (taken : A → R) (none : R) where
-  pub reads_none :
-      (P : Type 0) (xs : List A) (n : ℕ) → NoneOf P (map number xs) n → none ≡ read_by number taken none xs n
-  reads_none P [] n h = refl
-  reads_none P (x ∷ xs) n h =
-      rw (ne_eqb n (number x) (none_told (P × (n ≡ number x → ⊥)) (map number xs) n h).1)
-      (reads_none (P × (n ≡ number x → ⊥)) xs n h)
-
   -- what holds of `none`, and of each thing's number and answer, holds of a number and its answer
   pub reads_holds :
       (P : ℕ → R → Type 0) (xs : List A) (n : ℕ) →

@@ -1,4 +1,4 @@
--- What a test that holds says of its parts.
+-- What a test that holds says of its parts, and a test beside one that is known.
 -- Assumes nothing.
 use mathlib.Core.Path.{◌≡◌, refl}
 use mathlib.Core.Bool.{Bool, true, false}
@@ -13,6 +13,14 @@ pub both_second : (a b : Bool) → both a b ≡ true → b ≡ true
 both_second true b h = h
 both_second false true h = refl
 both_second false false h = h
+
+pub both_false : (b : Bool) → both b false ≡ false
+both_false true = refl
+both_false false = refl
+
+pub both_true : (b : Bool) → both b true ≡ b
+both_true true = refl
+both_true false = refl
 
 pub either_cases : (a b : Bool) → either a b ≡ true → (a ≡ true) ⊎ (b ≡ true)
 either_cases true b h = inl refl

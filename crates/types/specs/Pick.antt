@@ -1,4 +1,4 @@
--- A choice by a test, and the reading of a number by a list of the things that have numbers.
+-- A choice by a test, tests of a list, and the reading of a number by a list of the things that have numbers.
 -- Assumes nothing.
 use Rattle.std.specs.Prelude.{ℕ, List, [], ◌∷◌, Bool, true, false, eqb}
 
@@ -12,6 +12,15 @@ both a b = pick a b false
 
 abbrev pub either : Bool → Bool → Bool
 either a b = pick a true b
+
+-- every item of the list passes the test, some item does: by `both` and `either`, the words of the tests here, which std's are not by computation
+abbrev pub all_of : {A : Type 0} → (A → Bool) → List A → Bool
+all_of p [] = true
+all_of p (x ∷ xs) = both (p x) (all_of p xs)
+
+abbrev pub any_of : {A : Type 0} → (A → Bool) → List A → Bool
+any_of p [] = false
+any_of p (x ∷ xs) = either (p x) (any_of p xs)
 
 -- the answer for the first thing of the list that has the number n; `none` where no thing has it
 abbrev pub read_by : {A R : Type 0} → (A → ℕ) → (A → R) → R → List A → ℕ → R
