@@ -272,15 +272,10 @@ pub fn handed_out(entry: Option<ErrorEntry>, numbers: &mut Numbers, bytes: &mut 
     *bytes = entry.map_or([0; 20], ErrorEntry::serialize);
 }
 
-// Of a range: 1 at the place of the verdict, in the places of the states.
 fn put_verdict(numbers: &mut Numbers, verdict: SocVerdict)
     ensures { numbers.new ≡ verdict_put numbers.old verdict }
 {
-    match verdict {
-        SocVerdict::Lost => numbers[STATES] = 1,
-        SocVerdict::Kept => numbers[STATES + 1] = 1,
-        SocVerdict::Open => numbers[STATES + 2] = 1,
-    }
+    numbers[STATES + verdict as usize] = 1;
 }
 
 fn put_margin(numbers: &mut Numbers, margin: i64)
