@@ -62,17 +62,20 @@ named_thresholds ns =
 abbrev pub thresholds_of : Bool → List ℕ → Thresholds
 thresholds_of named ns = pick named (named_thresholds ns) (same_for_all 15)
 
--- what a start is given
-abbrev pub setup_of : Bool → List ℕ → Setup
-setup_of named ns =
+-- what a start is given, with its thresholds
+abbrev pub setup_with : Thresholds → List ℕ → Setup
+setup_with thresholds ns =
     record {
       node = byte_of (at ns 0);
       feature_flags = flags (word_of (at ns 1));
       basic_ethernet_timeout = word_of (at ns 2);
       queue_capacity = at ns 3;
       od = dictionary_of ns;
-      thresholds = thresholds_of named ns;
+      thresholds = thresholds;
     }
+
+abbrev pub setup_of : Bool → List ℕ → Setup
+setup_of named ns = setup_with (thresholds_of named ns) ns
 
 -- a number that a load names
 abbrev pub named : ℕ → Option ℕ

@@ -1,6 +1,6 @@
 // The numbers of a line as the values that its call takes.
 ghost use Rattle.std.specs.Prelude.{◌≡◌, ◌≤◌};
-ghost use Rattle.calls.specs.Values.{at, byte_of, half_of, word_of, object_of, dictionary_of, named_thresholds, thresholds_of, setup_of, named, updates_of, entry_of};
+ghost use Rattle.calls.specs.Values.{at, byte_of, half_of, word_of, object_of, dictionary_of, named_thresholds, setup_with, named, updates_of, entry_of};
 
 use answers::NOTHING;
 use counters::counters::Thresholds;
@@ -57,7 +57,7 @@ fn dictionary(given: Given) -> Dictionary
 }
 
 // The thresholds that a start names.
-fn named_thresholds(given: Given) -> Thresholds
+pub fn named_thresholds(given: Given) -> Thresholds
     ensures { result ≡ named_thresholds given }
 {
     Thresholds {
@@ -71,20 +71,9 @@ fn named_thresholds(given: Given) -> Thresholds
     }
 }
 
-// Those of a start: 15 each where it names none.
-fn thresholds(named: bool, given: Given) -> Thresholds
-    ensures { result ≡ thresholds_of named given }
-{
-    if named {
-        named_thresholds(given)
-    } else {
-        Thresholds::same_for_all(15)
-    }
-}
-
-// What a start is given; it may name thresholds.
-pub fn setup(named: bool, given: Given) -> Setup
-    ensures { result ≡ setup_of named given }
+// What a start is given, with its thresholds.
+pub fn setup(thresholds: Thresholds, given: Given) -> Setup
+    ensures { result ≡ setup_with thresholds given }
 {
     Setup {
         node: byte(given[0]),
@@ -92,7 +81,7 @@ pub fn setup(named: bool, given: Given) -> Setup
         basic_ethernet_timeout: word(given[2]),
         queue_capacity: given[3],
         od: dictionary(given),
-        thresholds: thresholds(named, given),
+        thresholds,
     }
 }
 

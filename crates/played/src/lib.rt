@@ -2,8 +2,8 @@
 // number; and the bytes of the desk's buffer.
 #![tactic(auto)]
 
-ghost use Rattle.std.specs.Prelude.{◌≡◌, false, [], replicate, take};
-ghost use Rattle.calls.specs.Values.{at, entry_of};
+ghost use Rattle.std.specs.Prelude.{◌≡◌, Bool, false, [], replicate, take};
+ghost use Rattle.calls.specs.Values.{at, entry_of, thresholds_of};
 ghost use Rattle.calls.specs.Calls.{Starts, write_numbers};
 ghost use Rattle.entries.specs.Desk.{write_reply};
 ghost use Rattle.session.specs.Session.{lent_number};
@@ -11,7 +11,8 @@ ghost use Rattle.played.specs.Played.{started_by, numbered_by, Changes, Keeps, d
 
 use answers::Numbers;
 use arrayvec::ArrayVec;
-use calls::values::{byte, setup};
+use calls::values::{byte, named_thresholds, setup};
+use counters::counters::Thresholds;
 use head::state::Head;
 use node::heard::heard;
 use partners::{add, remove};
@@ -88,8 +89,8 @@ impl Station {
         }
     }
 
-    fn start(&mut self, named: bool, given: Given)
-        ensures starts { Starts self.old.head self.old.places.nodes (lent_number self.old.session) named given self.new.answer self.new.head self.new.places.nodes }
+    fn start(&mut self, thresholds: Thresholds, given: Given)
+        ensures starts { (named : Bool) → thresholds ≡ thresholds_of named given → Starts self.old.head self.old.places.nodes (lent_number self.old.session) named given self.new.answer self.new.head self.new.places.nodes }
         ensures session { self.new.session ≡ started_by self.old.session (at self.new.answer 0) }
         ensures keeps { Keeps self.old self.new }
     {
@@ -98,7 +99,7 @@ impl Station {
             &mut self.head,
             &mut self.places.nodes,
             lent,
-            setup(named, given),
+            setup(thresholds, given),
         );
         if said.is_ok() {
             self.session.started = true;
@@ -156,8 +157,8 @@ impl Station {
                 &mut self.answer,
             ),
             b'i' => self.desk.write(given, &mut self.answer),
-            b'S' => self.start(false, given),
-            b'T' => self.start(true, given),
+            b'S' => self.start(Thresholds::same_for_all(15), given),
+            b'T' => self.start(named_thresholds(given), given),
             b'j' | b'x' => self.change(key == b'j', given),
             b's' | b'q' | b'k' => calls::reading(key, given[0], &mut self.answer),
             _ => calls::on_head(key, given, &mut self.head, &mut self.answer),

@@ -1,6 +1,6 @@
 -- `played::Station::play` meets its contract: each key, with the number that the session lends.
 -- Assumes nothing.
-use Rattle.std.proofs.Common.{rules, ◌∙◌}
+use Rattle.std.proofs.Common.{rules, ◌∙◌, true, false}
 use Rattle.calls.proofs.Making.{made}
 use Rattle.played.specs.Played.{heard, tick, load, entrywrite, start, start_named, change, reading, on_head}
 use Rattle.played.proofs.Ticking.{ticked}
@@ -24,11 +24,11 @@ returns-in-105-clause-plays c =
 
 pub returns-in-83-clause-plays : goal.returns-in-83-clause-plays
 returns-in-83-clause-plays c =
-    rw (c.start.ensures.keeps.0, c.start.ensures.keeps.1, c.start.ensures.keeps.3) (start c.in-83.is c.start.ensures.starts c.start.ensures.session)
+    rw (c.start.ensures.keeps.0, c.start.ensures.keeps.1, c.start.ensures.keeps.3) (start c.in-83.is (c.start.ensures.starts false c.same_for_all.ensures) c.start.ensures.session)
 
 pub returns-in-84-clause-plays : goal.returns-in-84-clause-plays
 returns-in-84-clause-plays c =
-    rw (c.start-in-84.ensures.keeps.0, c.start-in-84.ensures.keeps.1, c.start-in-84.ensures.keeps.3) (start_named c.in-84.is c.start-in-84.ensures.starts c.start-in-84.ensures.session)
+    rw (c.start-in-84.ensures.keeps.0, c.start-in-84.ensures.keeps.1, c.start-in-84.ensures.keeps.3) (start_named c.in-84.is (c.start-in-84.ensures.starts true c.named_thresholds.ensures) c.start-in-84.ensures.session)
 
 pub returns-in-106-clause-plays : goal.returns-in-106-clause-plays
 returns-in-106-clause-plays c =
