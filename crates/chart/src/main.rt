@@ -4,7 +4,6 @@
 ghost use Rattle.std.specs.Prelude.{◌≡◌, true, false};
 ghost use Rattle.nmt.specs.Table.{standing, ruled};
 
-use forms::hex::HexByte;
 use forms::output::Output;
 use head::parts::{nmt_of, set_nmt};
 use nmt::cn_state_machine::{CnNmtStateMachine, Position};
@@ -133,9 +132,9 @@ fn is_unexpected(state: NmtState, event: NmtEvent) -> bool
 fn print_state(out: &mut Output, state: NmtState) {
     write!(
         out,
-        "\n## {}, {}\n\n| event | neither | ready | enabled | enabled and ready | transition |\n|---|---|---|---|---|---|\n",
+        "\n## {}, {:#04X}\n\n| event | neither | ready | enabled | enabled and ready | transition |\n|---|---|---|---|---|---|\n",
         Name(state),
-        HexByte(state.as_u8())
+        state.as_u8()
     );
     for event in NmtEvent::ALL {
         if !is_unexpected(state, event) {

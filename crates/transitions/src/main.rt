@@ -7,7 +7,6 @@ ghost use Rattle.transitions.specs.Pairs.{machine_of};
 
 use dll::cs_state_machine::{DllCsState, DllCsStateMachine};
 use forms::errors::ErrorsForm;
-use forms::hex::HexByte;
 use forms::output::Output;
 use nmt::cn_state_machine::{CnNmtStateMachine, Position};
 use nmt::state_machine::{IndexRange, ResetSequence, is_reset};
@@ -20,7 +19,7 @@ use types::types::NodeId;
 
 fn say_states(out: &mut Output, states: &[NmtState]) {
     for state in states {
-        write!(out, " {}", HexByte(state.as_u8()));
+        write!(out, " {:#04X}", state.as_u8());
     }
 }
 
@@ -42,8 +41,8 @@ fn say_reset(out: &mut Output, reset: ResetSequence) {
 fn say_machine(out: &mut Output, machine: CnNmtStateMachine) {
     write!(
         out,
-        "{} (enabled {}) (ready {}))",
-        HexByte(machine.current_state.as_u8()),
+        "{:#04X} (enabled {}) (ready {}))",
+        machine.current_state.as_u8(),
         u8::from(machine.ready_to_operate_enabled),
         u8::from(machine.app_ready)
     );
@@ -97,10 +96,10 @@ fn print_dll_event(
     let answer = DllCsStateMachine { state }.process_event(event, nmt, expected);
     writeln!(
         out,
-        "(dll (at {}) (event {}) (nmt {}) (expected {}) (to {}) (errors{}))",
+        "(dll (at {}) (event {}) (nmt {:#04X}) (expected {}) (to {}) (errors{}))",
         state.as_u8(),
         event.as_u8(),
-        HexByte(nmt.as_u8()),
+        nmt.as_u8(),
         u8::from(expected),
         answer.machine.current_state().as_u8(),
         ErrorsForm(answer.errors)
