@@ -3,7 +3,7 @@ ghost use Rattle.watched.specs.Watched.{run};
 ghost use Rattle.node.specs.Heard.{HeardOn};
 ghost use Rattle.start.specs.Started.{StartedOn};
 
-use crate::run::{Setting, ask, for_heard, settle, survey};
+use crate::run::{Setting, for_heard, for_nodes, settle, survey};
 use head::parts::set_earliest;
 use head::state::Head;
 use node::heard::try_heard;
@@ -38,7 +38,7 @@ pub fn start(
     ensures { StartedOn head.old (run nodes.old number) setup.node setup.feature_flags setup.basic_ethernet_timeout setup.queue_capacity setup.od setup.thresholds result head.new (run nodes.new number) }
 {
     let setting = Setting::Unheard;
-    let formed = survey(nodes, number, ask(setting)).is_some();
+    let formed = survey(nodes, number, for_nodes(setting)).is_some();
     begin(head, setup, formed)?;
     settle(nodes, number, setting);
     Ok(())

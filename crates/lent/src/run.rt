@@ -2,7 +2,7 @@
 ghost use Rattle.std.specs.Prelude.{◌≡◌};
 ghost use Rattle.watched.specs.Nodes.{sooner_by};
 ghost use Rattle.lentlaws.specs.Scan.{scanned};
-ghost use Rattle.lent.specs.Runs.{asked_for, for_heard, for_tick, tried_by, beaten_by, found_by, surveyed, settled, settling_of, set_next, settled_all};
+ghost use Rattle.lent.specs.Runs.{sought_from, asked_for, for_heard, for_tick, tried_by, beaten_by, found_by, surveyed, settled, settling_of, set_next, settled_all};
 
 use counters::counters::{CounterKind, ThresholdCounter};
 use head::parts::{counter_of, state_at};
@@ -55,53 +55,55 @@ pub struct Settling {
     pub setting: Setting,
 }
 
-// Of the nodes alone, before the first place.
-pub fn ask(setting: Setting) -> Findings
-    ensures { result ≡ asked_for setting }
+// Before the first place.
+pub fn ask(node: u8, time: u64, setting: Setting, counter: ThresholdCounter) -> Findings
+    ensures { result ≡ sought_from node time setting counter }
 {
     Findings {
-        node: 0,
-        time: 0,
+        node,
+        time,
         setting,
         tried: Some(0),
         watched: false,
         after: true,
         beats: Beats {
-            counter: ThresholdCounter::new(0),
+            counter,
             crossed: None,
         },
         soonest: NEVER,
     }
 }
 
+// Of the nodes alone.
+pub(crate) fn for_nodes(setting: Setting) -> Findings
+    ensures { result ≡ asked_for setting }
+{
+    ask(0, 0, setting, ThresholdCounter::new(0))
+}
+
 // Of a node too, heard at a time; where it is 0, the soonest moment is that of the others.
 pub fn for_heard(node: u8, time: u64) -> Findings
     ensures { result ≡ for_heard node time }
 {
-    Findings {
+    ask(
         node,
-        ..ask(Setting::Heard(node, time))
-    }
+        0,
+        Setting::Heard(node, time),
+        ThresholdCounter::new(0),
+    )
 }
 
 // Of a time too, with the head's heartbeat counter; the times are set where heartbeats are checked.
 pub fn for_tick(head: &Head, time: u64) -> Findings
     ensures { result ≡ for_tick head.now time }
 {
-    let beats = Beats {
-        counter: counter_of(head, CounterKind::HeartbeatTimeout),
-        crossed: None,
-    };
+    let counter = counter_of(head, CounterKind::HeartbeatTimeout);
     let setting = if checks_heartbeats(state_at(head)) {
         Setting::Looked(time)
     } else {
         Setting::Nothing
     };
-    Findings {
-        time,
-        beats,
-        ..ask(setting)
-    }
+    ask(0, time, setting, counter)
 }
 
 // A node with a higher number than the last, and within its limits.
