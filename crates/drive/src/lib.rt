@@ -172,7 +172,6 @@ fn lend(nodes: &mut NodeWords, row: Row)
             last_heard: row.d,
         };
         node.put(nodes, row.a as usize);
-        return;
     }
 }
 
