@@ -93,10 +93,7 @@ fn read_entry(line: &[u8]) -> Option<&[u8]>
     ensures read { (g : List ℕ) → by_digits 114 (option_copied result) g ≡ entry_says line.now g }
     ensures short { found_length (option_copied result) ≤ 40 }
 {
-    if line.len() != 40 {
-        return None;
-    }
-    Some(line)
+    (line.len() == 40).then_some(line)
 }
 
 // Reads a line. One that is longer than the buffer may still be a comment. Each of the three that give bytes is read in its own way, so they are no rows
