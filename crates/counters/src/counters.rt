@@ -1,5 +1,6 @@
 // The threshold counters (EPSG DS 301, Section 4.7.4.1) and those of a controlled node (Section 4.7.8).
 ghost use Rattle.std.specs.Prelude.{◌≡◌, true, false, map};
+ghost use Rattle.types.specs.Pick.{pick};
 ghost use Rattle.counters.specs.Counters.{new_counter, incremented, decremented, after_check, after_error, active, new_counters, of_kind, counter_kinds, replaced, replied, counted_error, effect, effect_of, handled, lowered, any_active, completed, same_for_all, thresholds_fit};
 
 use types::frame::error::types::{DllError, DllErrors, NmtAction};
@@ -37,9 +38,7 @@ impl ThresholdCounter {
     pub fn decrement(&mut self)
         ensures { self.new ≡ decremented self.old }
     {
-        if 0 < self.threshold_cnt {
-            self.threshold_cnt -= 1;
-        }
+        self.threshold_cnt = self.threshold_cnt.saturating_sub(1);
     }
 
     // Whether the threshold was reached; the level is 0 then. A threshold of 0 is never reached.
@@ -235,6 +234,17 @@ impl ErrorTaken {
             logged: DllErrors::One(error),
         }
     }
+
+    // The error counted: only a crossing asks for a reset, signals and is logged.
+    pub fn counted(crossed: bool, error: DllError) -> Self
+        ensures { result ≡ record { action = pick crossed NmtAction.ResetCommunication NmtAction.None; signal = crossed; logged = pick crossed (DllErrors.One error) DllErrors.None } }
+    {
+        if crossed {
+            Self::signalled(NmtAction::ResetCommunication, error)
+        } else {
+            Self::unsignalled()
+        }
+    }
 }
 
 impl CnErrorCounters {
@@ -252,15 +262,8 @@ impl CnErrorCounters {
     fn replace(&mut self, kind: CounterKind, by: ThresholdCounter)
         ensures { self.new ≡ replaced kind by self.old }
     {
-        match kind {
-            CounterKind::Collision => self.counters.collision = by,
-            CounterKind::LossOfSoc => self.counters.loss_of_soc = by,
-            CounterKind::LossOfSoa => self.counters.loss_of_soa = by,
-            CounterKind::LossOfPreq => self.counters.loss_of_preq = by,
-            CounterKind::SoCJitter => self.counters.soc_jitter = by,
-            CounterKind::Crc => self.counters.crc_errors = by,
-            CounterKind::HeartbeatTimeout => self.counters.heartbeat_timeout = by,
-        }
+        let before = self.counters;
+        self.counters = ByKind::new(|k| if k == kind { by } else { before.of(k) });
     }
 
     // An error that counts for a kind. A crossing asks for a reset, signals and is logged.
@@ -272,11 +275,7 @@ impl CnErrorCounters {
         let mut counter = self.counters.of(kind);
         let reached = counter.count_error();
         self.replace(kind, counter);
-        if reached {
-            ErrorTaken::signalled(NmtAction::ResetCommunication, error)
-        } else {
-            ErrorTaken::unsignalled()
-        }
+        ErrorTaken::counted(reached, error)
     }
 
     #[tactic(auto, unfolding(crate::specs::Counters::handled))]
@@ -308,6 +307,7 @@ impl CnErrorCounters {
         });
     }
 
+    // Field by field: all levels are tested without a jump.
     #[tactic(auto, unfolding(crate::specs::Counters::any_active))]
     fn is_any_active(self) -> bool
         ensures { result ≡ any_active self }

@@ -1,9 +1,7 @@
 -- `counters::counters::CnErrorCounters::decrement` meets its contract, kind by kind.
 -- Assumes nothing.
-use mathlib.Core.Path.{ap}
 use Rattle.std.proofs.Common.{rules}
 use Rattle.counters.specs.Counters.{decremented, counter, lowered}
-use Rattle.counters.specs.declared.counters.CnErrorCounters.{CnErrorCounters}
 use Rattle.counters.proofs.ByKind.{from_each}
 use Rattle.counters.proofs.counters.CnErrorCounters.decrement.Goals as goal
 
