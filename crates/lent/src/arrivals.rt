@@ -9,7 +9,7 @@ use crate::run::{for_heard, survey};
 use head::parts::set_earliest;
 use head::state::Head;
 use lentlaws::{scan, scan_back};
-use partners::{try_add, try_remove};
+use partners::{try_place, try_remove};
 use types::refusals::Refusal;
 use types::types::NodeId;
 use watched::nodes::{WatchedNode, moment};
@@ -105,7 +105,7 @@ pub fn add(
     let count = *number;
     NodeId::try_from(node)?;
     let found = survey(nodes, count, for_heard(node, 0)).ok_or(Refusal::WatchedNodes)?;
-    try_add(Some(found.watched), timeout, count)?;
+    try_place(Some(found.watched), timeout, count)?;
     let added = WatchedNode {
         node,
         timeout,

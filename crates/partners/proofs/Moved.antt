@@ -2,16 +2,18 @@
 -- Assumes nothing.
 use Prim.Native.Nat.{ℕ, zero, suc, ◌+◌, ◌-◌, ◌*◌, ◌<◌, ◌≤◌}
 use mathlib.Core.Path.{◌≡◌, refl, sym, ap, ap₂, ◌∙◌}
-use mathlib.Core.Bool.{Bool, true, false}
+use mathlib.Core.Bool.{Bool, true, false, cond}
 use mathlib.Core.List.{List, [], ◌∷◌, ◌++◌}
 use native.Mathlib.Omega.{arith}
 use native.Mathlib.Numerals.{add-one}
-use lib.Dec.{ltb}
+use lib.Dec.{ltb, leb}
 use lib.ListN.{length, get_or, set, take, drop, replicate, length-append, length-drop}
-use lib.Seq.{take_at, take_all, length-take-le, append_snoc, drop-cons, take-suc-set}
+use lib.Seq.{take_at, take_all, take-suc-set, length-take-le, append_snoc, drop-cons}
 use borrow.Author.Tests.{lt-ltb, le-ltb}
-use Rattle.std.specs.List.{copy_within}
+use Rattle.std.specs.List.{copy_within, prefix_len, range_with_len}
 use Rattle.std.proofs.lemmas.List.{set-append_left, append_assoc, append-nil}
+use Rattle.std.proofs.lemmas.List.Folds.{length-prefix_len}
+use Rattle.std.proofs.lemmas.Bool.{leb-true, leb-false}
 use Rattle.types.specs.Pick.{pick}
 use Rattle.entries.specs.Ring.{listed}
 use Rattle.watched.specs.declared.nodes.WatchedNode.{WatchedNode}
@@ -116,12 +118,12 @@ module _ (ns : List ℕ) (i : ℕ) (goal : List WatchedNode) (e : goal ≡ take 
       sym (e ∙ ap₂ (λ (l : List WatchedNode) (j : ℕ). l ++ replicate (32 - j) no_node) (take_all i (nodes_of ns) n) h ∙ append-nil (nodes_of ns))
 
 -- where a node is to stand: what is left gives what the whole gives
-module _ (ns : List ℕ) (k : ℕ) (below : k ≤ 32) (n i : ℕ) where
+module _ (ns : List ℕ) (k : ℕ) (below : k ≤ 32) (n : ℕ) where
   abbrev left : ℕ → List WatchedNode
   left i = drop i (take k (nodes_of ns))
 
-  module _ (x : ℕ) (e : x ≡ i + place_before n (left i)) where
-    pub place_ends : k ≤ i → i ≡ x
+  module _ (i x : ℕ) (e : x ≡ i + place_before n (left i)) where
+    place_ends : k ≤ i → i ≡ x
     place_ends h = let z : i + 0 ≡ i = omega arith in sym (e ∙ ap (λ (l : List WatchedNode). i + place_before n l) (at_end (nodes_of ns) k (places ns) below i h) ∙ z)
 
     module _ (inside : i < k) (w : WatchedNode) (is : w ≡ node_at ns i) where
@@ -130,11 +132,53 @@ module _ (ns : List ℕ) (k : ℕ) (below : k ≤ 32) (n i : ℕ) where
           e ∙ ap (λ (l : List WatchedNode). i + place_before n l) (turn_read ns k below i inside w is)
           ∙ ap (λ (b : Bool). i + pick b 0 (suc (place_before n (left (i + 1))))) f
 
-      pub place_found : n < w.node → i ≡ x
+      place_found : n < w.node → i ≡ x
       place_found h = let z : i + 0 ≡ i = omega arith in sym (turned true (lt-ltb n w.node h) ∙ z)
 
-      pub place_next : w.node ≤ n → x ≡ (i + 1) + place_before n (left (i + 1))
+      place_next : w.node ≤ n → x ≡ (i + 1) + place_before n (left (i + 1))
       place_next h = let z : i + suc (place_before n (left (i + 1))) ≡ (i + 1) + place_before n (left (i + 1)) = omega arith in turned false (le-ltb n w.node h) ∙ z
+
+  -- counted from a place on
+  by_count : (m i x : ℕ) → i + m ≡ k → x ≡ i + place_before n (left i) → i + prefix_len (λ (i : ℕ). leb (node_at ns i).node n) (range_with_len i m) ≡ x
+  by_count zero i x h e = let z : i + 0 ≡ i = omega arith in z ∙ place_ends i x e (omega (arith, h))
+  by_count (suc m) i x h e = by (leb (node_at ns i).node n) refl (by_count m (i + 1) x (omega (arith, h)))
+    where
+      ahead : ℕ
+      ahead = prefix_len (λ (i : ℕ). leb (node_at ns i).node n) (range_with_len (i + 1) m)
+
+      by :
+          (b : Bool) → leb (node_at ns i).node n ≡ b → (x ≡ (i + 1) + place_before n (left (i + 1)) → (i + 1) + ahead ≡ x) →
+          i + cond b (1 + ahead) 0 ≡ x
+      by true f more =
+          let s : (i + 1) + ahead ≡ x = more (place_next i x e (omega (arith, h)) (node_at ns i) refl (leb-true (node_at ns i).node n f)) in
+          let t : i + (1 + ahead) ≡ (i + 1) + ahead = omega arith in
+          t ∙ s
+      by false f more =
+          let z : i + 0 ≡ i = omega arith in
+          z ∙ place_found i x e (omega (arith, h)) (node_at ns i) refl (leb-false (node_at ns i).node n f)
+
+-- no place past the last one
+within : (n : ℕ) (vs : List WatchedNode) → place_before n vs ≤ length vs
+within n [] = omega arith
+within n (w ∷ ws) = by (ltb n w.node) (within n ws)
+  where
+    by : (b : Bool) → place_before n ws ≤ length ws → pick b 0 (suc (place_before n ws)) ≤ suc (length ws)
+    by true h = omega arith
+    by false h = omega (arith, h)
+
+-- the place as a count of the nodes that are not above
+pub place_counted :
+    (ns : List ℕ) (k : ℕ) → k ≤ 32 → (n p : ℕ) →
+    p ≡ length (take (prefix_len (λ (i : ℕ). leb (node_at ns i).node n) (range_with_len 0 k)) (range_with_len 0 k)) →
+    (p ≡ place_before n (take k (nodes_of ns))) × (p ≤ k)
+place_counted ns k below n p e =
+    let vs : List WatchedNode = take k (nodes_of ns) in
+    let q : ℕ = prefix_len (λ (i : ℕ). leb (node_at ns i).node n) (range_with_len 0 k) in
+    let c : p ≡ q = e ∙ length-prefix_len (λ (i : ℕ). leb (node_at ns i).node n) (range_with_len 0 k) in
+    let z : q ≡ 0 + q = omega arith in
+    let s : p ≡ place_before n vs = c ∙ z ∙ by_count ns k below n k 0 (place_before n vs) (omega arith) (omega arith) in
+    let long : length vs ≡ k = length-take-le k (nodes_of ns) (omega (arith, places ns, below)) in
+    (s, omega (arith, s, within n vs, long))
 
 -- a node put in its place
 pub inserted_at :

@@ -17,18 +17,14 @@ use watched::nodes::{NodeWords, find, moment};
 use watched::record::NodeRecord;
 use watched::time::in_time;
 
-// Where a node is to stand: before the first one above it.
+// Where a node is to stand: before the first one above it, so behind so many that are not.
 fn place_for(nodes: &NodeWords, count: usize, node: u64) -> usize
     requires { count ≤ 32 }
     ensures { (result ≡ place_before node (take count (nodes_of nodes.now))) × (result ≤ count) }
 {
-    for i in 0..count {
-        let next = NodeRecord::at(nodes, i);
-        if node < next.node {
-            return i;
-        }
-    }
-    count
+    (0..count)
+        .take_while(|&i| NodeRecord::at(nodes, i).node <= node)
+        .count()
 }
 
 // The places from one on are cleared.
@@ -62,12 +58,10 @@ fn close(nodes: &mut NodeWords, count: usize, place: usize)
 }
 
 // Numbers 3, 10 and 9, behind number 1, by what was found: whether the node is among the watched ones, where they pass number 3.
-pub fn try_add(watched: Option<bool>, timeout: u64, number: usize) -> Result<(), Refusal>
+pub fn try_place(watched: Option<bool>, timeout: u64, number: usize) -> Result<(), Refusal>
     ensures { (formed among : Bool) → watched ≡ then_some formed among → result ≡ add_answer true formed timeout among number }
 {
-    let Some(watched) = watched else {
-        return Err(Refusal::WatchedNodes);
-    };
+    let watched = watched.ok_or(Refusal::WatchedNodes)?;
     if !in_time(timeout) {
         return Err(Refusal::WatchedNodes);
     }
@@ -84,9 +78,7 @@ pub fn try_add(watched: Option<bool>, timeout: u64, number: usize) -> Result<(),
 pub fn try_remove(watched: Option<bool>) -> Result<(), Refusal>
     ensures { (formed among : Bool) → watched ≡ then_some formed among → result ≡ remove_answer formed among }
 {
-    let Some(watched) = watched else {
-        return Err(Refusal::WatchedNodes);
-    };
+    let watched = watched.ok_or(Refusal::WatchedNodes)?;
     if !watched {
         return Err(Refusal::NotWatched);
     }
@@ -106,7 +98,7 @@ pub fn add(
     NodeId::try_from(node)?;
     let number = *count;
     let (place, soonest) = find(nodes, number, node as u64, 0).ok_or(Refusal::WatchedNodes)?;
-    try_add(Some(place < number), timeout, number)?;
+    try_place(Some(place < number), timeout, number)?;
     let added = NodeRecord {
         node: node as u64,
         timeout,

@@ -30,27 +30,27 @@ insert-requires c =
     let a = c.args in
     let s : c.find.result ≡ Some (c.in_ok-place.place, c.in_ok-place.soonest) = search rules in
     let x = found_formed a.nodes.now a.count.now a.node 0 c.find.result c.find.ensures _ _ s in
-    add_room a.head.now a.nodes.now a.count.now a.node x.0 _ x.1 _ refl a.timeout true (sym (read_known a.node _ (sym c.try_from.ensures ∙ c.in_ok-try_from.was))) c.try_add.result (c.try_add.ensures true _ refl) c.in_ok-try_add.was
+    add_room a.head.now a.nodes.now a.count.now a.node x.0 _ x.1 _ refl a.timeout true (sym (read_known a.node _ (sym c.try_from.ensures ∙ c.in_ok-try_from.was))) c.try_place.result (c.try_place.ensures true _ refl) c.in_ok-try_place.was
 
 pub overflow_add-count : goal.overflow_add-count
 overflow_add-count c =
     let a = c.args in
     let s : c.find.result ≡ Some (c.in_ok-place.place, c.in_ok-place.soonest) = search rules in
     let x = found_formed a.nodes.now a.count.now a.node 0 c.find.result c.find.ensures _ _ s in
-    omega (arith, add_room a.head.now a.nodes.now a.count.now a.node x.0 _ x.1 _ refl a.timeout true (sym (read_known a.node _ (sym c.try_from.ensures ∙ c.in_ok-try_from.was))) c.try_add.result (c.try_add.ensures true _ refl) c.in_ok-try_add.was)
+    omega (arith, add_room a.head.now a.nodes.now a.count.now a.node x.0 _ x.1 _ refl a.timeout true (sym (read_known a.node _ (sym c.try_from.ensures ∙ c.in_ok-try_from.was))) c.try_place.result (c.try_place.ensures true _ refl) c.in_ok-try_place.was)
 
 pub returns : goal.returns
 returns c =
     let a = c.args in
     let s : c.find.result ≡ Some (c.in_ok-place.place, c.in_ok-place.soonest) = search rules in
     let x = found_formed a.nodes.now a.count.now a.node 0 c.find.result c.find.ensures _ _ s in
-    add_taken a.head.now a.nodes.now a.count.now a.node x.0 _ x.1 _ refl a.timeout true (sym (read_known a.node _ (sym c.try_from.ensures ∙ c.in_ok-try_from.was))) c.try_add.result (c.try_add.ensures true _ refl) c.in_ok-try_add.was
+    add_taken a.head.now a.nodes.now a.count.now a.node x.0 _ x.1 _ refl a.timeout true (sym (read_known a.node _ (sym c.try_from.ensures ∙ c.in_ok-try_from.was))) c.try_place.result (c.try_place.ensures true _ refl) c.in_ok-try_place.was
     (omega arith) _ c.insert.ensures (omega arith) _ (c.moment.ensures ∙ ap moment_of x.2) _ c.set_earliest.ensures
 
-pub returns-in_err-try_add : goal.returns-in_err-try_add
-returns-in_err-try_add c =
+pub returns-in_err-try_place : goal.returns-in_err-try_place
+returns-in_err-try_place c =
     let a = c.args in
     let s : c.find.result ≡ Some (c.in_ok-place.place, c.in_ok-place.soonest) = search rules in
     let x = found_formed a.nodes.now a.count.now a.node 0 c.find.result c.find.ensures _ _ s in
-    let r : c.from_residual-in_err-try_add.result ≡ Err c.in_err-try_add.field-0.0 = search rules in
-    rw r (add_declined a.head.now a.nodes.now a.count.now a.node x.0 _ x.1 _ refl a.timeout true (sym (read_known a.node _ (sym c.try_from.ensures ∙ c.in_ok-try_from.was))) c.try_add.result (c.try_add.ensures true _ refl) _ c.in_err-try_add.was)
+    let r : c.from_residual-in_err-try_place.result ≡ Err c.in_err-try_place.field-0.0 = search rules in
+    rw r (add_declined a.head.now a.nodes.now a.count.now a.node x.0 _ x.1 _ refl a.timeout true (sym (read_known a.node _ (sym c.try_from.ensures ∙ c.in_ok-try_from.was))) c.try_place.result (c.try_place.ensures true _ refl) _ c.in_err-try_place.was)

@@ -1,30 +1,22 @@
--- `partners::place_for` meets its contract.
+-- `partners::place_for` meets its contract: so many stand before the first node above.
 -- Assumes nothing.
-use mathlib.Core.Path.{◌≡◌, sym, ◌∙◌}
+use Prim.Native.Nat.{ℕ, ◌-◌}
+use mathlib.Core.Path.{◌≡◌}
 use native.Mathlib.Omega.{arith}
-use Rattle.watched.specs.Nodes.{node_of}
-use Rattle.partners.proofs.Moved.{place_ends, place_found, place_next}
+use lib.Dec.{leb}
+use Rattle.std.proofs.Common.{rules, tests}
+use Rattle.std.proofs.lemmas.Iterator.{YieldsList-from_range}
+use Rattle.std.proofs.lemmas.Iterator.Search.{YieldsList-from_take_while}
+use Rattle.std.proofs.lemmas.Iterator.Consumers.{count_from_yields_List}
+use Rattle.watched.specs.Nodes.{node_at}
+use Rattle.partners.proofs.Moved.{place_counted}
 use Rattle.partners.proofs.place_for.Goals as goal
-
-pub loop-i-init : goal.loop-i-init
-loop-i-init c =
-    omega arith
-
-pub returns-then-node-next : goal.returns-then-node-next
-returns-then-node-next c =
-    let l = c.loop-i in
-    let a = c.args in
-    (place_found a.nodes.now a.count c.requires a.node l.i _ l.invariant c.loop-i-test.true (node_of c.at-next.result) c.at-next.ensures c.if-node-next.true, omega arith)
-
-pub loop-i-preserved : goal.loop-i-preserved
-loop-i-preserved c =
-    let l = c.loop-i in
-    let a = c.args in
-    place_next a.nodes.now a.count c.requires a.node l.i _ l.invariant c.loop-i-test.true (node_of c.at-next.result) c.at-next.ensures c.if-node-next.false
 
 pub returns : goal.returns
 returns c =
-    let l = c.loop-i in
     let a = c.args in
-    let e : l.i ≡ a.count = omega (arith, l.auto.i-end, c.loop-i-test.false) in
-    (sym e ∙ place_ends a.nodes.now a.count c.requires a.node l.i _ l.invariant c.loop-i-test.false, omega arith)
+    let ns = a.nodes.now in
+    let z : a.count - 0 ≡ a.count = omega arith in
+    place_counted ns a.count c.requires a.node c.count.result
+    (count_from_yields_List _ _ c.count.ensures.ran
+    (YieldsList-from_take_while _ (λ (i : ℕ). leb (node_at ns i).node a.node) (YieldsList-from_range 0 a.count a.count c.take_while.ensures.source z) c.take_while.ensures.closure c.take_while.ensures.done (λ x b q k. search (rules, tests))))
