@@ -38,8 +38,7 @@ fn event_in_tick(head: &mut Head, event: NmtEvent)
     ensures { Turns head.old (λ p. event_in_tick p event) head.new (event_words head.old event) }
 {
     let answer = nmt_of(head).process_event(event);
-    let machine = answer.machine;
-    set_nmt(head, machine);
+    set_nmt(head, answer.machine);
     check_off(head);
 }
 
