@@ -56,6 +56,26 @@ pub fn lines() -> [Line; 14]
 }
 
 // The line as it is printed; of the steps the last digit, which is all of them below 10.
+#[tactic(auto, using(crate::proofs::Digits::flag_glyph, crate::proofs::Digits::digit_glyph), unfolding(crate::specs::Form::line_form))]
+pub fn form(line: Line) -> [u8; 42]
+    ensures { result ≡ line_form line }
+{
+    let Position {
+        state,
+        enabled,
+        ready,
+    } = line.position;
+    let [high, low]: [u8; 2] = forms::hex::digits(u64::from(state.as_u8()));
+    let mut form = *b"(at 0x00 (enabled 0) (ready 0) (steps 0))\n";
+    form[6] = high;
+    form[7] = low;
+    form[18] = b'0' + u8::from(enabled);
+    form[28] = b'0' + u8::from(ready);
+    form[38] = b'0' + line.steps % 10;
+    form
+}
+
+// The same bytes, to a writer.
 #[tactic(auto, using(crate::proofs::Digits::flag_text, crate::proofs::Digits::digit_text), unfolding(crate::specs::Form::line_form))]
 impl Display for Line {
     ghost output = { λ l. Some (line_form l) };
