@@ -1,6 +1,6 @@
 -- What is printed of the kind behind a code, its place or nothing; and the flags by their places.
 -- Assumes nothing.
-use Rattle.std.specs.Prelude.{ℕ, ◌^◌, List, [], ◌∷◌}
+use Rattle.std.specs.Prelude.{ℕ, ◌^◌, min, List, [], ◌∷◌}
 use Rattle.types.specs.Flags.{flags}
 use Rattle.types.specs.Kinds.{CodeAnswer, kind_number, refused_by}
 use Rattle.types.specs.declared.nmt.flags.FeatureFlags.{FeatureFlags}
@@ -11,9 +11,9 @@ abbrev pub of_code : CodeAnswer → Option ℕ
 of_code (kind_number n) = Some n
 of_code (refused_by n) = None
 
--- the flag at place n of the sixteen: the number with that bit alone
+-- the flag at place n of the sixteen: the number with that bit alone; behind the last place, the last
 abbrev pub flag_at : ℕ → FeatureFlags
-flag_at n = flags (2 ^ n)
+flag_at n = flags (2 ^ min n 15)
 
 abbrev pub places : List ℕ
 places = 0 ∷ 1 ∷ 2 ∷ 3 ∷ 4 ∷ 5 ∷ 6 ∷ 7 ∷ 8 ∷ 9 ∷ 10 ∷ 11 ∷ 12 ∷ 13 ∷ 14 ∷ 15 ∷ []
