@@ -1,7 +1,7 @@
 #!/bin/sh
 # What the prover does not look at: no public function asks anything of its caller but those that docs/DECISIONS.md names, all public for crates of ours alone: one of
-# `heartbeats` (43) and five of `watched` (94), whose callers know what they ask, and six that are given a closure, which ask that it can be called:
-# five of `lentlaws` (97) and one of `counters` (99). Each says what it ensures, in libraries and programs alike; and what documents and comments refer to is there
+# `heartbeats` (43) and five of `watched` (94), whose callers know what they ask, and seven that are given closures, which ask that these can be called:
+# six of `lentlaws` (97) and one of `counters` (99). Each says what it ensures, in libraries and programs alike; and what documents and comments refer to is there
 # (tests/references.py).
 set -eu
 cd "$(dirname "$0")/.."
@@ -19,7 +19,7 @@ asking=$(echo "$public" | grep '^asks ' | grep -v \
     -e ' crates/heartbeats/src/heartbeats\.rt: pub fn look_all(' \
     -e ' crates/watched/src/record\.rt: pub fn \(at\|put\|is_numbered\|rest_until\)(' \
     -e ' crates/watched/src/nodes\.rt: pub fn set_heard(' \
-    -e ' crates/lentlaws/src/lib\.rt: pub fn \(change\|change_answer\|fold\|scan\|scan_back\)<' \
+    -e ' crates/lentlaws/src/lib\.rt: pub fn \(change\|change_answer\|fold\|scan\|scan_back\|judged\)<' \
     -e ' crates/counters/src/counters\.rt: pub fn new<' || true)
 if [ -n "$asking" ]; then
     echo "public functions with a requires:"

@@ -5,12 +5,14 @@
 //   fold           something carried over the records, from the first to the last; none is written
 //   scan           each record becomes what the step makes of it and of what is carried to it, from the first to the last
 //   scan_back      the same from the last to the first
+//   judged         a fold finds something out, the judge goes by it, and a scan sets what the judge says
 //
 // The contract of a walk holds of every function, or pair of functions, that the step computes: a caller names it, and says that what the step ensures is it.
 #![tactic(auto)]
 
 ghost use Rattle.std.specs.Prelude.{◌≡◌};
 ghost use Rattle.lentlaws.specs.Fold.{folded};
+ghost use Rattle.lentlaws.specs.Judged.{Judges};
 ghost use Rattle.lentlaws.specs.Scan.{scanned, scanned_back};
 
 // A value, by a function of it.
@@ -63,4 +65,32 @@ pub fn scan_back<E: Copy, A: Copy, F: Fn(A, E) -> (E, A)>(xs: &mut [E], last: A,
         xs[i] = next;
         carried = back;
     }
+}
+
+// A call that goes by the records: a walk finds out what it judges by, the judge is lent a value and answers, and a walk sets what the judge says. Of several values
+// that are lent, a tuple of their references is the one: the contract tells what is left of each.
+pub fn judged<E: Copy, P, S, Y: Copy, X, F, J, T>(
+    lent: &mut P,
+    xs: &mut [E],
+    first: S,
+    see: F,
+    judge: J,
+    set: T,
+) -> X
+where
+    F: Fn(S, E) -> S,
+    J: FnOnce(&mut P, S) -> (X, Y),
+    T: Fn(Y, E) -> (E, Y),
+    requires see { F.IsAlwaysCallable see }
+    requires judge { J.IsAlwaysCallable judge }
+    requires set { T.IsAlwaysCallable set }
+    ensures { (f : S → E → S) (sets : Y → E → E) (carries : Y → E → Y) →
+        ((a : S) (x : E) (b : S) → F.post see a x b → b ≡ f a x) →
+        ((a : Y) (x : E) (r : E × Y) → T.post set a x r → r ≡ (sets a x, carries a x)) →
+        (y : Y) × Judges J.FnOnce judge lent.old (folded f first xs.old) (result, y) lent.new × (xs.new ≡ scanned sets carries y xs.old) }
+{
+    let found = fold(xs, first, see);
+    let (answer, setting) = judge(lent, found);
+    scan(xs, setting, set);
+    answer
 }
