@@ -4,7 +4,6 @@ use Rattle.std.specs.Prelude.{ℕ, ◌≡◌, Bool, List, eqb, set, take}
 use Rattle.types.specs.Pick.{pick}
 use Rattle.std.specs.declared.option.Option.TheVariants.{Some, None}
 use Rattle.types.specs.Refusals.{refusal_number}
-use Rattle.types.specs.Flags.{flags}
 use Rattle.types.specs.States.{state_number, read_state}
 use Rattle.types.specs.Events.{command_number, read_command}
 use Rattle.types.specs.Kinds.{CodeAnswer, kind_number, refused_by, kind_behind}
@@ -23,7 +22,7 @@ use Rattle.node.specs.InPlace.{said}
 use Rattle.start.specs.Started.{StartedIn}
 use Rattle.answers.specs.Numbers.{numbers_of}
 use Rattle.patterns.specs.Patterns.{kept}
-use Rattle.calls.specs.Values.{at, byte_of, word_of, dictionary_of, thresholds_of, updates_of}
+use Rattle.calls.specs.Values.{at, byte_of, setup_of, updates_of}
 
 -- the calls on the head alone, by their keys: n, d, e, c, w, g, m, and a for any other
 unfoldable pub head_call : ℕ → List ℕ → Call
@@ -51,8 +50,7 @@ pub record Makes (ws q m : List ℕ) (c : Call) (ns ws' q' m' : List ℕ) (l : R
 -- Of a start with the numbers g: what start ensures, of the answer whose numbers were written.
 pub record Starts (ws vs : List ℕ) (k : ℕ) (named : Bool) (g ns ws' vs' : List ℕ) : Type 0 where
   pub answer : Result (Unit {0}) Refusal
-  pub started :
-      StartedIn ws vs k (byte_of (at g 0)) (flags (word_of (at g 1))) (word_of (at g 2)) (at g 3) (dictionary_of g) (thresholds_of named g) answer ws' vs'
+  pub started : StartedIn ws vs k (setup_of named g) answer ws' vs'
   pub numbers : ns ≡ numbers_of (said answer)
 
 -- a number that was read stands where the first state stands

@@ -8,13 +8,11 @@ use native.Mathlib.Numerals.{add-one}
 use lib.ListN.{length, get_or, drop, length-append, length-drop, get_or-append, set}
 use lib.Seq.{get_or-drop, drop-drop, drop_at}
 use Rattle.types.specs.declared.refusals.Refusal.{Refusal}
-use Rattle.types.specs.declared.nmt.flags.FeatureFlags.{FeatureFlags}
-use Rattle.counters.specs.Counters.{Thresholds}
-use Rattle.head.specs.declared.state.Dictionary.{Dictionary}
 use Rattle.node.specs.Plain.{Call}
 use Rattle.node.specs.Run.{Said}
 use Rattle.std.specs.declared.result.Result.{Result}
 use Rattle.std.specs.declared.result.Result.TheVariants.{Ok, Err}
+use Rattle.start.specs.declared.start.Setup.{Setup}
 use Rattle.start.specs.Started.{StartedIn}
 use Rattle.drive.specs.declared.Row.{Row}
 use Rattle.drive.specs.declared.Tag.TheVariants.{Lend}
@@ -172,26 +170,26 @@ module _ (script bytes : List ℕ) (k₀ : ℕ) (x : Lent) (n : ℕ) where
       subst (PlayedAll script bytes k₀ x) (λ i. lent (sym a i) (sym b i) (sym c i) (sym d i) (sym o i)) p
 
 -- by what start answered
-module _ {k n t c : ℕ} {f : FeatureFlags} {o : Dictionary} {ts : Thresholds} {a : Result (Unit {0}) Refusal} (script bytes : List ℕ) where
+module _ {k : ℕ} {g : Setup} {a : Result (Unit {0}) Refusal} (script bytes : List ℕ) where
   pub ran :
       {ws ns q m out ws₁ ns₁ ws' ns' q' m' out' : List ℕ} →
-      StartedIn ws ns k n f t c o ts a ws₁ ns₁ →
+      StartedIn ws ns k g a ws₁ ns₁ →
       a ≡ (Ok tt) →
       PlayedAll script bytes k (lent ws₁ ns₁ q m out) (lent ws' ns' q' m' out') →
-      Replayed k n f t c o ts script bytes (Ok tt) (lent ws ns q m out) (lent ws' ns' q' m' out')
+      Replayed k g script bytes (Ok tt) (lent ws ns q m out) (lent ws' ns' q' m' out')
   ran {ws} {ns} {ws₁ = ws₁} {ns₁ = ns₁} s e p =
       record {
         words = ws₁;
         nodes = ns₁;
-        started = subst (λ (y : Result (Unit {0}) Refusal). StartedIn ws ns k n f t c o ts y ws₁ ns₁) e s;
+        started = subst (λ (y : Result (Unit {0}) Refusal). StartedIn ws ns k g y ws₁ ns₁) e s;
         rows = p;
       }
 
   pub declined :
       {ws ns ws' ns' q m out : List ℕ} {r : Refusal} →
-      StartedIn ws ns k n f t c o ts a ws' ns' →
+      StartedIn ws ns k g a ws' ns' →
       a ≡ Err r →
-      Replayed k n f t c o ts script bytes (Err r) (lent ws ns q m out) (lent ws' ns' q m out)
+      Replayed k g script bytes (Err r) (lent ws ns q m out) (lent ws' ns' q m out)
   declined {ws} {ns} {ws'} {ns'} {q} {m} {out} {r} s e =
-      let d : StartedIn ws ns k n f t c o ts (Err r) ws' ns' = subst (λ (y : Result (Unit {0}) Refusal). StartedIn ws ns k n f t c o ts y ws' ns') e s in
+      let d : StartedIn ws ns k g (Err r) ws' ns' = subst (λ (y : Result (Unit {0}) Refusal). StartedIn ws ns k g y ws' ns') e s in
       (d, ap₂ (λ (w v : List ℕ). lent w v q m out) d.on.words d.nodes)

@@ -4,12 +4,10 @@ use Prim.Native.Nat.{ℕ}
 use mathlib.Core.Path.{◌≡◌, subst}
 use mathlib.Core.List.{List}
 use Rattle.types.specs.declared.refusals.Refusal.{Refusal}
-use Rattle.types.specs.declared.nmt.flags.FeatureFlags.{FeatureFlags}
-use Rattle.counters.specs.Counters.{Thresholds}
-use Rattle.head.specs.declared.state.Dictionary.{Dictionary}
 use Rattle.watched.specs.Watched.{run}
 use Rattle.node.specs.Plain.{Call, Start}
 use Rattle.node.specs.Run.{Said}
+use Rattle.start.specs.declared.start.Setup.{Setup}
 use Rattle.start.specs.Started.{start_of}
 use Rattle.head.specs.Words.{head_of}
 use Rattle.watched.specs.Nodes.{nodes_of}
@@ -32,20 +30,18 @@ played_driven (Played.calls p e r) = and_then (played_driven p) r
 
 -- from the words that start wrote
 pub ran_claims :
-    {k n t c : ℕ} {f : FeatureFlags} {o : Dictionary} {ts : Thresholds} {script bytes : List ℕ} {x x' : Lent} (r : Ran k n f t c o ts script bytes x x') →
-    Claim (start_of n f t c o ts (run (nodes_of x.nodes) k)) r.rows.calls r.rows.says (head_of x'.head) x'.queue x'.history
-ran_claims {k} {n} {t} {c} {f} {o} {ts} {x = x} r =
+    {k : ℕ} {s : Setup} {script bytes : List ℕ} {x x' : Lent} (r : Ran k s script bytes x x') →
+    Claim (start_of s (run (nodes_of x.nodes) k)) r.rows.calls r.rows.says (head_of x'.head) x'.queue x'.history
+ran_claims {s = s} r =
     demand_3
-    (Began.start n f t c o ts (Ok tt) r.started)
+    (Began.start s (Ok tt) r.started)
     (played_driven r.rows.played)
 
 -- κs: the lifetimes; a: the arguments; o: what is returned; x: what is lent, as it is left
 module _ (κs : _) (a : _) (o : Result (Unit {0}) Refusal) (x : _) (e : drive-reads.Learnt κs a o x) where
   -- what start was given
   abbrev pub given : Start
-  given =
-      let s = a.1.1.1.1.1.0 in
-      start_of s.node s.feature_flags s.basic_ethernet_timeout s.queue_capacity s.od s.thresholds (run (nodes_of a.1.0.now) a.1.1.0)
+  given = start_of a.1.1.1.1.1.0 (run (nodes_of a.1.0.now) a.1.1.0)
 
   abbrev pub before : Lent
   before = lent a.0.now a.1.0.now a.1.1.1.0.now a.1.1.1.1.0.now a.1.1.1.1.1.1.1.1.0.now
@@ -55,9 +51,7 @@ module _ (κs : _) (a : _) (o : Result (Unit {0}) Refusal) (x : _) (e : drive-re
 
   -- what `drive` says of its arguments where it answers r
   abbrev Says : Result (Unit {0}) Refusal → Type 0
-  Says r =
-      let s = a.1.1.1.1.1.0 in
-      Replayed a.1.1.0 s.node s.feature_flags s.basic_ethernet_timeout s.queue_capacity s.od s.thresholds a.1.1.1.1.1.1.0.now a.1.1.1.1.1.1.1.0.now r before after
+  Says r = Replayed a.1.1.0 a.1.1.1.1.1.0 a.1.1.1.1.1.1.0.now a.1.1.1.1.1.1.1.0.now r before after
 
   -- THE WITNESS: the rows of the script that ran, and the claim of the calls that they were
   pub record Witnessed : Type 0 where

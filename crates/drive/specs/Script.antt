@@ -2,9 +2,6 @@
 -- Assumes nothing.
 use Rattle.std.specs.Prelude.{ℕ, suc, ◌+◌, ◌-◌, ◌*◌, ◌/◌, ◌≡◌, List, [], ◌∷◌, ◌++◌, map, eqb, leb, ltb, length, get_or, set, take, drop}
 use Rattle.types.specs.Pick.{pick}
-use Rattle.types.specs.declared.nmt.flags.FeatureFlags.{FeatureFlags}
-use Rattle.counters.specs.Counters.{Thresholds}
-use Rattle.head.specs.declared.state.Dictionary.{Dictionary}
 use Rattle.std.specs.declared.result.Result.{Result}
 use Rattle.std.specs.declared.option.Option.{Option}
 use Rattle.std.specs.declared.result.Result.TheVariants.{Ok, Err}
@@ -17,6 +14,7 @@ use Rattle.node.specs.Plain.{Call, nmt_event, dll_event, error, cycle_complete, 
 use Rattle.node.specs.Run.{Said}
 use Rattle.node.specs.Refines.{history_update}
 use Rattle.watched.specs.Nodes.{nodes_of}
+use Rattle.start.specs.declared.start.Setup.{Setup}
 use Rattle.start.specs.Started.{StartedIn}
 use Rattle.drive.specs.declared.Row.{Row}
 use Rattle.drive.specs.declared.Player.{Player}
@@ -221,14 +219,13 @@ pub record PlayedAll (script bytes : List ℕ) (k : ℕ) (x x' : Lent) : Type 0 
   pub numbered : x'.out ≡ numbers_written x.out 0 (numbers says)
 
 -- A start that was taken, with the words of the head and of the nodes that it left, and every row of the script from these on.
-pub record Ran (k n : ℕ) (f : FeatureFlags) (t c : ℕ) (o : Dictionary) (ts : Thresholds) (script bytes : List ℕ) (x x' : Lent) : Type 0 where
+pub record Ran (k : ℕ) (s : Setup) (script bytes : List ℕ) (x x' : Lent) : Type 0 where
   pub words : List ℕ
   pub nodes : List ℕ
-  pub started : StartedIn x.head x.nodes k n f t c o ts (Ok tt) words nodes
+  pub started : StartedIn x.head x.nodes k s (Ok tt) words nodes
   pub rows : PlayedAll script bytes k (lent words nodes x.queue x.history x.out) x'
 
 -- What `drive` leaves: of a start that is taken, that; of one that is declined, its number, and all as it was lent.
-abbrev pub Replayed : ℕ → ℕ → FeatureFlags → ℕ → ℕ → Dictionary → Thresholds → List ℕ → List ℕ → Result (Unit {0}) Refusal → Lent → Lent → Type 0
-Replayed k n f t c o ts script bytes (Ok _) x x' = Ran k n f t c o ts script bytes x x'
-Replayed k n f t c o ts script bytes (Err r) x x' =
-    StartedIn x.head x.nodes k n f t c o ts (Err r) x'.head x'.nodes × (x' ≡ x)
+abbrev pub Replayed : ℕ → Setup → List ℕ → List ℕ → Result (Unit {0}) Refusal → Lent → Lent → Type 0
+Replayed k s script bytes (Ok _) x x' = Ran k s script bytes x x'
+Replayed k s script bytes (Err r) x x' = StartedIn x.head x.nodes k s (Err r) x'.head x'.nodes × (x' ≡ x)

@@ -330,7 +330,7 @@ pub fn drive(
     bytes: &[u8],
     out: &mut [u64],
 ) -> Result<(), Refusal>
-    ensures { Replayed count setup.node setup.feature_flags setup.basic_ethernet_timeout setup.queue_capacity setup.od setup.thresholds script.now bytes.now result
+    ensures { Replayed count setup script.now bytes.now result
         (lent head.old nodes.old queue.old history.old out.old)
         (lent head.new nodes.new queue.new history.new out.new) }
 {

@@ -23,10 +23,10 @@ use Rattle.watched.specs.Watched.{well_formed, Run, run}
 use Rattle.watched.specs.Nodes.{nodes_of}
 use Rattle.node.specs.Run.{step}
 use Rattle.counters.specs.Counters.{same_for_all, thresholds_fit, Thresholds}
-use Rattle.start.specs.Started.{start_of}
 use Rattle.node.specs.Refines.{plain, Rings, rings, joins, joins_all}
 use Rattle.node.specs.InPlace.{said}
-use Rattle.start.specs.Started.{StartedIn}
+use Rattle.start.specs.declared.start.Setup.{Setup}
+use Rattle.start.specs.Started.{start_of, StartedIn}
 use Rattle.node.specs.Examples.{Coming, Example, comings, comes_of, stated, values, sw_reset, examples}
 use Rattle.node.proofs.Examples.{examples_hold}
 use Rattle.examples.specs.Shown.{placed, Stands, Came}
@@ -127,18 +127,30 @@ module _ (ws q m : List ℕ) (p : Plain) (e : plain (head_of ws) q m ≡ p) wher
   unfolding head_of
   history_is = ap (λ (p : Plain). p.history) e
 
+-- what the first example's head is started with
+abbrev setup : Dictionary → Thresholds → Setup
+setup o ts =
+    record {
+      node = 1;
+      feature_flags = flags 0;
+      basic_ethernet_timeout = 5;
+      queue_capacity = 1;
+      od = o;
+      thresholds = ts;
+    }
+
 -- the fresh head of the first example
 begun_with :
     (ws ns : List ℕ) (od : Dictionary) (a : Result (Unit {0}) Refusal) (ws' ns' : List ℕ) →
     od ≡ values 0 0 0 0 0 →
-    StartedIn ws ns 0 1 (flags 0) 5 1 od (same_for_all 15) a ws' ns' →
+    StartedIn ws ns 0 (setup od (same_for_all 15)) a ws' ns' →
     (said a ≡ taken) × ((q m : List ℕ) → Along ws' q m sw_reset.before sw_reset.calls sw_reset.after)
 unfolding started fresh well_formed nodes_of listed thresholds_fit
 begun_with ws ns od (Ok _) ws' ns' e s = (
   refl,
   λ q m.
       record {
-        whole = same_begun (s.on.begins.begun q m) ∙ ap (λ (o : Dictionary). fresh (start_of 1 (flags 0) 5 1 o (same_for_all 15) (run (nodes_of ns) 0))) e;
+        whole = same_begun (s.on.begins.begun q m) ∙ ap (λ (o : Dictionary). fresh (start_of (setup o (same_for_all 15)) (run (nodes_of ns) 0))) e;
         queue = s.on.places.0;
         history = s.on.places.1;
         coming = holds 0;
@@ -153,7 +165,7 @@ pub begun :
     (ws ns : List ℕ) (od : Dictionary) (ts : Thresholds) (a : Result (Unit {0}) Refusal) (ws' ns' : List ℕ) →
     od ≡ values 0 0 0 0 0 →
     ts ≡ same_for_all 15 →
-    StartedIn ws ns 0 1 (flags 0) 5 1 od ts a ws' ns' →
+    StartedIn ws ns 0 (setup od ts) a ws' ns' →
     (said a ≡ taken) × ((q m : List ℕ) → Along ws' q m sw_reset.before sw_reset.calls sw_reset.after)
 begun ws ns od ts a ws' ns' e d s =
-    begun_with ws ns od a ws' ns' e (subst (λ (t : Thresholds). StartedIn ws ns 0 1 (flags 0) 5 1 od t a ws' ns') d s)
+    begun_with ws ns od a ws' ns' e (subst (λ (t : Thresholds). StartedIn ws ns 0 (setup od t) a ws' ns') d s)

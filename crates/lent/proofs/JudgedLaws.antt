@@ -10,14 +10,12 @@ use Rattle.std.proofs.lemmas.Bool.{not-true, not-false}
 use Rattle.types.specs.Pick.{pick}
 use Rattle.types.specs.declared.refusals.Refusal.{Refusal}
 use Rattle.types.specs.declared.refusals.Refusal.TheVariants.{WatchedNodes, TimeLimit, BeforeHeard}
-use Rattle.types.specs.declared.nmt.flags.FeatureFlags.{FeatureFlags}
-use Rattle.counters.specs.Counters.{new_counter, Thresholds}
+use Rattle.counters.specs.Counters.{new_counter}
 use Rattle.std.specs.declared.result.Result.{Result}
 use Rattle.std.specs.Prelude.{is_some}
 use Rattle.std.specs.declared.option.Option.{Option}
 use Rattle.std.specs.declared.option.Option.TheVariants.{Some, None}
 use Rattle.std.specs.declared.result.Result.TheVariants.{Ok, Err}
-use Rattle.head.specs.declared.state.Dictionary.{Dictionary}
 use Rattle.head.specs.Words.{nmt_of, head_of}
 use Rattle.head.specs.Written.{earliest_written}
 use Rattle.watched.specs.declared.nodes.WatchedNode.{WatchedNode}
@@ -32,6 +30,7 @@ use Rattle.node.specs.Heard.{heard_answer, HeardOn}
 use Rattle.node.proofs.Moments.{all_fit, heard_fits}
 use Rattle.node.proofs.OnRuns.{run_declined}
 use Rattle.node.proofs.Hearing.{taken_passed, heard_declined, heard_taken}
+use Rattle.start.specs.declared.start.Setup.{Setup}
 use Rattle.start.specs.Started.{start_left, StartedOn, BeginsBy}
 use Rattle.heartbeats.specs.declared.dealt.Dealt.{Dealt}
 use Rattle.heartbeats.specs.PartsIn.{TicksIn}
@@ -96,22 +95,22 @@ module _ (ws : List ℕ) (vs : List WatchedNode) (k n t : ℕ) (f : Findings) (a
         heard_taken ws r n t true s.watched passed among (sym g ∙ e) long _ (left_as _ _ left) m moment ws' w
 
 -- start, by whether number 3 does not stand
-module _ (ws : List ℕ) (vs : List WatchedNode) (k n : ℕ) (f : FeatureFlags) (t c : ℕ) (q : Dictionary) (ts : Thresholds) (g : Findings) (asks : g ≡ asked_for Unheard) (o : Option Findings) (sees : o ≡ surveyed k g vs)
-    (formed : Bool) (p : formed ≡ is_some o) (a : Result (Unit {0}) Refusal) (ws' : List ℕ) (b : BeginsBy ws n f t c q ts formed a ws') where
+module _ (ws : List ℕ) (vs : List WatchedNode) (k : ℕ) (s : Setup) (g : Findings) (asks : g ≡ asked_for Unheard) (o : Option Findings) (sees : o ≡ surveyed k g vs)
+    (formed : Bool) (p : formed ≡ is_some o) (a : Result (Unit {0}) Refusal) (ws' : List ℕ) (b : BeginsBy ws s formed a ws') where
   unheard_asked : o ≡ surveyed k (asked_for Unheard) vs
   unheard_asked = sees ∙ ap (λ (f : Findings). surveyed k f vs) asks
 
-  begun : (vs' : List WatchedNode) → run vs' k ≡ start_left a (run vs k) → StartedOn ws (run vs k) n f t c q ts a ws' (run vs' k)
+  begun : (vs' : List WatchedNode) → run vs' k ≡ start_left a (run vs k) → StartedOn ws (run vs k) s a ws' (run vs' k)
   begun vs' d = b.on (run vs k) (p ∙ seen_lent k 0 0 Unheard (new_counter 0) vs o unheard_asked) (run vs' k) d
 
-  pub start_done : a ≡ (Ok tt) → (vs' : List WatchedNode) → vs' ≡ settled_all (settling_of k Unheard) vs → StartedOn ws (run vs k) n f t c q ts (Ok tt) ws' (run vs' k)
+  pub start_done : a ≡ (Ok tt) → (vs' : List WatchedNode) → vs' ≡ settled_all (settling_of k Unheard) vs → StartedOn ws (run vs k) s (Ok tt) ws' (run vs' k)
   start_done g vs' d =
-      subst (λ (a : Result (Unit {0}) Refusal). StartedOn ws (run vs k) n f t c q ts a ws' (run vs' k)) g
+      subst (λ (a : Result (Unit {0}) Refusal). StartedOn ws (run vs k) s a ws' (run vs' k)) g
       (begun vs' (left_as _ _ (d ∙ set_first k Unheard (settling_of k Unheard) vs refl refl) ∙ ap (λ (a : Result (Unit {0}) Refusal). start_left a (run vs k)) (sym g)))
 
-  pub start_refused : (x : Refusal) → a ≡ Err x → StartedOn ws (run vs k) n f t c q ts (Err x) ws' (run vs k)
+  pub start_refused : (x : Refusal) → a ≡ Err x → StartedOn ws (run vs k) s (Err x) ws' (run vs k)
   start_refused x g =
-      subst (λ (a : Result (Unit {0}) Refusal). StartedOn ws (run vs k) n f t c q ts a ws' (run vs k)) g
+      subst (λ (a : Result (Unit {0}) Refusal). StartedOn ws (run vs k) s a ws' (run vs k)) g
       (begun vs (ap (λ (a : Result (Unit {0}) Refusal). start_left a (run vs k)) (sym g)))
 
 -- the tick: numbers 3, 5 and 6, and what is taken

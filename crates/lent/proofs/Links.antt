@@ -36,8 +36,7 @@ module _ {M : Type 1} {𝓤 : Ura M} (𝓛 : Logic 𝓤) (mem : Memory → SProp
   pub start_ensures :
       (κs : Lfts 2) (a : Args start.signature κs) (o : Result (Unit {0}) Refusal) (x : AtExit start.ended κs) →
       (start.clauses 𝓛 mem run κs a).ensures tt o x ≡ fact 𝓤
-      (StartedOn a.0.now (run_of a.1.0.now a.1.1.0) a.1.1.1.0.node a.1.1.1.0.feature_flags a.1.1.1.0.basic_ethernet_timeout a.1.1.1.0.queue_capacity a.1.1.1.0.od a.1.1.1.0.thresholds
-      o x.0.now (run_of x.1.0.now a.1.1.0))
+      (StartedOn a.0.now (run_of a.1.0.now a.1.1.0) a.1.1.1.0 o x.0.now (run_of x.1.0.now a.1.1.0))
   start_ensures κs a o x = refl
 
   pub tick_ensures :

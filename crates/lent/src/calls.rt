@@ -35,7 +35,7 @@ pub fn start(
     number: usize,
     setup: Setup,
 ) -> Result<(), Refusal>
-    ensures { StartedOn head.old (run nodes.old number) setup.node setup.feature_flags setup.basic_ethernet_timeout setup.queue_capacity setup.od setup.thresholds result head.new (run nodes.new number) }
+    ensures { StartedOn head.old (run nodes.old number) setup result head.new (run nodes.new number) }
 {
     let setting = Setting::Unheard;
     let formed = survey(nodes, number, for_nodes(setting)).is_some();

@@ -13,10 +13,7 @@ use Rattle.start.proofs.start.start.Reads as start-reads
 -- κs: the lifetimes; a: the arguments; o: what is returned; x: what is lent, as it is left
 pub start_begins :
     (κs : _) (a : _) (o : Result (Unit {0}) Refusal) (x : _) → start-reads.Learnt κs a o x →
-    Begins
-    (start_of a.1.1.1.0.node a.1.1.1.0.feature_flags a.1.1.1.0.basic_ethernet_timeout a.1.1.1.0.queue_capacity a.1.1.1.0.od a.1.1.1.0.thresholds
-    (run (nodes_of a.1.0.now) a.1.1.0))
-    o (head_of x.0.now) (run (nodes_of x.1.0.now) a.1.1.0)
+    Begins (start_of a.1.1.1.0 (run (nodes_of a.1.0.now) a.1.1.0)) o (head_of x.0.now) (run (nodes_of x.1.0.now) a.1.1.0)
 start_begins κs a o x e = e.on.begins
 
 -- the words of the nodes: a declined start leaves them

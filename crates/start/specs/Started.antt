@@ -5,7 +5,6 @@ use Rattle.types.specs.Types.{node, is_node}
 use Rattle.types.specs.Refusals.{refusal_number}
 use Rattle.types.specs.declared.types.NodeId.{NodeId}
 use Rattle.types.specs.declared.refusals.Refusal.TheVariants.{NodeNumber, QueueCapacity, WatchedNodes, ThresholdLimit}
-use Rattle.types.specs.declared.nmt.flags.FeatureFlags.{FeatureFlags}
 use Rattle.nmt.specs.Nmt as Nmt
 use Rattle.dll.specs.Dll.{fresh_machine}
 use Rattle.counters.specs.Counters.{new_counters, thresholds_fit, Thresholds}
@@ -16,7 +15,6 @@ use Rattle.std.specs.declared.result.Result.{Result}
 use Rattle.std.specs.declared.result.Result.TheVariants.{Ok, Err}
 use Rattle.std.specs.declared.option.Option.TheVariants.{None}
 use Rattle.types.specs.declared.refusals.Refusal.{Refusal}
-use Rattle.head.specs.declared.state.Dictionary.{Dictionary}
 use Rattle.head.specs.Head.{Head, soc_watch}
 use Rattle.head.specs.Places as at
 use Rattle.head.specs.Words.{head_of}
@@ -27,10 +25,20 @@ use Rattle.node.specs.Plain.{Start, Begun, begins, declined}
 use Rattle.node.specs.Steps.{must, tried, started}
 use Rattle.node.specs.Refines.{plain}
 use Rattle.node.specs.InPlace.{unless_refused}
+use Rattle.start.specs.declared.start.Setup.{Setup}
 
 -- what start is given, from its arguments
-abbrev pub start_of : ℕ → FeatureFlags → ℕ → ℕ → Dictionary → Thresholds → Run → Start
-start_of n f t c o ts r = record { node = n; flags = f.0; timeout = t; capacity = c; od = o; thresholds = ts; watched = r }
+abbrev pub start_of : Setup → Run → Start
+start_of s r =
+    record {
+      node = s.node;
+      flags = s.feature_flags.0;
+      timeout = s.basic_ethernet_timeout;
+      capacity = s.queue_capacity;
+      od = s.od;
+      thresholds = s.thresholds;
+      watched = r;
+    }
 
 -- what start answers, with the head that its words stand for
 abbrev pub begun_by : Result (Unit {0}) Refusal → Head → List ℕ → List ℕ → Begun
@@ -41,15 +49,15 @@ begun_by (Err r) h q m = declined (refusal_number r)
 abbrev pub FreshPlaces : Result (Unit {0}) Refusal → Head → ℕ → Type 0
 FreshPlaces a h c = IfOk a (λ _. (h.queue ≡ queue 0 0 c) × (h.history ≡ error_history 0 0))
 
--- the head that start gives
-abbrev pub fresh_head : NodeId → FeatureFlags → ℕ → ℕ → Dictionary → Thresholds → Head
-fresh_head n f t c o ts =
+-- the head that start gives, of a node number and a capacity that were tried
+abbrev pub fresh_head : NodeId → ℕ → Setup → Head
+fresh_head n c s =
     record {
-      nmt = Nmt.new_machine n f t;
+      nmt = Nmt.new_machine n s.feature_flags s.basic_ethernet_timeout;
       dll = fresh_machine;
-      errors = new_counters ts;
+      errors = new_counters s.thresholds;
       soc = soc_watch 0 false None false;
-      od = o;
+      od = s.od;
       queue = queue 0 0 c;
       history = error_history 0 0;
       earliest = None;
@@ -61,10 +69,10 @@ pub record Begins (s : Start) (a : Result (Unit {0}) Refusal) (h : Head) (l : Ru
   pub lent : l ≡ (started s).lent
 
 -- all 60 words, from the arguments alone: those that no part names are 0
-unfoldable pub fresh_words : NodeId → FeatureFlags → ℕ → ℕ → Dictionary → Thresholds → List ℕ
-fresh_words n f t c o ts =
-    set (od_written (thresholds_written (identity_written (nmt_written (replicate 60 0) (Nmt.new_machine n f t)) (Nmt.new_machine n f t)) (new_counters ts)) o)
-    at.capacity c
+unfoldable pub fresh_words : NodeId → ℕ → Setup → List ℕ
+fresh_words n c s =
+    let m = Nmt.new_machine n s.feature_flags s.basic_ethernet_timeout in
+    set (od_written (thresholds_written (identity_written (nmt_written (replicate 60 0) m) m) (new_counters s.thresholds)) s.od) at.capacity c
 
 -- the last-heard words of the first so many nodes are 0
 unfoldable pub unheard_words : ℕ → List ℕ → List ℕ
@@ -82,17 +90,17 @@ start_left a r = unless_refused a r (changing unheard r)
 
 -- Of start on the words ws and the run r, which answered a and left the words ws' and the run r': the plain start's head or number and run, and
 -- every word of the head.
-pub record StartedOn (ws : List ℕ) (r : Run) (n : ℕ) (f : FeatureFlags) (t c : ℕ) (o : Dictionary) (ts : Thresholds) (a : Result (Unit {0}) Refusal) (ws' : List ℕ) (r' : Run) : Type 0 where
-  pub begins : Begins (start_of n f t c o ts r) a (head_of ws') r'
-  pub places : FreshPlaces a (head_of ws') c
-  pub words : ws' ≡ unless_refused a ws (fresh_words (node n) f t c o ts)
+pub record StartedOn (ws : List ℕ) (r : Run) (s : Setup) (a : Result (Unit {0}) Refusal) (ws' : List ℕ) (r' : Run) : Type 0 where
+  pub begins : Begins (start_of s r) a (head_of ws') r'
+  pub places : FreshPlaces a (head_of ws') s.queue_capacity
+  pub words : ws' ≡ unless_refused a ws (fresh_words (node s.node) s.queue_capacity s)
 
 -- The same of nodes in the words ns, of which the first k are watched; and every word of theirs.
-pub record StartedIn (ws ns : List ℕ) (k n : ℕ) (f : FeatureFlags) (t c : ℕ) (o : Dictionary) (ts : Thresholds) (a : Result (Unit {0}) Refusal) (ws' ns' : List ℕ) : Type 0 where
-  pub on : StartedOn ws (run (nodes_of ns) k) n f t c o ts a ws' (run (nodes_of ns') k)
+pub record StartedIn (ws ns : List ℕ) (k : ℕ) (s : Setup) (a : Result (Unit {0}) Refusal) (ws' ns' : List ℕ) : Type 0 where
+  pub on : StartedOn ws (run (nodes_of ns) k) s a ws' (run (nodes_of ns') k)
   pub nodes : ns' ≡ unless_refused a ns (unheard_words k ns)
 
 -- Of start without the run, whose form it need not know: what it answers, and what start leaves of any run that passes number 3 or doesn't, as was said.
-pub record BeginsBy (ws : List ℕ) (n : ℕ) (f : FeatureFlags) (t c : ℕ) (o : Dictionary) (ts : Thresholds) (formed : Bool) (a : Result (Unit {0}) Refusal) (ws' : List ℕ) : Type 0 where
-  pub answer : a ≡ start_answer n c formed ts
-  pub on : (r : Run) → formed ≡ well_lent r → (l : Run) → l ≡ start_left a r → StartedOn ws r n f t c o ts a ws' l
+pub record BeginsBy (ws : List ℕ) (s : Setup) (formed : Bool) (a : Result (Unit {0}) Refusal) (ws' : List ℕ) : Type 0 where
+  pub answer : a ≡ start_answer s.node s.queue_capacity formed s.thresholds
+  pub on : (r : Run) → formed ≡ well_lent r → (l : Run) → l ≡ start_left a r → StartedOn ws r s a ws' l

@@ -28,8 +28,7 @@ pub struct Setup {
 impl Setup {
     // The words of a fresh head, of a node number and a capacity that were tried: whatever stood there before is gone.
     fn fresh(self, head: &mut Head, node_id: NodeId, capacity: u8)
-        ensures { (head_of head.new ≡ fresh_head node_id self.feature_flags self.basic_ethernet_timeout capacity self.od self.thresholds)
-            × (head.new ≡ fresh_words node_id self.feature_flags self.basic_ethernet_timeout capacity self.od self.thresholds) }
+        ensures { (head_of head.new ≡ fresh_head node_id capacity self) × (head.new ≡ fresh_words node_id capacity self) }
     {
         let nmt = CnNmtStateMachine::new(node_id, self.feature_flags, self.basic_ethernet_timeout);
         let errors = CnErrorCounters::new(self.thresholds);
@@ -54,7 +53,7 @@ fn unheard(nodes: &mut NodeWords, count: usize)
 
 // Numbers 1, 2, 3 and 14, then the fresh head. Of the watched nodes it is told whether they pass number 3, whatever form they have.
 pub fn begin(head: &mut Head, setup: Setup, formed: bool) -> Result<(), Refusal>
-    ensures { BeginsBy head.old setup.node setup.feature_flags setup.basic_ethernet_timeout setup.queue_capacity setup.od setup.thresholds formed result head.new }
+    ensures { BeginsBy head.old setup formed result head.new }
 {
     let node_id = NodeId::try_from(setup.node)?;
     if 32 < setup.queue_capacity {
@@ -78,7 +77,7 @@ pub fn start(
     count: usize,
     setup: Setup,
 ) -> Result<(), Refusal>
-    ensures { StartedIn head.old nodes.old count setup.node setup.feature_flags setup.basic_ethernet_timeout setup.queue_capacity setup.od setup.thresholds result head.new nodes.new }
+    ensures { StartedIn head.old nodes.old count setup result head.new nodes.new }
 {
     let formed = well_formed(nodes, count);
     begin(head, setup, formed)?;

@@ -204,15 +204,11 @@ remove_made κs a o x e = Made.remove a.1.1.1.0 o e
 pub start_ensures :
     (κs : _) (a : _) (o : Result (Unit {0}) Refusal) (x : _) →
     start.Learnt κs a o x ≡
-    StartedIn a.0.now a.1.0.now a.1.1.0 a.1.1.1.0.node a.1.1.1.0.feature_flags a.1.1.1.0.basic_ethernet_timeout a.1.1.1.0.queue_capacity a.1.1.1.0.od a.1.1.1.0.thresholds
-    o x.0.now x.1.0.now
+    StartedIn a.0.now a.1.0.now a.1.1.0 a.1.1.1.0 o x.0.now x.1.0.now
 start_ensures κs a o x = refl
 
 pub start_begun :
     (κs : _) (a : _) (o : Result (Unit {0}) Refusal) (x : _) →
     start.Learnt κs a o x →
-    Began
-    (start_of a.1.1.1.0.node a.1.1.1.0.feature_flags a.1.1.1.0.basic_ethernet_timeout a.1.1.1.0.queue_capacity a.1.1.1.0.od a.1.1.1.0.thresholds
-    (run (nodes_of a.1.0.now) a.1.1.0))
-    o (run (nodes_of x.1.0.now) a.1.1.0) x.0.now
-start_begun κs a o x e = Began.start a.1.1.1.0.node a.1.1.1.0.feature_flags a.1.1.1.0.basic_ethernet_timeout a.1.1.1.0.queue_capacity a.1.1.1.0.od a.1.1.1.0.thresholds o e
+    Began (start_of a.1.1.1.0 (run (nodes_of a.1.0.now) a.1.1.0)) o (run (nodes_of x.1.0.now) a.1.1.0) x.0.now
+start_begun κs a o x e = Began.start a.1.1.1.0 o e

@@ -5,9 +5,6 @@ use mathlib.Core.Path.{◌≡◌, ◌∙◌}
 use mathlib.Core.List.{List, [], ◌∷◌, ◌++◌}
 use Rattle.types.specs.Refusals.{refusal_number}
 use Rattle.types.specs.declared.refusals.Refusal.{Refusal}
-use Rattle.types.specs.declared.nmt.flags.FeatureFlags.{FeatureFlags}
-use Rattle.counters.specs.Counters.{Thresholds}
-use Rattle.head.specs.declared.state.Dictionary.{Dictionary}
 use Rattle.head.specs.Words.{head_of}
 use Rattle.watched.specs.Watched.{Run}
 use Rattle.std.specs.declared.result.Result.{Result}
@@ -16,6 +13,7 @@ use Rattle.node.specs.Plain.{Call, Start, declined}
 use Rattle.node.specs.Steps.{started}
 use Rattle.node.specs.Run.{Said}
 use Rattle.node.specs.Refines.{Refines, left}
+use Rattle.start.specs.declared.start.Setup.{Setup}
 use Rattle.start.specs.Started.{Begins, StartedOn}
 use Rattle.start.proofs.start.start.Reads as start-reads
 use Rattle.start.proofs.Links.{start_leaves}
@@ -65,8 +63,8 @@ and_then (next f d) r = next f (and_then d r)
 
 -- what start's contract in src/ ensures is `Begins`
 pub begins : {s : Start} {o : Result (Unit {0}) Refusal} {l : Run} {ws : List ℕ} → Began s o l ws → Begins s o (head_of ws) l
-begins (Began.start n f t c od ts o e) = e.on.begins
-begins (Began.start_run r n f t c od ts o r' e) = e.begins
+begins (Began.start g o e) = e.on.begins
+begins (Began.start_run r g o r' e) = e.begins
 
 -- from the words that start wrote, over any list of the calls
 pub demand_3 :
@@ -91,8 +89,8 @@ pub start_declined_words :
 start_declined_words κs a r x e = (e.on.words, start_leaves κs a (Err r) x e)
 
 pub start_declined_run :
-    {ws ws' : List ℕ} {l l' : Run} {n t c : ℕ} {f : FeatureFlags} {od : Dictionary} {ts : Thresholds} {r : Refusal} →
-    StartedOn ws l n f t c od ts (Err r) ws' l' → ws' ≡ ws
+    {ws ws' : List ℕ} {l l' : Run} {g : Setup} {r : Refusal} →
+    StartedOn ws l g (Err r) ws' l' → ws' ≡ ws
 start_declined_run e = e.words
 
 -- what was lent to start is left as the plain start leaves it

@@ -7,9 +7,6 @@ use Rattle.std.specs.Prelude.{ℤ, ℕ, ◌≡◌, Bool, List, [], ◌∷◌}
 use Rattle.types.specs.Events.{read_event}
 use Rattle.types.specs.CsEvents.{read_cs_event}
 use Rattle.types.specs.Errors.{read_error}
-use Rattle.types.specs.declared.nmt.flags.FeatureFlags.{FeatureFlags}
-use Rattle.counters.specs.Counters.{Thresholds}
-use Rattle.head.specs.declared.state.Dictionary.{Dictionary}
 use Rattle.head.specs.Words.{head_of}
 use Rattle.std.specs.declared.result.Result.{Result}
 use Rattle.std.specs.declared.option.Option.{Option}
@@ -31,6 +28,7 @@ use Rattle.node.specs.Loaded.{LoadedIn}
 use Rattle.node.specs.declared.load.DictionaryUpdate.{DictionaryUpdate}
 use Rattle.tick.specs.TickIn.{tick_said, TickedIn, TickedOn}
 use Rattle.partners.specs.Partners.{Added, Removed}
+use Rattle.start.specs.declared.start.Setup.{Setup}
 use Rattle.start.specs.Started.{start_of, StartedIn, StartedOn}
 
 abbrev pub says : Answer → Run → Said
@@ -122,13 +120,13 @@ pub data Made : List ℕ → List ℕ → List ℕ → List ℕ → ℕ → Call
 -- Of a start: what it was given, what it answered, the run as it left it, and the words that it left.
 pub data Began : Start → Result (Unit {0}) Refusal → Run → List ℕ → Type 0 where
   start :
-      {ws ns ws' ns' : List ℕ} {k : ℕ} (n : ℕ) (f : FeatureFlags) (t c : ℕ) (od : Dictionary) (ts : Thresholds) (o : Result (Unit {0}) Refusal) →
-      StartedIn ws ns k n f t c od ts o ws' ns' →
-      Began (start_of n f t c od ts (run (nodes_of ns) k)) o (run (nodes_of ns') k) ws'
+      {ws ns ws' ns' : List ℕ} {k : ℕ} (g : Setup) (o : Result (Unit {0}) Refusal) →
+      StartedIn ws ns k g o ws' ns' →
+      Began (start_of g (run (nodes_of ns) k)) o (run (nodes_of ns') k) ws'
   start_run :
-      {ws ws' : List ℕ} (r : Run) (n : ℕ) (f : FeatureFlags) (t c : ℕ) (od : Dictionary) (ts : Thresholds) (o : Result (Unit {0}) Refusal) (r' : Run) →
-      StartedOn ws r n f t c od ts o ws' r' →
-      Began (start_of n f t c od ts r) o r' ws'
+      {ws ws' : List ℕ} (r : Run) (g : Setup) (o : Result (Unit {0}) Refusal) (r' : Run) →
+      StartedOn ws r g o ws' r' →
+      Began (start_of g r) o r' ws'
 
 -- The head's words, its queue's bytes and its history's bytes before the calls; the calls; what they said; the three after them. Each call is on what the
 -- last one left: "Nobody else writes head, queue or history meanwhile". The watched nodes are lent with each call, whatever they are.

@@ -7,14 +7,12 @@ use Rattle.lent.proofs.calls.start.Goals as goal
 pub returns-in_err-begin : goal.returns-in_err-begin
 returns-in_err-begin c =
     let a = c.args in
-    let s = a.setup in
     let r : c.from_residual.result ≡ Err c.in_err-begin.field-0.0 = search rules in
-    rw r (start_refused a.head.now a.nodes.now a.number s.node s.feature_flags s.basic_ethernet_timeout s.queue_capacity s.od s.thresholds _ c.for_nodes.ensures c.survey.result c.survey.ensures
+    rw r (start_refused a.head.now a.nodes.now a.number a.setup _ c.for_nodes.ensures c.survey.result c.survey.ensures
     c.is_some-formed.result c.is_some-formed.ensures c.begin.result _ c.begin.ensures _ c.in_err-begin.was)
 
 pub returns : goal.returns
 returns c =
     let a = c.args in
-    let s = a.setup in
-    start_done a.head.now a.nodes.now a.number s.node s.feature_flags s.basic_ethernet_timeout s.queue_capacity s.od s.thresholds _ c.for_nodes.ensures c.survey.result c.survey.ensures
+    start_done a.head.now a.nodes.now a.number a.setup _ c.for_nodes.ensures c.survey.result c.survey.ensures
     c.is_some-formed.result c.is_some-formed.ensures c.begin.result _ c.begin.ensures c.in_ok-begin.was _ c.settle.ensures

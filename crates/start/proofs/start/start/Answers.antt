@@ -9,18 +9,15 @@ use Rattle.start.proofs.start.start.Goals as goal
 pub unheard-requires : goal.unheard-requires
 unheard-requires c =
     let a = c.args in
-    let s = a.setup in
-    omega (arith, below a.head.now a.nodes.now a.count s.node s.feature_flags s.basic_ethernet_timeout s.queue_capacity s.od s.thresholds c.well_formed-formed.result c.well_formed-formed.ensures c.begin.result _ c.begin.ensures c.in_ok-begin.was)
+    omega (arith, below a.head.now a.nodes.now a.count a.setup c.well_formed-formed.result c.well_formed-formed.ensures c.begin.result _ c.begin.ensures c.in_ok-begin.was)
 
 pub returns : goal.returns
 returns c =
     let a = c.args in
-    let s = a.setup in
-    begun a.head.now a.nodes.now a.count s.node s.feature_flags s.basic_ethernet_timeout s.queue_capacity s.od s.thresholds c.well_formed-formed.result c.well_formed-formed.ensures c.begin.result _ c.begin.ensures c.in_ok-begin.was _ c.unheard.ensures
+    begun a.head.now a.nodes.now a.count a.setup c.well_formed-formed.result c.well_formed-formed.ensures c.begin.result _ c.begin.ensures c.in_ok-begin.was _ c.unheard.ensures
 
 pub returns-in_err-begin : goal.returns-in_err-begin
 returns-in_err-begin c =
     let a = c.args in
-    let s = a.setup in
     let r : c.from_residual.result ≡ Err c.in_err-begin.field-0.0 = search rules in
-    rw r (declined a.head.now a.nodes.now a.count s.node s.feature_flags s.basic_ethernet_timeout s.queue_capacity s.od s.thresholds c.well_formed-formed.result c.well_formed-formed.ensures c.begin.result _ c.begin.ensures _ c.in_err-begin.was)
+    rw r (declined a.head.now a.nodes.now a.count a.setup c.well_formed-formed.result c.well_formed-formed.ensures c.begin.result _ c.begin.ensures _ c.in_err-begin.was)
