@@ -1,7 +1,7 @@
 -- The tests of an answer are true exactly where it is the one stated: each arm of a match, over plain variables.
 -- Assumes nothing.
 use Prim.Native.Nat.{ℕ}
-use mathlib.Core.Path.{◌≡◌, refl, sym, ap, ◌∙◌}
+use mathlib.Core.Path.{◌≡◌, refl, ap}
 use mathlib.Core.Bool.{Bool, true, false}
 use mathlib.Core.List.{[], ◌∷◌}
 use native.Mathlib.Omega.{arith}
@@ -28,7 +28,7 @@ use Rattle.node.specs.Plain.{nmt_answer, dll_answer, tick_answer}
 use Rattle.node.specs.InPlace.{nmt_said, dll_said}
 use Rattle.tick.specs.TickIn.{tick_said}
 use Rattle.examples.specs.Same.{Exactly}
-use Rattle.examples.specs.Said.{passed_of, nmt_stated, dll_stated, tick_stated}
+use Rattle.examples.specs.Said.{nmt_stated, dll_stated, tick_stated}
 use Rattle.examples.proofs.Exact.{exact_by, exact_and, exact_is, no}
 
 pub clash : ◌≡◌ {A = ℕ} 0 1 → ⊥
@@ -62,15 +62,13 @@ exact_passed x y = exact_by (record { says = same_true the_type tt x y; holds = 
 
 -- the answers, compared by `==`
 pub nmt_same :
-    (a : Result NmtTaken Refusal) (es : DllErrors) (s : ResetSequence) (whole : Bool) (ne : Refusal → Refusal → Bool) (r : Bool) →
-    passed s ≡ passed_of whole →
+    (a : Result NmtTaken Refusal) (es : DllErrors) (s : ResetSequence) (ne : Refusal → Refusal → Bool) (r : Bool) →
     r ≡ result_eq ((a-taken.ghosts).eq) ne a (Ok (record { errors = es; reset = s })) →
-    Exactly r (nmt_said a ≡ nmt_stated es whole)
-nmt_same (Ok t) es s whole ne r p e =
+    Exactly r (nmt_said a ≡ nmt_stated es s)
+nmt_same (Ok t) es s ne r e =
     exact_is e
-    (exact_by (exact_and (exact_reported t.errors es _ refl) (exact_passed t.reset s)) (λ h. λ i. nmt_answer (h.0 i) ((h.1 ∙ p) i))
-    (λ h. let q : passed t.reset ≡ passed_of whole = cc in (cc, q ∙ sym p)))
-nmt_same (Err n) es s whole ne r p e = exact_is e (never (λ h. clash (cc)))
+    (exact_by (exact_and (exact_reported t.errors es _ refl) (exact_passed t.reset s)) (λ h. λ i. nmt_answer (h.0 i) (h.1 i)) (λ h. (cc, cc)))
+nmt_same (Err n) es s ne r e = exact_is e (never (λ h. clash (cc)))
 
 -- of a DLL event and of a tick, compared by `==`
 pub dll_same :

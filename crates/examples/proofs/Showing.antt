@@ -29,7 +29,7 @@ use Rattle.start.specs.declared.start.Setup.{Setup}
 use Rattle.start.specs.Started.{start_of, StartedIn}
 use Rattle.node.specs.Examples.{Coming, Example, comings, comes_of, stated, values, sw_reset, examples}
 use Rattle.node.proofs.Examples.{examples_hold}
-use Rattle.examples.specs.Shown.{placed, Stands, Came}
+use Rattle.examples.specs.Shown.{placed, Stands, Came, last, Shown}
 use Rattle.examples.proofs.Answering.{clash}
 
 -- what the table proves of its k-th example
@@ -43,9 +43,12 @@ pub record Along (ws q m : List ℕ) (p : Plain) (cs : List Call) (xs : List Com
   pub history : (head_of ws).history ≡ error_history 0 0
   pub coming : comings p cs ≡ xs
 
-pub begin : (e : Example) (ws : List ℕ) → Stands ws e.before → comes_of e ≡ stated e → (q m : List ℕ) → Along ws q m e.before e.calls e.after
-begin e ws s h q m =
+pub along : {ws : List ℕ} {p : Plain} {cs : List Call} {xs : List Coming} → Stands ws p → comings p cs ≡ xs → (q m : List ℕ) → Along ws q m p cs xs
+along s h q m =
     record { whole = s.whole q m; queue = ap (λ z. z.queue) s.places; history = ap (λ z. z.history) s.places; coming = h }
+
+pub begin : (e : Example) (ws : List ℕ) → Stands ws e.before → comes_of e ≡ stated e → (q m : List ℕ) → Along ws q m e.before e.calls e.after
+begin e ws s = along s
 
 -- What a call came to, of which the table states x: head, run, and that it was found so.
 pub record Arrived (x : Coming) (ws q m : List ℕ) (l : Run) (r : Bool) : Type 0 where
@@ -58,6 +61,10 @@ first_same e = cc
 
 rest_same : {B : Type 0} {a b : B} {xs ys : List B} → a ∷ xs ≡ b ∷ ys → xs ≡ ys
 rest_same e = cc
+
+-- what is to come behind the first call
+pub then_coming : (p : Plain) (c : Call) (cs : List Call) (x : Coming) (xs : List Coming) → comings p (c ∷ cs) ≡ x ∷ xs → comings x.all.head cs ≡ xs
+then_coming p c cs x xs h = ap (λ (y : Coming). comings y.all.head cs) (sym (first_same h)) ∙ rest_same h
 
 module _
     {ws q m : List ℕ} {p : Plain} {c : Call} {cs : List Call} {x : Coming} {xs : List Coming}
@@ -91,7 +98,7 @@ module _
       let o = ap (λ (k : Rings). k.queue) same ∙ w.queue in
       let n = ap (λ (k : Rings). k.history) same ∙ w.history in (
         arrived (queue 0 0 1) (error_history 0 0) o n s.places,
-        record { whole = whole'; queue = o; history = n; coming = ap (λ (s : Step). comings s.head cs) (sym stepped) ∙ rest_same w.coming },
+        record { whole = whole'; queue = o; history = n; coming = then_coming p c cs x xs w.coming },
       )
 
   -- where an entry joins queue and history
@@ -102,6 +109,24 @@ module _
       (λ i. record { queue = w.queue i; queue_bytes = q; history = w.history i; history_bytes = m }) in
       let joins' = places' ∙ ap (joins_all (rings (head_of ws) q m)) one ∙ ap (λ (k : Rings). joins k y) empty in
       arrived (queue 0 1 1) (error_history 253 1) (ap (λ (k : Rings). k.queue) joins') (ap (λ (k : Rings). k.history) joins') g
+
+-- What an example left that came to its last call, where all that was compared came so; and one of a single call.
+pub shown : {e : Example} {x : Coming} {ws q m : List ℕ} {l : Run} {r s : Bool} → last e ≡ x.all → Arrived x ws q m l r → s ≡ true → Shown e ws q m l s
+shown z a y = record { head = a.whole ∙ sym (ap (λ (s : Step). s.head) z); lent = a.lent ∙ sym (ap (λ (s : Step). s.lent) z); same = y }
+
+pub shown_once :
+    {e : Example} {ws q m : List ℕ} {c : Call} {x : Coming} {a : Answer} {after ws' q' m' : List ℕ} {l : Run} {r : Bool} →
+    Along ws q m e.before (c ∷ []) (x ∷ []) → last e ≡ x.all → Came ws q m c a after ws' q' m' l r → x.all.answer ≡ a → x.all.crossings ≡ [] →
+    Stands after x.all.head → Shown e ws' q' m' l r
+shown_once w z k says none s = let n = next w k says none s in shown z n.0 n.0.same
+
+-- a head that was found to be the one that is stated stands for what that one stands for
+pub stands_there :
+    {ws q m : List ℕ} {c : Call} {a : Answer} {after ws' q' m' : List ℕ} {l : Run} {r : Bool} {p : Plain} →
+    Came ws q m c a after ws' q' m' l r → r ≡ true → Stands after p → Stands ws' p
+stands_there k y s =
+    let h = (k.tells.says y).1 in
+    record { places = h ∙ s.places; whole = λ q m. ap (λ h. plain h q m) h ∙ s.whole q m }
 
 -- all that was compared
 pub also : {a b : Bool} → a ≡ true → b ≡ true → (a && b) ≡ true

@@ -4,7 +4,7 @@ use Prim.Native.Nat.{ℕ}
 use mathlib.Core.Path.{◌≡◌, refl, ap, ◌∙◌}
 use mathlib.Core.Bool.{Bool, true, false}
 use mathlib.Core.List.{List, []}
-use lib.ListN.{set, replicate}
+use lib.ListN.{length, set, replicate}
 use Rattle.types.specs.States.{read_state}
 use Rattle.types.specs.declared.nmt.states.NmtState.{NmtState}
 use Rattle.types.specs.declared.nmt.states.NmtState.TheVariants.{NmtOperational, NmtPreOperational1}
@@ -14,11 +14,11 @@ use Rattle.entries.specs.Ring.{listed}
 use Rattle.entries.specs.Queue.{queue, waiting}
 use Rattle.entries.specs.History.{error_history, history}
 use Rattle.std.specs.declared.option.Option.TheVariants.{Some, None}
-use Rattle.head.specs.Head.{Head, soc_watch}
+use Rattle.head.specs.Head.{Head, soc_watch, head_with_earliest}
 use Rattle.head.specs.Places as at
 use Rattle.head.specs.Words.{head_of}
 use Rattle.head.specs.Written.{counter_written, soc_written, queue_written, history_written, earliest_written}
-use Rattle.head.proofs.Laws.{state_back, yes_one, time_back}
+use Rattle.head.proofs.Laws.{state_back, yes_one, time_back, earliest_written_lem}
 use Rattle.node.specs.Plain.{Plain}
 use Rattle.node.specs.Steps.{plain_of}
 use Rattle.node.specs.Refines.{plain}
@@ -55,14 +55,13 @@ pub counting_stands :
 unfolding head_of resting_words read_state
 counting_stands a x b c d ws e = stands ws (counting (counters_of a x b c d)) (ap head_of e) refl refl refl
 
+-- a head that counts, with the moment at which a watched node would be late
 pub awaiting_stands :
-    (t c d : ℕ) (ws : List ℕ) →
-    ws ≡ earliest_written (counter_written (resting_words NmtOperational false true (values 0 0 0 0 0)) HeartbeatTimeout (counter_of c d 15 0)) (Some t) →
-    Stands ws (awaiting t (counters_of 0 0 0 c d))
-unfolding head_of resting_words read_state
-awaiting_stands t c d ws e =
-    stands ws (awaiting t (counters_of 0 0 0 c d))
-    (ap head_of e ∙ (λ i. placed (awaiting (time_back t i) (counters_of 0 0 0 c d)) (queue 0 0 1) (error_history 0 0))) refl refl refl
+    (t c d : ℕ) (ws : List ℕ) → length ws ≡ 60 → Stands ws (counting (counters_of 0 0 0 c d)) → (ws' : List ℕ) → ws' ≡ earliest_written ws (Some t) →
+    Stands ws' (awaiting t (counters_of 0 0 0 c d))
+awaiting_stands t c d ws long s ws' e =
+    stands ws' (awaiting t (counters_of 0 0 0 c d))
+    (ap head_of e ∙ earliest_written_lem ws long (Some t) ∙ ap (λ (h : Head). head_with_earliest h (Some t)) s.places) refl refl refl
 
 pub cycling_stands :
     (deadline level lost : ℕ) (ws : List ℕ) →

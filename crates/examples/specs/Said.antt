@@ -7,17 +7,14 @@ use Rattle.types.specs.declared.frame.error.types.DllError.TheVariants as error
 use Rattle.types.specs.declared.frame.error.types.DllErrors.{DllErrors}
 use Rattle.types.specs.declared.frame.error.types.DllErrors.TheVariants as errors
 use Rattle.types.specs.declared.frame.error.types.NmtAction.TheVariants as action
-use Rattle.nmt.specs.Resets.{Passed}
+use Rattle.nmt.specs.Resets.{passed}
+use Rattle.nmt.specs.declared.state_machine.ResetSequence.{ResetSequence}
 use Rattle.node.specs.Plain.{Answer, nmt_answer, dll_answer, tick_answer}
-use Rattle.node.specs.Examples.{nothing_passed, whole_reset, quiet, asks_reset}
+use Rattle.node.specs.Examples.{quiet, asks_reset}
 use Rattle.counters.specs.declared.counters.ErrorTaken.{ErrorTaken}
 
--- of a whole reset, or of no reset
-abbrev pub passed_of : Bool → Passed
-passed_of whole = pick whole whole_reset nothing_passed
-
-abbrev pub nmt_stated : DllErrors → Bool → Answer
-nmt_stated es whole = nmt_answer (reported es) (passed_of whole)
+abbrev pub nmt_stated : DllErrors → ResetSequence → Answer
+nmt_stated es s = nmt_answer (reported es) (passed s)
 
 abbrev pub dll_stated : DllErrors → Answer
 dll_stated es = dll_answer (reported es)

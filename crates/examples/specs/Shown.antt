@@ -13,13 +13,15 @@ use Rattle.head.specs.Head.{Head, of_parts}
 use Rattle.head.specs.Places as at
 use Rattle.head.specs.Words.{head_of}
 use Rattle.head.specs.Written.{nmt_written, identity_written, thresholds_written, od_written}
-use Rattle.watched.specs.Watched.{Run}
+use Rattle.watched.specs.Watched.{Run, run}
+use Rattle.watched.specs.Nodes.{nodes_of}
 use Rattle.node.specs.Plain.{Plain, Call, Answer, taken, Step}
 use Rattle.node.specs.Steps.{no_run, answers}
 use Rattle.node.specs.Run.{step}
 use Rattle.node.specs.Refines.{plain, rings, joins_all}
 use Rattle.node.specs.Examples.{Coming, Example, machine}
 use Rattle.examples.specs.Same.{Exactly}
+use Rattle.examples.specs.declared.bench.Bench.{Bench}
 
 -- a head with the parts of a plain one, its queue and its history at these places
 abbrev pub placed : Plain → EmergencyQueue → ErrorHistory → Head
@@ -61,3 +63,7 @@ pub record Shown (e : Example) (ws q m : List ℕ) (l : Run) (r : Bool) : Type 0
   pub head : plain (head_of ws) q m ≡ (last e).head
   pub lent : l ≡ (last e).lent
   pub same : r ≡ true
+
+-- the same of an example of ticks, by what it ran on and how many of its nodes are watched
+abbrev pub ShownOn : Example → Bench → ℕ → Bool → Type 0
+ShownOn e b k r = Shown e b.head b.queue b.history (run (nodes_of b.nodes) k) r

@@ -1,38 +1,20 @@
 // Whether a call answered what is stated.
 ghost use Rattle.std.specs.Prelude.{◌≡◌};
-ghost use Rattle.nmt.specs.Resets.{passed};
 ghost use Rattle.node.specs.Plain.{taken};
 ghost use Rattle.node.specs.InPlace.{said, nmt_said, dll_said, error_said};
 ghost use Rattle.tick.specs.TickIn.{tick_said};
 ghost use Rattle.examples.specs.Same.{Exactly};
-ghost use Rattle.examples.specs.Said.{passed_of, nmt_stated, dll_stated, replied_of, error_stated, tick_stated};
+ghost use Rattle.examples.specs.Said.{nmt_stated, dll_stated, replied_of, error_stated, tick_stated};
 
 use nmt::state_machine::ResetSequence;
 use node::calls::{ErrorTaken, NmtTaken};
-use types::frame::error::types::{DllError, DllErrors, NmtAction};
+use types::frame::error::types::{DllError, DllErrors};
 use types::refusals::Refusal;
 
-// What a whole reset passes, or no reset.
-fn passes(whole: bool) -> ResetSequence
-    ensures { passed result ≡ passed_of whole }
+pub fn nmt_says(answer: Result<NmtTaken, Refusal>, errors: DllErrors, reset: ResetSequence) -> bool
+    ensures { Exactly result (nmt_said answer ≡ nmt_stated errors reset) }
 {
-    if whole {
-        ResetSequence::Whole
-    } else {
-        ResetSequence::None
-    }
-}
-
-// A whole reset, or none.
-pub fn nmt_says(answer: Result<NmtTaken, Refusal>, stated: DllErrors, whole: bool) -> bool
-    ensures { Exactly result (nmt_said answer ≡ nmt_stated stated whole) }
-{
-    let reset = passes(whole);
-    answer
-        == Ok(NmtTaken {
-            errors: stated,
-            reset,
-        })
+    answer == Ok(NmtTaken { errors, reset })
 }
 
 // Of a DLL event and of a tick.
@@ -47,18 +29,7 @@ pub fn says(answer: Result<DllErrors, Refusal>, stated: DllErrors) -> bool
 fn reply(crosses: bool) -> ErrorTaken
     ensures { result ≡ replied_of crosses }
 {
-    if crosses {
-        return ErrorTaken {
-            action: NmtAction::ResetCommunication,
-            signal: true,
-            logged: DllErrors::One(DllError::LossOfSoc),
-        };
-    }
-    ErrorTaken {
-        action: NmtAction::None,
-        signal: false,
-        logged: DllErrors::None,
-    }
+    ErrorTaken::counted(crosses, DllError::LossOfSoc)
 }
 
 // Of a loss that crosses, or of one that does not.

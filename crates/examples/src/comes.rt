@@ -17,6 +17,7 @@ use crate::same::same_head;
 use counters::counters::CounterKind;
 use head::parts::counter_of;
 use head::state::Head;
+use nmt::state_machine::ResetSequence;
 use node::calls::{dll_event, handle_error, nmt_event, on_cycle_complete, withdraw};
 use node::heard::heard;
 use tick::tick::process_tick;
@@ -30,10 +31,16 @@ pub fn withdrawn(head: &mut Head, after: &Head) -> bool
     said & same_head(head, after)
 }
 
-pub fn nmt_comes(head: &mut Head, event: u64, stated: DllErrors, whole: bool, after: &Head) -> bool
-    ensures { (q m : List ℕ) → Came head.old q m (Call.nmt_event event) (nmt_stated stated whole) after.now head.new q m no_run result }
+pub fn nmt_comes(
+    head: &mut Head,
+    event: u64,
+    errors: DllErrors,
+    reset: ResetSequence,
+    after: &Head,
+) -> bool
+    ensures { (q m : List ℕ) → Came head.old q m (Call.nmt_event event) (nmt_stated errors reset) after.now head.new q m no_run result }
 {
-    let said = nmt_says(nmt_event(head, event), stated, whole);
+    let said = nmt_says(nmt_event(head, event), errors, reset);
     said & same_head(head, after)
 }
 

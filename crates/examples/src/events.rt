@@ -9,6 +9,7 @@ use crate::comes::{cycle_comes, dll_comes, error_comes, nmt_comes, raises_to, wi
 use crate::heads::{counting, resting, values};
 use counters::counters::Thresholds;
 use head::state::Head;
+use nmt::state_machine::ResetSequence;
 use start::start::{Setup, start};
 use types::frame::error::types::{DllError, DllErrors};
 use types::nmt::flags::FeatureFlags;
@@ -30,7 +31,7 @@ pub fn sw_reset(head: &mut Head, after: &mut Head, nodes: &mut NodeWords) -> boo
     };
     let answer = start(head, nodes, 0, setup);
     let started = is_taken(answer);
-    started & nmt_comes(head, 5, DllErrors::None, true, after)
+    started & nmt_comes(head, 5, DllErrors::None, ResetSequence::Whole, after)
 }
 
 // NotActive, Timeout: 0x1E.
@@ -39,7 +40,7 @@ pub fn timeout(head: &mut Head, after: &mut Head) -> bool
 {
     resting(head, NmtState::NmtNotActive, false, true);
     resting(after, NmtState::NmtBasicEthernet, false, true);
-    nmt_comes(head, 10, DllErrors::None, false, after)
+    nmt_comes(head, 10, DllErrors::None, ResetSequence::None, after)
 }
 
 // PreOperational2, withdrawn, EnableReadyToOperate: stays, enabled; ready word: 0x6D.
@@ -50,9 +51,9 @@ pub fn enable(head: &mut Head, after: &mut Head) -> bool
     resting(after, NmtState::NmtPreOperational2, false, false);
     let withdrawn = withdrawn(head, after);
     resting(after, NmtState::NmtPreOperational2, true, false);
-    let enabled = nmt_comes(head, 3, DllErrors::None, false, after);
+    let enabled = nmt_comes(head, 3, DllErrors::None, ResetSequence::None, after);
     resting(after, NmtState::NmtReadyToOperate, true, true);
-    withdrawn & enabled & nmt_comes(head, 15, DllErrors::None, false, after)
+    withdrawn & enabled & nmt_comes(head, 15, DllErrors::None, ResetSequence::None, after)
 }
 
 // ReadyToOperate, EnterPreOperational2: stays, error (0x6D, 2).
@@ -68,7 +69,7 @@ pub fn no_row(head: &mut Head, after: &mut Head) -> bool
             state: 0x6D,
             event: 2,
         }),
-        false,
+        ResetSequence::None,
         after,
     )
 }

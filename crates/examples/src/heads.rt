@@ -111,9 +111,7 @@ pub fn counting(head: &mut Head, socs: u32, crossings: u32, soc: u32, beats: u32
 pub fn awaiting(head: &mut Head, earliest: u64, beats: u32, beat: u32)
     ensures { Stands head.new (awaiting earliest (counters_of 0 0 0 beats beat)) }
 {
-    let od = values(0, 0, 0, 0, 0);
-    write(head, OPERATIONAL, od);
-    set_counter(head, CounterKind::HeartbeatTimeout, counter(beats, 0, beat));
+    counting(head, 0, 0, 0, beats, beat);
     set_earliest(head, Some(earliest));
 }
 
@@ -184,15 +182,21 @@ pub fn watch_none(nodes: &mut NodeWords)
     *nodes = [0; 96];
 }
 
-// Node 5 with timeout 50, last heard at a time, and no other.
+// Node 5 with timeout 50.
+pub fn node_five(last_heard: u64) -> NodeRecord
+    ensures { result ≡ record { node = 5; timeout = 50; last_heard = last_heard } }
+{
+    NodeRecord {
+        node: 5,
+        timeout: 50,
+        last_heard,
+    }
+}
+
+// Node 5, last heard at a time, and no other.
 pub fn watching(nodes: &mut NodeWords, last_heard: u64)
     ensures { run (nodes_of nodes.new) 1 ≡ watching_one last_heard }
 {
     *nodes = [0; 96];
-    let node = NodeRecord {
-        node: 5,
-        timeout: 50,
-        last_heard,
-    };
-    node.put(nodes, 0);
+    node_five(last_heard).put(nodes, 0);
 }

@@ -1,25 +1,22 @@
 // The examples of ticks: each with the document's words, as the table states it.
 ghost use Rattle.std.specs.Prelude.{◌≡◌};
 ghost use Rattle.node.specs.Examples as table;
-ghost use Rattle.watched.specs.Nodes.{nodes_of};
-ghost use Rattle.watched.specs.Watched.{run};
-ghost use Rattle.examples.specs.Shown.{Shown};
+ghost use Rattle.examples.specs.Shown.{Stands, ShownOn};
 
 use crate::bench::Bench;
 use crate::comes::{heard_comes, tick_comes};
-use crate::heads::{awaiting, counting, crossed, cycling, watch_none, watching};
+use crate::heads::{awaiting, counting, crossed, cycling, node_five, watch_none, watching};
 use crate::memory::{is_recorded, waits};
 use crate::runs::is_watching;
 use entries::status_response::{EntryType, ErrorEntry};
 use head::state::Head;
 use types::common::NetTime;
 use types::frame::error::types::{DllError, DllErrors};
-use watched::record::NodeRecord;
 
 // This and the next two differ in numbers only, but each is proved against its own entry of the table.
 // .. deadline 10,500, tick 10,500: deadline 11,100.
 pub fn early(bench: &mut Bench, after: &mut Head) -> bool
-    ensures { Shown table.early bench.new.head bench.new.queue bench.new.history (run (nodes_of bench.new.nodes) 0) result }
+    ensures { ShownOn table.early bench.new 0 result }
 {
     watch_none(&mut bench.nodes);
     cycling(&mut bench.head, 10500, 0, 0);
@@ -29,7 +26,7 @@ pub fn early(bench: &mut Bench, after: &mut Head) -> bool
 
 // Tick 11,100, deadline 11,100: no loss, deadline 12,100.
 pub fn at_limit(bench: &mut Bench, after: &mut Head) -> bool
-    ensures { Shown table.at_limit bench.new.head bench.new.queue bench.new.history (run (nodes_of bench.new.nodes) 0) result }
+    ensures { ShownOn table.at_limit bench.new 0 result }
 {
     watch_none(&mut bench.nodes);
     cycling(&mut bench.head, 11100, 0, 0);
@@ -39,7 +36,7 @@ pub fn at_limit(bench: &mut Bench, after: &mut Head) -> bool
 
 // 11,101 instead: loss, level 8, deadline 12,100.
 pub fn above_limit(bench: &mut Bench, after: &mut Head) -> bool
-    ensures { Shown table.above_limit bench.new.head bench.new.queue bench.new.history (run (nodes_of bench.new.nodes) 0) result }
+    ensures { ShownOn table.above_limit bench.new 0 result × Stands bench.new.head (table.cycling 12100 8 1) }
 {
     watch_none(&mut bench.nodes);
     cycling(&mut bench.head, 11100, 0, 0);
@@ -64,12 +61,9 @@ fn crossing_entry() -> ErrorEntry
 
 // Then 12,100: crossing; entry 0x8245, 0 s 12,100,000 ns; PreOperational1, check off, no deadline.
 pub fn then_crossing(bench: &mut Bench, after: &mut Head) -> bool
-    ensures { Shown table.then_crossing bench.new.head bench.new.queue bench.new.history (run (nodes_of bench.new.nodes) 0) result }
+    ensures { ShownOn table.then_crossing bench.new 0 result }
 {
-    watch_none(&mut bench.nodes);
-    cycling(&mut bench.head, 11100, 0, 0);
-    cycling(after, 12100, 8, 1);
-    let lost = tick_comes(bench, 0, 11101, DllErrors::None, after);
+    let lost = above_limit(bench, after);
     crossed(after);
     let crossed = tick_comes(bench, 0, 12100, DllErrors::One(DllError::LossOfSoc), after);
     let entry = crossing_entry();
@@ -78,20 +72,9 @@ pub fn then_crossing(bench: &mut Bench, after: &mut Head) -> bool
         & is_recorded(&bench.head, &bench.history, entry)
 }
 
-// Node 5 with timeout 50.
-fn node_five(last_heard: u64) -> NodeRecord
-    ensures { result ≡ record { node = 5; timeout = 50; last_heard = last_heard } }
-{
-    NodeRecord {
-        node: 5,
-        timeout: 50,
-        last_heard,
-    }
-}
-
 // Timeout 50, heard 100: 150 in time, 151 late. The earliest moment (document 02, No. 1) is then 151, and behind the last tick 202.
 pub fn late(bench: &mut Bench, after: &mut Head) -> bool
-    ensures { Shown table.late bench.new.head bench.new.queue bench.new.history (run (nodes_of bench.new.nodes) 1) result }
+    ensures { ShownOn table.late bench.new 1 result }
 {
     counting(&mut bench.head, 0, 0, 0, 0, 0);
     awaiting(after, 151, 0, 0);

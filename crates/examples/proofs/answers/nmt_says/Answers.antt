@@ -5,4 +5,4 @@ use Rattle.examples.proofs.answers.nmt_says.Goals as goal
 
 pub returns : goal.returns
 returns c =
-    nmt_same _ _ _ c.args.whole _ _ c.passes-reset.ensures c.eq.ensures
+    nmt_same _ _ _ _ _ c.eq.ensures

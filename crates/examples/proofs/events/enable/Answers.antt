@@ -2,7 +2,7 @@
 -- Assumes nothing.
 use mathlib.Core.Path.{refl}
 use Rattle.node.specs.Examples.{enable}
-use Rattle.examples.proofs.Showing.{holds, begin, next, also}
+use Rattle.examples.proofs.Showing.{holds, begin, next, also, shown}
 use Rattle.examples.proofs.events.enable.Goals as goal
 
 pub returns : goal.returns
@@ -11,4 +11,4 @@ returns c =
     let w = next (begin enable _ c.resting.ensures (holds 2) q m) (c.withdrawn-withdrawn.ensures q m) refl refl c.resting-2.ensures in
     let e = next w.1 (c.nmt_comes-enabled.ensures q m) refl refl c.resting-3.ensures in
     let r = next e.1 (c.nmt_comes.ensures q m) refl refl c.resting-4.ensures in
-    record { head = r.0.whole; lent = r.0.lent; same = also (also w.0.same e.0.same) r.0.same }
+    shown refl r.0 (also (also w.0.same e.0.same) r.0.same)

@@ -4,7 +4,7 @@ use mathlib.Core.Path.{refl, ap}
 use Rattle.counters.specs.Counters.{incremented}
 use Rattle.counters.specs.declared.counters.CnErrorCounters.{CnErrorCounters}
 use Rattle.node.specs.Examples.{two_between}
-use Rattle.examples.proofs.Showing.{holds, begin, next, counters_are, also}
+use Rattle.examples.proofs.Showing.{holds, begin, next, counters_are, also, shown}
 use Rattle.examples.proofs.events.two_between.Goals as goal
 
 pub returns : goal.returns
@@ -15,4 +15,4 @@ returns c =
     let g = next d.1 (c.cycle_comes-again.ensures q m) refl refl c.counting-4.ensures in
     let u = c.raises_to.ensures.holds (ap (λ (e : CnErrorCounters). (incremented e.counters.loss_of_soc).threshold_cnt) (counters_are _ q m _ g.1.whole)) in
     let s = next g.1 (c.error_comes.ensures q m) refl refl c.counting-5.ensures in
-    record { head = s.0.whole; lent = s.0.lent; same = also (also (also (also f.0.same d.0.same) g.0.same) u) s.0.same }
+    shown refl s.0 (also (also (also (also f.0.same d.0.same) g.0.same) u) s.0.same)

@@ -5,4 +5,4 @@ use Rattle.examples.proofs.heads.watching.Goals as goal
 
 pub returns : goal.returns
 returns c =
-    watching_written c.args.last_heard _ c.put.ensures.0
+    watching_written c.args.last_heard _ (rw c.node_five.ensures at c.put.ensures).0

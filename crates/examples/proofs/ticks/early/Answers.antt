@@ -3,10 +3,9 @@
 use mathlib.Core.Path.{refl, ap}
 use Rattle.node.specs.Plain.{Call}
 use Rattle.node.specs.Examples.{early}
-use Rattle.examples.proofs.Showing.{holds, begin, next, at_call}
+use Rattle.examples.proofs.Showing.{holds, begin, at_call, shown_once}
 use Rattle.examples.proofs.ticks.early.Goals as goal
 
 pub returns : goal.returns
 returns c =
-    let n = next (begin early _ c.cycling.ensures (holds 7) _ _) (at_call (ap (Call.tick 10500) c.watch_none.ensures) c.tick_comes.ensures) refl refl c.cycling-2.ensures in
-    record { head = n.0.whole; lent = n.0.lent; same = n.0.same }
+    shown_once (begin early _ c.cycling.ensures (holds 7) _ _) refl (at_call (ap (Call.tick 10500) c.watch_none.ensures) c.tick_comes.ensures) refl refl c.cycling-2.ensures
