@@ -1,13 +1,13 @@
 // The numbers that a head shows, in the order of their lines, and those of an entry. specs/Shown.antt says which.
 #![tactic(auto, unfolding(head::specs::Words::head_of))]
 
-ghost use Rattle.std.specs.Prelude.{◌≡◌};
+ghost use Rattle.std.specs.Prelude.{◌≡◌, []};
 ghost use Rattle.head.specs.Words.{queue_of, history_of, head_of};
 ghost use Rattle.entries.specs.Desk.{read_reply};
 ghost use Rattle.entries.specs.Ring.{nth};
 ghost use Rattle.entries.specs.Queue.{waiting};
 ghost use Rattle.entries.specs.History.{history};
-ghost use Rattle.shown.specs.Shown.{machines_shown, counters_shown, soc_shown, dictionary_shown, parts_shown, crossings_shown, thresholds_shown, kinds_of, entry_shown, reply_shown, bytes_shown};
+ghost use Rattle.shown.specs.Shown.{machines_shown, counters_shown, soc_shown, dictionary_shown, parts_shown, crossings_shown, thresholds_shown, kinds_of, level_and_count, entry_shown, reply_shown, bytes_shown};
 
 pub mod forms;
 
@@ -43,29 +43,24 @@ fn kinds(head: &Head) -> [ThresholdCounter; 7]
     errors_of(head).counters.each()
 }
 
-// The level and the cumulative count of each kind, and the lost links: written out, as two numbers of a kind stand side by side.
+// The level of a kind, and its cumulative count.
+fn level_and_count(kind: ThresholdCounter) -> [u64; 2]
+    ensures { result ≡ level_and_count kind [] }
+{
+    [
+        u64::from(kind.threshold_cnt),
+        u64::from(kind.cumulative_cnt),
+    ]
+}
+
+// These two of each kind, and the lost links.
 fn counters(head: &Head) -> [u64; 15]
     ensures { result ≡ counters_shown (head_of head.now) }
 {
-    let errors = errors_of(head);
-    let counters = errors.counters;
-    [
-        u64::from(counters.collision.threshold_cnt),
-        u64::from(counters.collision.cumulative_cnt),
-        u64::from(counters.loss_of_soc.threshold_cnt),
-        u64::from(counters.loss_of_soc.cumulative_cnt),
-        u64::from(counters.loss_of_soa.threshold_cnt),
-        u64::from(counters.loss_of_soa.cumulative_cnt),
-        u64::from(counters.loss_of_preq.threshold_cnt),
-        u64::from(counters.loss_of_preq.cumulative_cnt),
-        u64::from(counters.soc_jitter.threshold_cnt),
-        u64::from(counters.soc_jitter.cumulative_cnt),
-        u64::from(counters.crc_errors.threshold_cnt),
-        u64::from(counters.crc_errors.cumulative_cnt),
-        u64::from(counters.heartbeat_timeout.threshold_cnt),
-        u64::from(counters.heartbeat_timeout.cumulative_cnt),
-        u64::from(errors.loss_of_link_cumulative),
-    ]
+    let mut counters = [0; 15];
+    counters[..14].copy_from_slice(kinds(head).map(level_and_count).as_flattened());
+    counters[14] = u64::from(errors_of(head).loss_of_link_cumulative);
+    counters
 }
 
 // The watch over the cycle.
