@@ -21,9 +21,7 @@ pub(crate) fn play(
     };
     match key {
         b' ' => {}
-        b'U' | b'W' | b'L' => {
-            station.session = session.arrange(key, given, &mut station.places);
-        }
+        b'U' | b'W' | b'L' => station.session.arrange(key, given, &mut station.places),
         b'p' => show(out, station),
         b'D' => station.desk.lay(bytes),
         b'r' => entry_read(out, bytes),

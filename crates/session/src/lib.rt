@@ -3,8 +3,8 @@
 // the node words that a call is lent.
 #![tactic(auto)]
 
-ghost use Rattle.std.specs.Prelude.{◌≡◌, false, ◌+◌, ◌*◌, ◌≤◌, ◌<◌, max, length, replicate};
-ghost use Rattle.session.specs.Session.{key_after, lent_number, with_run, places, record_put, put_at, record_at, three, end_of, arranged, watched_by, arranged_by};
+ghost use Rattle.std.specs.Prelude.{◌≡◌, false, ◌+◌, ◌*◌, ◌≤◌, ◌<◌, length, replicate};
+ghost use Rattle.session.specs.Session.{key_after, lent_number, places, record_put, put_at, record_at, three, end_of, arranged, watched_by, arranged_by};
 
 use patterns::Given;
 use watched::nodes::NodeWords;
@@ -119,47 +119,32 @@ impl Session {
         if self.places == 32 { self.number } else { 33 }
     }
 
-    // So many nodes are watched, and at least so many places lent.
-    fn with_number(self, number: usize) -> Session
-        ensures { result ≡ with_run self (max self.places number) number }
-    {
-        Session {
-            number,
-            places: self.places.max(number),
-            ..self
-        }
-    }
-
-    // Puts the record of a watch behind those watched, where there is a place.
-    fn watch(self, given: Given, places: &mut Places) -> Session
-        ensures { arranged result places.new ≡ watched_by self given places.old }
+    // Puts the record of a watch behind those watched, where there is a place; at least so many places are lent then.
+    fn watch(&mut self, given: Given, places: &mut Places)
+        ensures { arranged self.new places.new ≡ watched_by self.old given places.old }
     {
         if self.number < 40 {
             places.put(self.number, given);
-            return self.with_number(self.number + 1);
+            self.number += 1;
         }
-        self.with_number(self.number)
+        self.places = self.places.max(self.number);
     }
 
     // A line that is no call: an unwatch, a watch or a lend.
-    pub fn arrange(self, key: u8, given: Given, places: &mut Places) -> Session
-        ensures { arranged result places.new ≡ arranged_by self key given places.old }
+    pub fn arrange(&mut self, key: u8, given: Given, places: &mut Places)
+        ensures { arranged self.new places.new ≡ arranged_by self.old key given places.old }
     {
         match key {
             b'U' => {
                 *places = Places::new();
-                Session {
-                    places: 32,
-                    number: 0,
-                    ..self
-                }
+                self.places = 32;
+                self.number = 0;
             }
             b'W' => self.watch(given, places),
-            _ => Session {
-                places: given[0] as usize,
-                number: given[1] as usize,
-                ..self
-            },
+            _ => {
+                self.places = given[0] as usize;
+                self.number = given[1] as usize;
+            }
         }
     }
 }
