@@ -5,11 +5,6 @@ use played::Station;
 use printed::Buffer;
 use watched::nodes::NodeWords;
 
-// Prints the form that a key has, by the numbers of an answer in their order.
-fn say_as(out: &mut Buffer, key: u8, answer: &Numbers) {
-    out.say_by(&shown::forms::answers(), key, answer)
-}
-
 // The watched nodes as bits, and how many these say.
 pub(crate) fn say_bitmap(out: &mut Buffer, nodes: &NodeWords, count: usize) {
     let mut bytes = [0u8; 32];
@@ -28,27 +23,20 @@ pub(crate) fn say_unreadable(out: &mut Buffer, place: u64) {
     out.say_form(b"(unreadable #)\n", &[place])
 }
 
-// Prints the answer of a line by its key.
+// Prints the answer of a line by its key; a refusal has a form of its own.
 pub(crate) fn say_answer(out: &mut Buffer, key: u8, answer: &Numbers) {
-    if answer[0] != 0 {
-        return say_as(out, b'!', answer);
-    }
-    say_as(out, key, answer)
+    let key = if answer[0] == 0 { key } else { b'!' };
+    out.say_by(&shown::forms::answers(), key, answer)
 }
 
 // An entry leaves the queue, and is printed.
 pub(crate) fn hand_out(out: &mut Buffer, station: &mut Station) {
-    let mut bytes = [0u8; 20];
-    calls::hand_out(
-        &mut station.head,
-        &station.queue,
-        &mut station.answer,
-        &mut bytes,
-    );
-    if station.answer[3] == 1 {
-        out.say(b"(taken (entry");
-        out.say_bytes(&bytes);
-        return out.say(b"))\n");
+    match node::calls::hand_out(&mut station.head, &station.queue) {
+        Some(entry) => {
+            out.say(b"(taken (entry");
+            out.say_bytes(&entry.serialize());
+            out.say(b"))\n")
+        }
+        None => out.say(b"(taken none)\n"),
     }
-    out.say(b"(taken none)\n")
 }

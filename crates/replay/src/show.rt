@@ -14,10 +14,7 @@ fn show_parts(out: &mut Buffer, head: &Head) {
 fn show_entries<F: Fn(usize) -> Option<[u8; 20]>>(out: &mut Buffer, most: usize, entry_at: F)
     requires { F.IsAlwaysCallable entry_at }
 {
-    for place in 0..most {
-        let Some(bytes) = entry_at(place) else {
-            break;
-        };
+    for bytes in (0..most).map_while(entry_at) {
         out.say_bytes(&bytes);
     }
 }
