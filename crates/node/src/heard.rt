@@ -13,9 +13,7 @@ use watched::time::in_time;
 pub fn try_heard(watched: Option<bool>, time: u64) -> Result<(), Refusal>
     ensures { (formed among : Bool) → watched ≡ then_some formed among → result ≡ heard_answer formed time among }
 {
-    let Some(watched) = watched else {
-        return Err(Refusal::WatchedNodes);
-    };
+    let watched = watched.ok_or(Refusal::WatchedNodes)?;
     if !in_time(time) {
         return Err(Refusal::TimeLimit);
     }
@@ -35,9 +33,7 @@ pub fn heard(
 ) -> Result<(), Refusal>
     ensures { Heard head.old nodes.old count node time result head.new nodes.new }
 {
-    let Some((place, soonest)) = find(nodes, count, node as u64, time) else {
-        return Err(Refusal::WatchedNodes);
-    };
+    let (place, soonest) = find(nodes, count, node as u64, time).ok_or(Refusal::WatchedNodes)?;
     try_heard(Some(place < count), time)?;
     set_heard(nodes, place, time);
     set_earliest(head, moment(soonest));
