@@ -4,6 +4,7 @@ use Prim.Native.Nat.{ℕ, ◌+◌, ◌<◌, ◌≤◌, min}
 use mathlib.Core.Path.{◌≡◌, refl, sym, ap, ◌∙◌}
 use mathlib.Core.Bool.{Bool, true, false, not}
 use mathlib.Core.List.{List, [], ◌∷◌}
+use lib.Dec.{ltb}
 use borrow.Author.Tests.{lt-ltb, le-ltb}
 use Rattle.types.specs.Pick.{pick}
 use Rattle.types.specs.States.{same_state}
@@ -256,10 +257,10 @@ module _ (h : Head) (m : List ℕ) (values : DictionaryUpdate) (o : Dictionary) 
 
 -- the watch armed, by whether there is a cycle
 module _ (s : SocWatch) (o : Dictionary) (t y : ℕ) (e : y ≡ cycle_of o) where
-  pub armed_on : 0 < y → (l : ℕ) → l ≡ limit_of o → soc_watch t true (Some (t + l)) s.error_status_changed ≡ armed s o t
+  pub armed_on : 0 < y → (l : ℕ) → l ≡ limit_of o → soc_watch t (ltb 0 y) (Some (t + l)) s.error_status_changed ≡ armed s o t
   unfolding armed
   armed_on h l f = rw (f, ← e, lt-ltb 0 y h)
 
-  pub armed_off : y ≤ 0 → soc_watch t false None s.error_status_changed ≡ armed s o t
+  pub armed_off : y ≤ 0 → soc_watch t (ltb 0 y) None s.error_status_changed ≡ armed s o t
   unfolding armed
   armed_off h = rw (← e, le-ltb 0 y h)

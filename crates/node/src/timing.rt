@@ -44,18 +44,11 @@ pub fn last_soc(soc: SocWatch) -> u64
 pub(crate) fn armed(soc: SocWatch, od: Dictionary, time: Time) -> SocWatch
     ensures { result ≡ armed soc od time.us }
 {
-    if 0 < cycle(od) {
-        return SocWatch {
-            last_soc_reception_time_us: time.us,
-            soc_timeout_check_active: true,
-            next_tick_us: Some(time.us + limit(od)),
-            error_status_changed: soc.error_status_changed,
-        };
-    }
+    let on = 0 < cycle(od);
     SocWatch {
         last_soc_reception_time_us: time.us,
-        soc_timeout_check_active: false,
-        next_tick_us: None,
-        error_status_changed: soc.error_status_changed,
+        soc_timeout_check_active: on,
+        next_tick_us: if on { Some(time.us + limit(od)) } else { None },
+        ..soc
     }
 }

@@ -3,12 +3,12 @@
 use Rattle.node.proofs.Laws.{armed_on, armed_off}
 use Rattle.node.proofs.timing.armed.Goals as goal
 
-pub returns-then-cycle-gt0 : goal.returns-then-cycle-gt0
-returns-then-cycle-gt0 c =
+pub returns-then-on : goal.returns-then-on
+returns-then-on c =
     let a = c.args in
-    armed_on a.soc a.od a.time.us c.cycle.result c.cycle.ensures.0 c.if-cycle-gt0.true c.limit.result c.limit.ensures.0
+    armed_on a.soc a.od a.time.us c.cycle-on.result c.cycle-on.ensures.0 c.if-on.true c.limit.result c.limit.ensures.0
 
-pub returns : goal.returns
-returns c =
+pub returns-else-on : goal.returns-else-on
+returns-else-on c =
     let a = c.args in
-    armed_off a.soc a.od a.time.us c.cycle.result c.cycle.ensures.0 c.if-cycle-gt0.false
+    armed_off a.soc a.od a.time.us c.cycle-on.result c.cycle-on.ensures.0 c.if-on.false
