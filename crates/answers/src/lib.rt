@@ -124,6 +124,7 @@ fn put_error(numbers: &mut Numbers, at: usize, error: DllError)
     numbers[at + 2] = said_of(carried.other);
 }
 
+#[tactic(auto, unfolding(crate::specs::Put::errors_put))]
 fn put_errors(numbers: &mut Numbers, errors: DllErrors)
     ensures { numbers.new ≡ errors_put numbers.old errors }
 {
