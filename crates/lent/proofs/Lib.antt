@@ -1,4 +1,5 @@
 pub mod SeenLaws
+pub mod SettleLaws
 pub mod BeatLaws
 pub mod JudgedLaws
 pub mod ArrivalLaws

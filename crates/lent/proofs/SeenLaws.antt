@@ -21,12 +21,11 @@ use Rattle.watched.proofs.Lists.{rising_all, watched_take, few}
 use Rattle.lentlaws.specs.Fold.{folded}
 use Rattle.lentlaws.specs.Scan.{scanned}
 use Rattle.lent.specs.declared.run.Findings.{Findings}
-use Rattle.lent.specs.declared.run.Settling.{Settling}
 use Rattle.lent.specs.declared.run.Setting.{Setting}
 use Rattle.lent.specs.declared.run.Setting.TheVariants.{Nothing, Heard}
 use Rattle.std.specs.declared.option.Option.{Option}
 use Rattle.std.specs.declared.option.Option.TheVariants.{Some, None}
-use Rattle.lent.specs.Runs.{tried_by, found_by, found_all, formed_of, surveyed, sought_from, settled, set_next, settled_all}
+use Rattle.lent.specs.Runs.{tried_by, found_by, found_all, formed_of, surveyed, sought_from, settled, Settling, set_next, settled_all}
 
 both_true : (b : Bool) → both b true ≡ b
 both_true true = refl

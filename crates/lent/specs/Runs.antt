@@ -17,7 +17,6 @@ use Rattle.lentlaws.specs.Fold.{folded}
 use Rattle.lentlaws.specs.Scan.{scanned}
 use Rattle.lent.specs.declared.run.Beats.{Beats}
 use Rattle.lent.specs.declared.run.Findings.{Findings}
-use Rattle.lent.specs.declared.run.Settling.{Settling}
 use Rattle.lent.specs.declared.run.Setting.{Setting}
 use Rattle.lent.specs.declared.run.Setting.TheVariants.{Nothing, Unheard, Heard, Looked}
 
@@ -94,7 +93,11 @@ tick_sets ws t = pick (checks_heartbeats (nmt_of ws).current_state) (Looked t) N
 abbrev pub for_tick : List ℕ → ℕ → Findings
 for_tick ws t = sought_from 0 t (tick_sets ws t) (beats_at ws)
 
--- the walk back: so many places are set
+-- what a walk sets: so many places, and how
+pub record Settling : Type 0 where
+  pub left : ℕ
+  pub setting : Setting
+
 abbrev pub settling_of : ℕ → Setting → Settling
 settling_of k y = record { left = k; setting = y }
 

@@ -1,14 +1,13 @@
 // The watched nodes as a lent run of records, with the number watched beside it: what a walk over its places finds out, and what a walk sets.
 ghost use Rattle.std.specs.Prelude.{◌≡◌};
 ghost use Rattle.watched.specs.Nodes.{sooner_by};
-ghost use Rattle.lentlaws.specs.Scan.{scanned};
-ghost use Rattle.lent.specs.Runs.{sought_from, asked_for, for_heard, for_tick, tried_by, beaten_by, found_by, surveyed, settled, settling_of, set_next, settled_all};
+ghost use Rattle.lent.specs.Runs.{sought_from, asked_for, for_heard, for_tick, tried_by, beaten_by, found_by, found_all, surveyed, settled, settling_of, settled_all};
 
 use counters::counters::{CounterKind, ThresholdCounter};
 use head::parts::{counter_of, state_at};
 use head::state::Head;
 use heartbeats::heartbeats::{is_late, looked};
-use lentlaws::{fold, scan};
+use lentlaws::fold;
 use tick::tick::checks_heartbeats;
 use watched::nodes::{NEVER, WatchedNode};
 use watched::record::NodeRecord;
@@ -46,13 +45,6 @@ pub struct Findings {
     pub beats: Beats,
     // The soonest moment at which a node would be late, once all are set.
     pub soonest: u64,
-}
-
-// What a walk sets: so many places, and how.
-#[derive(Clone, Copy)]
-pub struct Settling {
-    pub left: usize,
-    pub setting: Setting,
 }
 
 // Before the first place.
@@ -131,27 +123,16 @@ fn beat(mut beats: Beats, w: WatchedNode, time: u64) -> Beats
 }
 
 // One node.
-pub fn set(setting: Setting, mut w: WatchedNode) -> WatchedNode
+pub fn set(setting: Setting, w: WatchedNode) -> WatchedNode
     ensures { result ≡ settled setting w }
 {
-    match setting {
-        Setting::Nothing => w,
-        Setting::Unheard => {
-            w.last_heard = 0;
-            w
-        }
-        Setting::Heard(node, time) => {
-            if w.node == node {
-                w.last_heard = time;
-                return w;
-            }
-            w
-        }
-        Setting::Looked(time) => {
-            w.last_heard = looked(NodeRecord::from(w), time);
-            w
-        }
-    }
+    let last_heard = match setting {
+        Setting::Nothing => w.last_heard,
+        Setting::Unheard => 0,
+        Setting::Heard(node, time) => { if w.node == node { time } else { w.last_heard } }
+        Setting::Looked(time) => looked(NodeRecord::from(w), time),
+    };
+    WatchedNode { last_heard, ..w }
 }
 
 // The soonest moment with one more node, as it will be set.
@@ -176,6 +157,13 @@ pub fn see(found: Findings, w: WatchedNode) -> Findings
     }
 }
 
+// Any records, in order, behind what was found before them.
+pub fn walk(nodes: &[WatchedNode], first: Findings) -> Findings
+    ensures { result ≡ found_all first nodes.now }
+{
+    fold(nodes, first, |found, w| see(found, w))
+}
+
 // The watched places, in order, where number 3 does not stand: 32 places, the number within them, and its nodes well formed. Those past the number are not tried.
 pub fn survey(nodes: &[WatchedNode], number: usize, first: Findings) -> Option<Findings>
     ensures { result ≡ surveyed number first nodes.now }
@@ -183,30 +171,17 @@ pub fn survey(nodes: &[WatchedNode], number: usize, first: Findings) -> Option<F
     if nodes.len() != 32 || 32 < number {
         return None;
     }
-    let found = fold(&nodes[..number], first, |found, w| see(found, w));
+    let found = walk(&nodes[..number], first);
     found.tried?;
     Some(found)
-}
-
-// One place as it is set, and what is to be set behind it: past the number it stays as it is.
-pub fn set_next(settling: Settling, w: WatchedNode) -> (WatchedNode, Settling)
-    ensures { result ≡ set_next settling w }
-{
-    let Settling { left, setting } = settling;
-    if left == 0 {
-        return (w, settling);
-    }
-    let left = left - 1;
-    (set(setting, w), Settling { left, setting })
 }
 
 // The first so many places.
 pub fn settle(nodes: &mut [WatchedNode], number: usize, setting: Setting)
     ensures { nodes.new ≡ settled_all (settling_of number setting) nodes.old }
 {
-    let settling = Settling {
-        left: number,
-        setting,
-    };
-    scan(nodes, settling, |settling, w| set_next(settling, w))
+    let watched = number.min(nodes.len());
+    for w in nodes[..watched].iter_mut() {
+        *w = set(setting, *w);
+    }
 }
