@@ -56,23 +56,18 @@ impl ErrorHistory {
     {
         self.ring().get(memory, index)
     }
-}
 
-// An entry joins at the place before the newest, and no other moves.
-#[tactic(auto, unfolding(crate::specs::History::joined, crate::specs::History::joined_bytes))]
-pub fn write_error_to_history(
-    memory: &mut [u8; 5080],
-    history: ErrorHistory,
-    entry: ErrorEntry,
-) -> ErrorHistory
-    ensures { (result ≡ joined history) × (memory.new ≡ joined_bytes memory.old history entry) }
-{
-    // The place before the newest: in a full history the oldest's.
-    let newest = history.ring().place(253);
-    place::put_entry(memory, 20 * newest, entry);
-    let count = (history.count as usize + 1).min(254);
-    ErrorHistory {
-        newest: newest as u8,
-        count: count as u8,
+    // An entry joins at the place before the newest, and no other moves.
+    #[tactic(auto, unfolding(crate::specs::History::joined, crate::specs::History::joined_bytes))]
+    pub fn write_error_to_history(&mut self, memory: &mut [u8; 5080], entry: ErrorEntry)
+        ensures history { self.new ≡ joined self.old }
+        ensures bytes { memory.new ≡ joined_bytes memory.old self.old entry }
+    {
+        // The place before the newest: in a full history the oldest's.
+        let newest = self.ring().place(253);
+        place::put_entry(memory, 20 * newest, entry);
+        let count = (self.count as usize + 1).min(254);
+        self.newest = newest as u8;
+        self.count = count as u8;
     }
 }

@@ -77,11 +77,10 @@ impl From<u16> for EntryType {
     ghost from_gives = { λ n t. t ≡ type_of n };
 
     fn from(value: u16) -> Self {
-        let mode = ErrorEntryMode::from_bits(value / 4096);
         Self {
             is_status_entry: value / 32768 % 2 == 1,
             send_to_queue: value / 16384 % 2 == 1,
-            mode,
+            mode: ErrorEntryMode::from_bits(value / 4096),
             profile: value % 4096,
         }
     }
@@ -93,10 +92,9 @@ impl From<EntryType> for u16 {
     ghost from_gives = { λ t n. n ≡ type_number t };
 
     fn from(entry_type: EntryType) -> u16 {
-        let mode = entry_type.mode;
         u16::from(entry_type.is_status_entry) * 32768
             + u16::from(entry_type.send_to_queue) * 16384
-            + mode.as_u16() * 4096
+            + entry_type.mode.as_u16() * 4096
             + entry_type.profile % 4096
     }
 }

@@ -6,7 +6,7 @@ ghost use Rattle.std.specs.Prelude.{◌≡◌};
 ghost use Rattle.entry_bytes.specs.Patterns.{last, filled, numbered};
 
 use entries::desk;
-use entries::error_history::{ErrorHistory, write_error_to_history};
+use entries::error_history::ErrorHistory;
 use entries::status_response::{EntryType, ErrorEntry};
 use forms::generator::Generator;
 use forms::output::Output;
@@ -126,7 +126,7 @@ fn print_histories(out: &mut Output) {
     let mut memory = [0; 5080];
     let mut history = ErrorHistory::new();
     for number in 1..=260 {
-        history = write_error_to_history(&mut memory, history, numbered_entry(number));
+        history.write_error_to_history(&mut memory, numbered_entry(number));
         if matches!(number, 1 | 2 | 253 | 254 | 255 | 260) {
             print_history(out, &memory, history);
         }

@@ -10,7 +10,6 @@ ghost use Rattle.head.specs.Words.{head_of};
 ghost use Rattle.tick.specs.TickWords.{entry_words, deal_words, deal_all_words};
 ghost use Rattle.heartbeats.specs.PartsIn.{TicksIn};
 
-use entries::error_history::write_error_to_history;
 use entries::status_response::ErrorEntry;
 use head::parts::{history_of, increment_counter, queue_of, set_history, set_queue};
 use head::state::{Head, Statistic};
@@ -33,7 +32,8 @@ fn queue_entry(
     let entry = ErrorEntry::of_crossing(error, time);
     let mut places = queue_of(head);
     if places.push_back(queue, entry) {
-        let joined = write_error_to_history(history, history_of(head), entry);
+        let mut joined = history_of(head);
+        joined.write_error_to_history(history, entry);
         increment_counter(head, Statistic::Counter2);
         set_queue(head, places);
         set_history(head, joined);
