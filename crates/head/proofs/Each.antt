@@ -1,38 +1,41 @@
 -- A word of each of the seven counters, by its kind.
 -- Assumes nothing.
-use Rattle.std.proofs.Common.{◌≡◌, ℕ, List}
+use Rattle.std.proofs.Common.{◌≡◌, ℕ, suc, ◌+◌, ◌<◌, ◌≤◌, List, [], ◌∷◌, length, get_or, drop, map, set, refl, ap, ap₂, sym, ◌∙◌}
+use Rattle.std.proofs.Math.Seq.{drop-cons}
+use Rattle.std.proofs.Math.ListN.{drop_of_length-le}
+use Rattle.counters.specs.Counters.{of_kind, counter_kinds}
+use Rattle.counters.specs.declared.counters.ByKind.{ByKind}
 use Rattle.counters.specs.declared.counters.CounterKind.{CounterKind}
 use Rattle.counters.specs.declared.counters.CounterKind.TheVariants.{Collision, LossOfSoc, LossOfSoa, LossOfPreq, SoCJitter, Crc, HeartbeatTimeout}
 use Rattle.head.specs.Written.{each_written}
 
-module _ (a b c d e f g : ℕ) where
-  abbrev pub of_kinds : CounterKind → ℕ
-  of_kinds Collision = a
-  of_kinds LossOfSoc = b
-  of_kinds LossOfSoa = c
-  of_kinds LossOfPreq = d
-  of_kinds SoCJitter = e
-  of_kinds Crc = f
-  of_kinds HeartbeatTimeout = g
+-- the n-th words of counters, from the one at a place on
+unfoldable pub nth_written : List ℕ → ℕ → ℕ → List ℕ → List ℕ
+nth_written ws i n [] = ws
+nth_written ws i n (x ∷ xs) = nth_written (set ws (i + n) x) (4 + i) n xs
 
-  pub holds_each :
-      (P : CounterKind → ℕ → Type 0) →
-      P Collision a →
-      P LossOfSoc b →
-      P LossOfSoa c →
-      P LossOfPreq d →
-      P SoCJitter e →
-      P Crc f →
-      P HeartbeatTimeout g →
-      (k : CounterKind) →
-      P k (of_kinds k)
-  holds_each P p₀ p₁ p₂ p₃ p₄ p₅ p₆ Collision = p₀
-  holds_each P p₀ p₁ p₂ p₃ p₄ p₅ p₆ LossOfSoc = p₁
-  holds_each P p₀ p₁ p₂ p₃ p₄ p₅ p₆ LossOfSoa = p₂
-  holds_each P p₀ p₁ p₂ p₃ p₄ p₅ p₆ LossOfPreq = p₃
-  holds_each P p₀ p₁ p₂ p₃ p₄ p₅ p₆ SoCJitter = p₄
-  holds_each P p₀ p₁ p₂ p₃ p₄ p₅ p₆ Crc = p₅
-  holds_each P p₀ p₁ p₂ p₃ p₄ p₅ p₆ HeartbeatTimeout = p₆
+-- of those that are left, from the k-th on, the first is written
+pub one_written :
+    (ws : List ℕ) (i j n k l : ℕ) (xs : List ℕ) →
+    k < length xs →
+    j ≡ 4 + i →
+    l ≡ suc k →
+    nth_written (set ws (i + n) (get_or xs k 0)) j n (drop l xs) ≡ nth_written ws i n (drop k xs)
+unfolding nth_written
+one_written ws i j n k l xs h e d =
+    ap₂ (λ j l. nth_written (set ws (i + n) (get_or xs k 0)) j n (drop l xs)) e d ∙ sym (ap (nth_written ws i n) (drop-cons xs k 0 h))
+
+-- none is left
+pub all_written : (ws : List ℕ) (i n k : ℕ) (xs : List ℕ) → length xs ≤ k → nth_written ws i n (drop k xs) ≡ ws
+unfolding nth_written
+all_written ws i n k xs h = ap (nth_written ws i n) (drop_of_length-le xs h)
+
+-- those of the seven kinds, in their order
+pub kinds_written :
+    (ws : List ℕ) (n : ℕ) (v : ByKind ℕ) →
+    nth_written ws 7 n (map (λ k. of_kind k v) counter_kinds) ≡ each_written ws n (λ k. of_kind k v)
+unfolding nth_written
+kinds_written ws n v = refl
 
 -- words that are the same for each kind are written the same
 pub same_each :

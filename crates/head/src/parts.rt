@@ -1,7 +1,6 @@
 // A head in words: where each part stands, how it is read and how it is written. Any words are a head.
 ghost use Rattle.std.specs.Prelude.{◌≡◌, ℕ, ◌+◌, ◌%◌, ◌≤◌, ◌<◌, length, replicate, slice_set, MatchOption};
-ghost use Rattle.counters.specs.Counters.{counter};
-ghost use Rattle.counters.specs.declared.counters.CounterKind.{CounterKind};
+ghost use Rattle.counters.specs.Counters.{of_kind};
 ghost use Rattle.dll.specs.Dll.{cs_state_number};
 ghost use Rattle.head.specs.Places as at;
 ghost use Rattle.head.specs.Words.{word, yes, one, time_at, state_of, nmt_of, dll_state, counter_at, errors_of, deadline_of, soc_of, object_at, od_of, queue_of, history_of, earliest_of};
@@ -34,18 +33,6 @@ const DLL: usize = 6;
 // The counters, four words each: cumulative count, level, threshold, count of crossings.
 const COLLISION: usize = 7;
 
-const LOSS_OF_SOC: usize = 11;
-
-const LOSS_OF_SOA: usize = 15;
-
-const LOSS_OF_PREQ: usize = 19;
-
-const SOC_JITTER: usize = 23;
-
-const CRC: usize = 27;
-
-const HEARTBEAT_TIMEOUT: usize = 31;
-
 const LOSS_OF_LINK: usize = 35;
 // The watch over the cycle.
 const LAST_SOC: usize = 36;
@@ -57,20 +44,8 @@ const CHECK: usize = 40;
 const DUE: usize = 41;
 
 const CHANGED: usize = 42;
-// The dictionary values.
+// The dictionary values; the others stand at the numbers of `Object` and `Statistic`.
 const REGISTER: usize = 43;
-
-const HAS_CYCLE: usize = 44;
-
-const HAS_TOLERANCE: usize = 46;
-
-const COUNTER_1: usize = 48;
-
-const COUNTER_2: usize = 49;
-
-const COUNTER_3: usize = 50;
-
-const COUNTER_5: usize = 51;
 // The places of the queue.
 const OLDEST: usize = 52;
 
@@ -146,13 +121,10 @@ fn state_of(word: u32) -> NmtState
 pub fn nmt_of(head: &Head) -> CnNmtStateMachine
     ensures { result ≡ nmt_of head.now }
 {
-    let current_state = state_of(head[STATE]);
-    let node_id = NodeId(byte_at(head, NODE));
-    let feature_flags = FeatureFlags(head[FLAGS]);
     CnNmtStateMachine {
-        current_state,
-        node_id,
-        feature_flags,
+        current_state: state_of(head[STATE]),
+        node_id: NodeId(byte_at(head, NODE)),
+        feature_flags: FeatureFlags(head[FLAGS]),
         basic_ethernet_timeout: head[TIMEOUT],
         ready_to_operate_enabled: head[ENABLED] != 0,
         app_ready: head[READY] != 0,
@@ -163,8 +135,7 @@ pub fn nmt_of(head: &Head) -> CnNmtStateMachine
 pub fn set_nmt(head: &mut Head, machine: CnNmtStateMachine)
     ensures { head.new ≡ nmt_written head.old machine }
 {
-    let state = machine.current_state;
-    head[STATE] = state.as_u8() as u32;
+    head[STATE] = machine.current_state.as_u8() as u32;
     head[ENABLED] = u32::from(machine.ready_to_operate_enabled);
     head[READY] = u32::from(machine.app_ready);
 }
@@ -191,15 +162,15 @@ fn dll_state(word: u32) -> DllCsState
 pub fn dll_of(head: &Head) -> DllCsStateMachine
     ensures { result ≡ record { state = dll_state (word head.now at.dll) } }
 {
-    let state = dll_state(head[DLL]);
-    DllCsStateMachine { state }
+    DllCsStateMachine {
+        state: dll_state(head[DLL]),
+    }
 }
 
 pub fn set_dll(head: &mut Head, machine: DllCsStateMachine)
     ensures { head.new ≡ slice_set head.old at.dll (cs_state_number machine.state) }
 {
-    let state = machine.state;
-    head[DLL] = state.as_u8() as u32;
+    head[DLL] = machine.state.as_u8() as u32;
 }
 
 fn place_of(kind: CounterKind) -> usize
@@ -254,41 +225,30 @@ pub fn errors_of(head: &Head) -> CnErrorCounters
 }
 
 // A word of each counter, at one place of its four.
-fn set_each<F: Fn(ThresholdCounter) -> u32>(
-    head: &mut Head,
-    nth: usize,
-    errors: CnErrorCounters,
-    word: F,
-)
-    requires place { nth < 4 }
-    requires callable { F.IsAlwaysCallable word }
-    ensures { (v : CounterKind → ℕ) × ((k : CounterKind) → F.post word (counter k errors) (v k)) × (head.new ≡ each_written head.old nth v) }
+fn set_each(head: &mut Head, nth: usize, words: ByKind<u32>)
+    requires { nth < 4 }
+    ensures { head.new ≡ each_written head.old nth (λ k. of_kind k words) }
 {
-    head[COLLISION + nth] = word(errors.counters.collision);
-    head[LOSS_OF_SOC + nth] = word(errors.counters.loss_of_soc);
-    head[LOSS_OF_SOA + nth] = word(errors.counters.loss_of_soa);
-    head[LOSS_OF_PREQ + nth] = word(errors.counters.loss_of_preq);
-    head[SOC_JITTER + nth] = word(errors.counters.soc_jitter);
-    head[CRC + nth] = word(errors.counters.crc_errors);
-    head[HEARTBEAT_TIMEOUT + nth] = word(errors.counters.heartbeat_timeout);
+    for (i, word) in words.each().iter().enumerate() {
+        head[COLLISION + 4 * i + nth] = *word;
+    }
 }
 
 // A cycle changes the levels.
 pub fn set_levels(head: &mut Head, errors: CnErrorCounters)
     ensures { head.new ≡ levels_written head.old errors }
 {
-    set_each(head, 1, errors, |counter| counter.threshold_cnt);
+    let levels = ByKind::new(|kind| errors.counters.of(kind).threshold_cnt);
+    set_each(head, 1, levels);
 }
 
 pub fn soc_of(head: &Head) -> SocWatch
     ensures { result ≡ soc_of head.now }
 {
-    let last = time_at(head, LAST_SOC);
-    let next_tick_us = deadline_at(head);
     SocWatch {
-        last_soc_reception_time_us: last,
+        last_soc_reception_time_us: time_at(head, LAST_SOC),
         soc_timeout_check_active: head[CHECK] != 0,
-        next_tick_us,
+        next_tick_us: deadline_at(head),
         error_status_changed: head[CHANGED] != 0,
     }
 }
@@ -303,34 +263,50 @@ pub fn set_deadline(head: &mut Head, deadline: Option<u64>)
 pub fn set_soc(head: &mut Head, soc: SocWatch)
     ensures { head.new ≡ soc_written head.old soc }
 {
-    let deadline = soc.next_tick_us;
     set_time(head, LAST_SOC, soc.last_soc_reception_time_us);
     head[CHECK] = u32::from(soc.soc_timeout_check_active);
     head[CHANGED] = u32::from(soc.error_status_changed);
-    set_deadline(head, deadline);
+    set_deadline(head, soc.next_tick_us);
 }
 
-// The word from a place on that says whether there is a value, and the value.
-fn object_at(head: &Head, place: usize) -> Option<u32>
-    requires { place < 59 }
-    ensures { result ≡ object_at head.now place }
+fn object_place(object: Object) -> usize
+    ensures { (result ≡ at.object object) × (result ≤ 46) }
 {
+    object as usize
+}
+
+// The word that says whether there is a value, and the value behind it.
+fn object_at(head: &Head, object: Object) -> Option<u32>
+    ensures { result ≡ object_at head.now (at.object object) }
+{
+    let place = object_place(object);
     (head[place] != 0).then_some(head[place + 1])
+}
+
+fn statistic_place(statistic: Statistic) -> usize
+    ensures { (result ≡ at.statistic statistic) × (result ≤ 51) }
+{
+    statistic as usize
+}
+
+pub fn statistic_of(head: &Head, statistic: Statistic) -> u32
+    ensures { result ≡ word head.now (at.statistic statistic) }
+{
+    let place = statistic_place(statistic);
+    head[place]
 }
 
 pub fn od_of(head: &Head) -> Dictionary
     ensures { result ≡ od_of head.now }
 {
-    let cycle_time = object_at(head, HAS_CYCLE);
-    let tolerance = object_at(head, HAS_TOLERANCE);
     Dictionary {
         error_register: byte_at(head, REGISTER),
-        cycle_time,
-        tolerance,
-        counter_1: head[COUNTER_1],
-        counter_2: head[COUNTER_2],
-        counter_3: head[COUNTER_3],
-        counter_5: head[COUNTER_5],
+        cycle_time: object_at(head, Object::CycleTime),
+        tolerance: object_at(head, Object::Tolerance),
+        counter_1: statistic_of(head, Statistic::Counter1),
+        counter_2: statistic_of(head, Statistic::Counter2),
+        counter_3: statistic_of(head, Statistic::Counter3),
+        counter_5: statistic_of(head, Statistic::Counter5),
     }
 }
 
@@ -453,13 +429,8 @@ pub fn set_identity(head: &mut Head, machine: CnNmtStateMachine)
 pub fn set_thresholds(head: &mut Head, errors: CnErrorCounters)
     ensures { head.new ≡ thresholds_written head.old errors }
 {
-    set_each(head, 2, errors, |counter| counter.threshold);
-}
-
-fn object_place(object: Object) -> usize
-    ensures { (result ≡ at.object object) × (result ≤ 46) }
-{
-    object as usize
+    let thresholds = ByKind::new(|kind| errors.counters.of(kind).threshold);
+    set_each(head, 2, thresholds);
 }
 
 pub fn set_object(head: &mut Head, object: Object, value: Option<u32>)
@@ -467,19 +438,6 @@ pub fn set_object(head: &mut Head, object: Object, value: Option<u32>)
 {
     let place = object_place(object);
     set_option(head, place, value, |head, n| head[place + 1] = n);
-}
-
-fn statistic_place(statistic: Statistic) -> usize
-    ensures { (result ≡ at.statistic statistic) × (result ≤ 51) }
-{
-    statistic as usize
-}
-
-pub fn statistic_of(head: &Head, statistic: Statistic) -> u32
-    ensures { result ≡ word head.now (at.statistic statistic) }
-{
-    let place = statistic_place(statistic);
-    head[place]
 }
 
 pub fn set_statistic(head: &mut Head, statistic: Statistic, count: u32)
@@ -494,17 +452,15 @@ pub fn increment_counter(head: &mut Head, statistic: Statistic)
     ensures { head.new ≡ slice_set head.old (at.statistic statistic) ((word head.old (at.statistic statistic) + 1) % 4294967296) }
 {
     let count = statistic_of(head, statistic);
-    set_statistic(head, statistic, std::num::wrapping_add_u32(count, 1));
+    set_statistic(head, statistic, count.wrapping_add(1));
 }
 
 pub fn set_od(head: &mut Head, od: Dictionary)
     ensures { head.new ≡ od_written head.old od }
 {
-    let cycle = od.cycle_time;
-    let tolerance = od.tolerance;
     set_register(head, od.error_register);
-    set_object(head, Object::CycleTime, cycle);
-    set_object(head, Object::Tolerance, tolerance);
+    set_object(head, Object::CycleTime, od.cycle_time);
+    set_object(head, Object::Tolerance, od.tolerance);
     set_statistic(head, Statistic::Counter1, od.counter_1);
     set_statistic(head, Statistic::Counter2, od.counter_2);
     set_statistic(head, Statistic::Counter3, od.counter_3);

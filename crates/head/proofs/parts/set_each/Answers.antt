@@ -1,15 +1,15 @@
--- `head::parts::set_each` meets its contract: the word of each kind is what its call gave.
+-- `head::parts::set_each` meets its contract: a word is written, and after the last every kind has its own.
 -- Assumes nothing.
-use mathlib.Core.Path.{refl}
-use Rattle.counters.specs.Counters.{counter}
-use Rattle.head.proofs.Each.{of_kinds, holds_each}
+use Rattle.std.proofs.Common.{◌+◌, ◌*◌, ap, sym, ◌∙◌, arith}
+use Rattle.head.proofs.Each.{nth_written, one_written, all_written, kinds_written}
 use Rattle.head.proofs.parts.set_each.Goals as goal
 
+pub loop-i-preserved : goal.loop-i-preserved
+loop-i-preserved c =
+    one_written c.loop-i.head (7 + 4 * c.loop-i.i) (7 + 4 * (c.loop-i.i + 1)) c.args.nth c.loop-i.i (c.loop-i.i + 1) c.each.result (omega arith) (omega arith) (omega arith) ∙
+    c.loop-i.invariant
+
 pub returns : goal.returns
-returns g c = (
-  of_kinds c.word.result c.word-2.result c.word-3.result c.word-4.result c.word-5.result c.word-6.result c.word-7.result,
-  holds_each c.word.result c.word-2.result c.word-3.result c.word-4.result c.word-5.result c.word-6.result c.word-7.result
-      (λ k v. goal.F-post g c.args.word (counter k c.args.errors) v)
-      c.word.ensures c.word-2.ensures c.word-3.ensures c.word-4.ensures c.word-5.ensures c.word-6.ensures c.word-7.ensures,
-  refl,
-)
+returns c =
+    sym (all_written c.loop-i.head (7 + 4 * c.loop-i.i) c.args.nth c.loop-i.i c.each.result (omega arith)) ∙ c.loop-i.invariant ∙
+    ap (nth_written c.args.head.now 7 c.args.nth) c.each.ensures ∙ kinds_written c.args.head.now c.args.nth c.args.words
