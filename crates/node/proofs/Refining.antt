@@ -20,6 +20,8 @@ use Rattle.types.specs.declared.nmt.events.NmtEvent.{NmtEvent}
 use Rattle.std.specs.declared.result.Result.TheVariants.{Ok, Err}
 use Rattle.types.specs.declared.frame.cs_state_machine.DllCsEvent.{DllCsEvent}
 use Rattle.types.specs.declared.frame.error.types.DllError.{DllError}
+use Rattle.types.specs.declared.frame.error.types.DllErrors.TheVariants as errors
+use Rattle.types.specs.declared.frame.error.types.NmtAction.TheVariants as action
 use Rattle.nmt.specs.Resets.{passed, states_entered, is_reset}
 use Rattle.nmt.specs.Nmt as Nmt
 use Rattle.nmt.specs.declared.cn_state_machine.CnNmtStateMachine.{CnNmtStateMachine}
@@ -146,20 +148,20 @@ module _ (ws : List ℕ) where
 
   -- an error that counts: the answer by the check of its one counter
   pub count_answers :
-      (k : CounterKind) (e : DllError) (r b : Bool) →
+      (k : CounterKind) (e : DllError) (r : Bool) →
       r ≡ (Counters.after_error (counter_at ws (at.counter k))).reached →
-      r ≡ b →
-      replied (pick b (Counters.crossed_answer (errors_of ws) e) (Counters.unsignalled (errors_of ws))) ≡ replied (Counters.counted_error k (errors_of ws) e)
+      ◌≡◌ {A = ErrorTaken} (record { action = pick r action.ResetCommunication action.None; signal = r; logged = pick r (errors.One e) errors.None })
+      (replied (Counters.counted_error k (errors_of ws) e))
   unfolding Counters.counted_error
-  count_answers k e r b h t =
-      by b (Counters.raised k (errors_of ws))
+  count_answers k e r h =
+      by r (Counters.raised k (errors_of ws))
       ∙ ap (λ (b : Bool). replied (pick b (Counters.crossed_answer (Counters.raised k (errors_of ws)) e) (Counters.unsignalled (Counters.raised k (errors_of ws)))))
-      (sym t ∙ h ∙ ap (λ (c : ThresholdCounter). (Counters.after_error c).reached) (sym (counter_read k)))
+      (h ∙ ap (λ (c : ThresholdCounter). (Counters.after_error c).reached) (sym (counter_read k)))
     where
       by :
           (b : Bool) (s : CnErrorCounters) →
-          replied (pick b (Counters.crossed_answer (errors_of ws) e) (Counters.unsignalled (errors_of ws)))
-          ≡ replied (pick b (Counters.crossed_answer s e) (Counters.unsignalled s))
+          ◌≡◌ {A = ErrorTaken} (record { action = pick b action.ResetCommunication action.None; signal = b; logged = pick b (errors.One e) errors.None })
+          (replied (pick b (Counters.crossed_answer s e) (Counters.unsignalled s)))
       by true s = refl
       by false s = refl
 

@@ -95,13 +95,7 @@ pub fn handled(head: &mut Head, error: DllError) -> ErrorTaken
     ensures { (result ≡ replied (handled (errors_of head.old) error)) × (head.new ≡ effect_words head.old (effect error)) }
 {
     match effect_of(error) {
-        ErrorEffect::Counts(kind) => {
-            if count(head, kind) {
-                ErrorTaken::signalled(NmtAction::ResetCommunication, error)
-            } else {
-                ErrorTaken::unsignalled()
-            }
-        }
+        ErrorEffect::Counts(kind) => ErrorTaken::counted(count(head, kind), error),
         ErrorEffect::LosesLink => {
             set_links(head, links_of(head).saturating_add(1));
             ErrorTaken::signalled(NmtAction::None, error)

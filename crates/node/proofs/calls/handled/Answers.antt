@@ -9,24 +9,17 @@ use Rattle.head.specs.Places as at
 use Rattle.node.proofs.Refining.{count_answers, handled_by}
 use Rattle.node.proofs.calls.handled.Goals as goal
 
-pub returns-then-count : goal.returns-then-count
-returns-then-count c =
+pub returns-in-Counts : goal.returns-in-Counts
+returns-in-Counts c =
     let a = c.args in
     handled_by a.head.now a.error (counts c.in-Counts.kind) _ _ (sym c.effect_of.ensures ∙ ap effect_of c.in-Counts.is)
-    (c.signalled.ensures ∙ count_answers a.head.now c.in-Counts.kind a.error c.count.result true c.count.ensures.0 c.if-count.true)
-    c.count.ensures.1
-
-pub returns-else-count : goal.returns-else-count
-returns-else-count c =
-    let a = c.args in
-    handled_by a.head.now a.error (counts c.in-Counts.kind) _ _ (sym c.effect_of.ensures ∙ ap effect_of c.in-Counts.is)
-    (c.unsignalled.ensures ∙ count_answers a.head.now c.in-Counts.kind a.error c.count.result false c.count.ensures.0 c.if-count.false)
+    (c.counted.ensures ∙ count_answers a.head.now c.in-Counts.kind a.error c.count.result c.count.ensures.0)
     c.count.ensures.1
 
 pub returns-in-LosesLink : goal.returns-in-LosesLink
 returns-in-LosesLink c =
     let a = c.args in
-    handled_by a.head.now a.error loses_link _ _ (sym c.effect_of.ensures ∙ ap effect_of c.in-LosesLink.is) c.signalled-in-LosesLink.ensures
+    handled_by a.head.now a.error loses_link _ _ (sym c.effect_of.ensures ∙ ap effect_of c.in-LosesLink.is) c.signalled.ensures
     (c.set_links.ensures ∙ ap (set a.head.now at.links) (c.saturating_add.ensures ∙ ap (λ (n : ℕ). add_top n 1) c.links_of.ensures))
 
 pub returns-in-IsLogged : goal.returns-in-IsLogged
@@ -37,4 +30,4 @@ returns-in-IsLogged c =
 pub returns-in-Nothing : goal.returns-in-Nothing
 returns-in-Nothing c =
     let a = c.args in
-    handled_by a.head.now a.error nothing _ _ (sym c.effect_of.ensures ∙ ap effect_of c.in-Nothing.is) c.unsignalled-in-Nothing.ensures refl
+    handled_by a.head.now a.error nothing _ _ (sym c.effect_of.ensures ∙ ap effect_of c.in-Nothing.is) c.unsignalled.ensures refl
