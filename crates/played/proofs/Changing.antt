@@ -17,6 +17,7 @@ use Rattle.calls.specs.Values.{at, byte_of}
 use Rattle.calls.specs.Calls.{change_call, Makes}
 use Rattle.calls.proofs.Making.{made, made_as}
 use Rattle.session.specs.declared.Session.{Session}
+use Rattle.played.specs.declared.Station.{Station}
 use Rattle.session.specs.Session.{lent_number}
 use Rattle.played.specs.Played.{numbered_by, Changes}
 
@@ -28,20 +29,21 @@ module _ {adds : Bool} (g : List ℕ) (r : Run) {n : ℕ} (node : n ≡ byte_of 
   pub call_remove : adds ≡ false → remove n r ≡ change_call adds g r
   call_remove h = rw (h, node)
 
--- the words ws₁ and vs₁, k₁ watched and what was answered, r₁, by the call c, made with k nodes of vs
+-- the words ws₁ and vs₁, k₁ watched and what was answered, r₁, by the call c, made with k nodes of a station x that is y then
 pub changes :
-    {adds : Bool} {g ws vs ns ws' vs' ws₁ vs₁ : List ℕ} {k k' k₁ : ℕ} {s s' s₁ : Session} {r r₁ : Result (Unit {0}) Refusal} {c : Call} →
-    k ≡ lent_number s → c ≡ change_call adds g (run (nodes_of vs) k) →
-    ((q m : List ℕ) → Refines (head_of ws) q m c (left (head_of ws₁) (said r₁)) q m (run (nodes_of vs₁) k₁)) →
-    ws' ≡ ws₁ → vs' ≡ vs₁ → k' ≡ k₁ → r ≡ r₁ → s₁ ≡ s → ns ≡ numbers_of (said r) → s' ≡ numbered_by s₁ (at ns 0) k' →
-    Changes s adds g ws vs s' ns ws' vs'
-changes {adds} {g} {ws} {vs} {ns} {ws'} {vs'} {ws₁} {vs₁} {k} {k'} {k₁} {s} {s'} {s₁} {r} {r₁} {c} lends is left_so e f h j o n t =
+    {adds : Bool} {g ws₁ vs₁ : List ℕ} {x y : Station} {k k' k₁ : ℕ} {s₁ : Session} {r r₁ : Result (Unit {0}) Refusal} {c : Call} →
+    k ≡ lent_number x.session → c ≡ change_call adds g (run (nodes_of x.places.nodes) k) →
+    ((q m : List ℕ) → Refines (head_of x.head) q m c (left (head_of ws₁) (said r₁)) q m (run (nodes_of vs₁) k₁)) →
+    y.head ≡ ws₁ → y.places.nodes ≡ vs₁ → k' ≡ k₁ → r ≡ r₁ → s₁ ≡ x.session → y.answer ≡ numbers_of (said r) →
+    y.session ≡ numbered_by s₁ (at y.answer 0) k' →
+    Changes adds g x y
+changes {adds} {g} {ws₁} {vs₁} {x} {y} {k} {k'} {k₁} {s₁} {r} {r₁} {c} lends is left_so e f h j o n t =
     record {
       watched = k';
       made =
           λ q m.
-          made_as (is ∙ ap (λ (k : ℕ). change_call adds g (run (nodes_of vs) k)) lends)
-          (subst (λ (X : Type 0). X) (λ i. Makes ws q m c ns (sym e i) q m (run (nodes_of (sym f i)) (sym h i)))
+          made_as (is ∙ ap (λ (k : ℕ). change_call adds g (run (nodes_of x.places.nodes) k)) lends)
+          (subst (λ (X : Type 0). X) (λ i. Makes x.head q m c y.answer (sym e i) q m (run (nodes_of (sym f i)) (sym h i)))
           (made (left_so q m) (n ∙ ap (λ (r : Result (Unit {0}) Refusal). numbers_of (said r)) j)));
-      session = t ∙ ap (λ (s : Session). numbered_by s (at ns 0) k') o;
+      session = t ∙ ap (λ (s : Session). numbered_by s (at y.answer 0) k') o;
     }

@@ -11,7 +11,7 @@ use Rattle.node.specs.Steps.{no_run}
 use Rattle.session.specs.declared.Session.{Session}
 use Rattle.played.specs.declared.Desk.{Desk}
 use Rattle.played.specs.declared.Station.{Station}
-use Rattle.session.specs.Session.{lent_number, with_run}
+use Rattle.session.specs.Session.{lent_number, with_run, places}
 use Rattle.calls.specs.Values.{at, byte_of, entry_of}
 use Rattle.calls.specs.Calls.{head_call, load_call, change_call, Makes, Starts, reading_numbers, write_numbers}
 
@@ -29,10 +29,12 @@ abbrev pub lent_run : Session → List ℕ → Run
 lent_run s vs = run (nodes_of vs) (lent_number s)
 
 -- an add or a removal, which leaves so many watched
-pub record Changes (s : Session) (adds : Bool) (g ws vs : List ℕ) (s' : Session) (ns ws' vs' : List ℕ) : Type 0 where
+pub record Changes (adds : Bool) (g : List ℕ) (x y : Station) : Type 0 where
   pub watched : ℕ
-  pub made : (q m : List ℕ) → Makes ws q m (change_call adds g (lent_run s vs)) ns ws' q m (run (nodes_of vs') watched)
-  pub session : s' ≡ numbered_by s (at ns 0) watched
+  pub made :
+      (q m : List ℕ) →
+      Makes x.head q m (change_call adds g (lent_run x.session x.places.nodes)) y.answer y.head q m (run (nodes_of y.places.nodes) watched)
+  pub session : y.session ≡ numbered_by x.session (at y.answer 0) watched
 
 -- what a call on the head and the nodes alone leaves as it is
 abbrev pub Keeps : Station → Station → Type 0
@@ -45,60 +47,73 @@ desk ds = record { bytes = record { items = ds } }
 abbrev pub desk_written : Desk → List ℕ → Desk
 desk_written d g = desk (desk_after d.bytes.items (at g 0) (entry_of g))
 
--- A line with a key, the numbers g and the bytes bs, in a session s, on the words ws, the memory q and m, the node words vs and the desk d. Behind the
--- colon stand what they are then, in the same order, with the answer's numbers behind the session.
-pub data Plays (s : Session) (key : ℕ) (g bs ws q m vs : List ℕ) (d : Desk) : Session → List ℕ → List ℕ → List ℕ → List ℕ → List ℕ → Desk → Type 0 where
+-- a station with these numbers of the answer, words, memory and node words; all else stays
+abbrev pub called : Station → List ℕ → List ℕ → List ℕ → List ℕ → List ℕ → Station
+called x ns ws q m vs =
+    record { session = x.session; head = ws; queue = q; history = m; places = places vs x.places.rest; desk = x.desk; answer = ns }
+
+-- a station whose desk has other bytes, with these numbers of the answer
+abbrev pub with_desk : Station → List ℕ → Desk → Station
+with_desk x ns d =
+    record { session = x.session; head = x.head; queue = x.queue; history = x.history; places = x.places; desk = d; answer = ns }
+
+-- A line with a key, the numbers g and the bytes bs, on a station x. Behind the colon stands the station then.
+pub data Plays (key : ℕ) (g bs : List ℕ) (x : Station) : Station → Type 0 where
   -- h
   heard :
       key ≡ 104 →
-      {ns ws' vs' : List ℕ} →
-      ((q m : List ℕ) → Makes ws q m (Call.heard (byte_of (at g 0)) (at g 1) (lent_run s vs)) ns ws' q m (lent_run s vs')) →
-      Plays s key g bs ws q m vs d s ns ws' q m vs' d
+      {ns ws vs : List ℕ} →
+      ((q m : List ℕ) →
+      Makes x.head q m (Call.heard (byte_of (at g 0)) (at g 1) (lent_run x.session x.places.nodes)) ns ws q m (lent_run x.session vs)) →
+      Plays key g bs x (called x ns ws x.queue x.history vs)
   -- t
   tick :
       key ≡ 116 →
-      {ns ws' q' m' vs' : List ℕ} →
-      Makes ws q m (Call.tick (at g 0) (lent_run s vs)) ns ws' q' m' (lent_run s vs') →
-      Plays s key g bs ws q m vs d s ns ws' q' m' vs' d
+      {ns ws q m vs : List ℕ} →
+      Makes x.head x.queue x.history (Call.tick (at g 0) (lent_run x.session x.places.nodes)) ns ws q m (lent_run x.session vs) →
+      Plays key g bs x (called x ns ws q m vs)
   -- l
   load :
       key ≡ 108 →
-      {ns ws' m' : List ℕ} →
-      ((q : List ℕ) → Makes ws q m (load_call g bs) ns ws' q m' no_run) →
-      Plays s key g bs ws q m vs d s ns ws' q m' vs d
+      {ns ws m : List ℕ} →
+      ((q : List ℕ) → Makes x.head q x.history (load_call g bs) ns ws q m no_run) →
+      Plays key g bs x (called x ns ws x.queue m x.places.nodes)
   -- i, in the bytes that the desk has
   entrywrite :
       key ≡ 105 →
-      {ns : List ℕ} {d' : Desk} →
-      d' ≡ desk_written d g →
-      ns ≡ write_numbers (write_reply d.bytes.items (at g 0) (entry_of g)) →
-      Plays s key g bs ws q m vs d s ns ws q m vs d'
+      {ns : List ℕ} {d : Desk} →
+      d ≡ desk_written x.desk g →
+      ns ≡ write_numbers (write_reply x.desk.bytes.items (at g 0) (entry_of g)) →
+      Plays key g bs x (with_desk x ns d)
   -- S
   start :
       key ≡ 83 →
-      {s' : Session} {ns ws' vs' : List ℕ} →
-      Starts ws vs (lent_number s) false g ns ws' vs' →
-      s' ≡ started_by s (at ns 0) →
-      Plays s key g bs ws q m vs d s' ns ws' q m vs' d
+      {y : Station} →
+      Starts x.head x.places.nodes (lent_number x.session) false g y.answer y.head y.places.nodes →
+      y.session ≡ started_by x.session (at y.answer 0) →
+      Keeps x y →
+      Plays key g bs x y
   -- T, with thresholds
   start_named :
       key ≡ 84 →
-      {s' : Session} {ns ws' vs' : List ℕ} →
-      Starts ws vs (lent_number s) true g ns ws' vs' →
-      s' ≡ started_by s (at ns 0) →
-      Plays s key g bs ws q m vs d s' ns ws' q m vs' d
+      {y : Station} →
+      Starts x.head x.places.nodes (lent_number x.session) true g y.answer y.head y.places.nodes →
+      y.session ≡ started_by x.session (at y.answer 0) →
+      Keeps x y →
+      Plays key g bs x y
   -- j and x
   change :
       OneOf (106 ∷ 120 ∷ []) key →
-      {s' : Session} {ns ws' vs' : List ℕ} →
-      Changes s (eqb key 106) g ws vs s' ns ws' vs' →
-      Plays s key g bs ws q m vs d s' ns ws' q m vs' d
+      {y : Station} →
+      Changes (eqb key 106) g x y →
+      Keeps x y →
+      Plays key g bs x y
   -- k, q and s
   reading :
       OneOf (107 ∷ 113 ∷ 115 ∷ []) key →
       {ns : List ℕ} →
       ns ≡ reading_numbers key (at g 0) →
-      Plays s key g bs ws q m vs d s ns ws q m vs d
+      Plays key g bs x (called x ns x.head x.queue x.history x.places.nodes)
   -- any other: a call on the head alone
   on_head :
       (key ≡ 104 → ⊥) →
@@ -109,6 +124,6 @@ pub data Plays (s : Session) (key : ℕ) (g bs ws q m vs : List ℕ) (d : Desk) 
       (key ≡ 84 → ⊥) →
       (OneOf (106 ∷ 120 ∷ []) key → ⊥) →
       (OneOf (107 ∷ 113 ∷ 115 ∷ []) key → ⊥) →
-      {ns ws' : List ℕ} →
-      ((q m : List ℕ) → Makes ws q m (head_call key g) ns ws' q m no_run) →
-      Plays s key g bs ws q m vs d s ns ws' q m vs d
+      {ns ws : List ℕ} →
+      ((q m : List ℕ) → Makes x.head q m (head_call key g) ns ws q m no_run) →
+      Plays key g bs x (called x ns ws x.queue x.history x.places.nodes)

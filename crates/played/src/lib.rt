@@ -108,7 +108,7 @@ impl Station {
     }
 
     fn change(&mut self, adds: bool, given: Given)
-        ensures changes { Changes self.old.session adds given self.old.head self.old.places.nodes self.new.session self.new.answer self.new.head self.new.places.nodes }
+        ensures changes { Changes adds given self.old self.new }
         ensures keeps { Keeps self.old self.new }
     {
         let head = &mut self.head;
@@ -128,8 +128,7 @@ impl Station {
 
     // Plays a line whose answer is numbers.
     pub fn play(&mut self, key: u8, given: Given, bytes: &[u8])
-        ensures plays { Plays self.old.session key given bytes.now self.old.head self.old.queue self.old.history self.old.places.nodes self.old.desk self.new.session self.new.answer self.new.head self.new.queue self.new.history self.new.places.nodes self.new.desk }
-        ensures rest { self.new.places.rest ≡ self.old.places.rest }
+        ensures { Plays key given bytes.now self.old self.new }
     {
         let lent = self.session.lent();
         match key {
