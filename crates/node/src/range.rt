@@ -27,7 +27,8 @@ fn elapsed(head: &Head, time: Time) -> u64
     time_since(time.us, last_soc(soc_of(head)))
 }
 
-fn is_loss(head: &Head, time: Time) -> bool
+// Elapsed strictly above the limit: a loss at a reading, and at a tick.
+pub fn is_loss(head: &Head, time: Time) -> bool
     ensures { result ≡ is_loss (plain (head_of head.now) [] []) time.us }
 {
     limit(od_of(head)) < elapsed(head, time)

@@ -24,7 +24,7 @@ use Rattle.std.specs.declared.option.Option.TheVariants.{Some, None}
 use Rattle.head.specs.Head.{Head, head_with_dll}
 use Rattle.node.specs.Plain.{Plain}
 use Rattle.node.specs.Steps.{plain_of, with_soc, with_dll, cycle_of, tolerance_of, limit_of}
-use Rattle.node.specs.Tick.{Ticked, goes_on, behind, check_off, with_deadline, next_deadline, rescheduled, within_limit, soc_timeout, deal_all, lost, soc_check, at_not_active, sets_basic, times_out, timed_out, event_in_tick, used_up, by_deadline}
+use Rattle.node.specs.Tick.{Ticked, goes_on, behind, check_off, with_deadline, next_deadline, rescheduled, within_limit, is_loss, soc_timeout, deal_all, lost, soc_check, at_not_active, sets_basic, times_out, timed_out, event_in_tick, used_up, by_deadline}
 use Rattle.node.specs.Refines.{plain, Becomes, rings, joins_all}
 use Rattle.heartbeats.specs.Parts.{PartLeft, Ticks, is_quiet}
 use Rattle.tick.specs.Ticks.{Loses}
@@ -211,23 +211,20 @@ module _ (h : Head) (q m : List ℕ) (t : ℕ) where
   by_check on late = pick on (pick late (lost p t) (goes_on (within_limit p t))) (goes_on p)
 
   abbrev late : Bool
-  late = ltb (limit_of h.od) (t - min h.soc.last_soc_reception_time_us latest)
+  late = is_loss p t
 
   pub check_none : h.soc.soc_timeout_check_active ≡ false → (r : PartLeft) → r ≡ record { head = h; logged = errors.None; ended = false } → Ticks h q m (soc_check p t) r q m
   unfolding soc_check
   check_none z r e = ticks_as (goes_on p) (soc_check p t) (ap (λ (b : Bool). by_check b late) z) (on_ticks (λ p. p) (itself h) e)
 
-  module _ (z : h.soc.soc_timeout_check_active ≡ true) (l x n : ℕ) (a : l ≡ min h.soc.last_soc_reception_time_us latest) (b : x ≡ t - l) (c : n ≡ limit_of h.od) (r : PartLeft) where
-    is_late_lem : (y : Bool) → ltb n x ≡ y → late ≡ y
-    is_late_lem y e = ap₂ ltb (sym c) (ap (λ (l : ℕ). t - l) (sym a) ∙ sym b) ∙ e
-
-    pub check_lost : n < x → (q' m' : List ℕ) → Ticks h q m (lost p t) r q' m' → Ticks h q m (soc_check p t) r q' m'
+  module _ (z : h.soc.soc_timeout_check_active ≡ true) (b : Bool) (a : b ≡ late) (r : PartLeft) where
+    pub check_lost : b ≡ true → (q' m' : List ℕ) → Ticks h q m (lost p t) r q' m' → Ticks h q m (soc_check p t) r q' m'
     unfolding soc_check
-    check_lost y q' m' w = ticks_as (lost p t) (soc_check p t) (ap₂ by_check z (is_late_lem true (lt-ltb n x y))) w
+    check_lost y q' m' w = ticks_as (lost p t) (soc_check p t) (ap₂ by_check z (sym a ∙ y)) w
 
-    pub check_within : x ≤ n → (g : Head) → Becomes h (λ p. within_limit p t) g → r ≡ record { head = g; logged = errors.None; ended = false } → Ticks h q m (soc_check p t) r q m
+    pub check_within : b ≡ false → (g : Head) → Becomes h (λ p. within_limit p t) g → r ≡ record { head = g; logged = errors.None; ended = false } → Ticks h q m (soc_check p t) r q m
     unfolding soc_check
-    check_within y g k e = ticks_as (goes_on (within_limit p t)) (soc_check p t) (ap₂ by_check z (is_late_lem false (le-ltb n x y))) (on_ticks (λ p. within_limit p t) k e)
+    check_within y g k e = ticks_as (goes_on (within_limit p t)) (soc_check p t) (ap₂ by_check z (sym a ∙ y)) (on_ticks (λ p. within_limit p t) k e)
 
 -- NotActive
 module _ (h g : Head) (t n : ℕ) (e : n ≡ h.nmt.basic_ethernet_timeout) where

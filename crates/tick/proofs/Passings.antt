@@ -6,7 +6,7 @@ use mathlib.Core.Bool.{Bool, true, false}
 use mathlib.Core.List.{List, []}
 use lib.Dec.{ltb, leb}
 use lib.ListN.{length, set}
-use borrow.Author.Tests.{lt-ltb, le-ltb, le-leb, lt-leb}
+use borrow.Author.Tests.{le-leb, lt-leb}
 use Rattle.types.specs.Pick.{pick}
 use Rattle.types.specs.Errors.{reported}
 use Rattle.types.specs.declared.frame.error.types.DllError.{DllError}
@@ -18,7 +18,7 @@ use Rattle.dll.specs.declared.cs_state_machine.DllAnswer.{DllAnswer}
 use Rattle.std.specs.declared.option.Option.TheVariants.{Some, None}
 use Rattle.head.specs.Head.{Head}
 use Rattle.node.specs.Steps.{limit_of}
-use Rattle.node.specs.Tick.{with_deadline, rescheduled, within_limit, deal_all, soc_timeout, lost, soc_check, at_not_active, sets_basic, times_out, by_deadline}
+use Rattle.node.specs.Tick.{with_deadline, rescheduled, within_limit, is_loss, deal_all, soc_timeout, lost, soc_check, at_not_active, sets_basic, times_out, by_deadline}
 use Rattle.node.specs.Refines.{plain}
 use Rattle.tick.specs.Ticks.{Loses}
 use Rattle.tick.proofs.DeadlineLaws.{loses, lose_ends, lose_goes_on, check_none, check_lost, check_within, none_stands, basic_set, not_passed, passed_idle, passed_check}
@@ -100,28 +100,25 @@ module _ (ws q m : List ℕ) (t : ℕ) (r : Dealt) where
         words = sym (ap (λ (c : Bool). checked c late) z);
       }
 
-  module _ (z : (soc_of ws).soc_timeout_check_active ≡ true) (l x n : ℕ) (a : l ≡ min (soc_of ws).last_soc_reception_time_us latest) (b : x ≡ t - l) (c : n ≡ limit_of (od_of ws)) (ws' : List ℕ) where
-    is_late_lem : (y : Bool) → ltb n x ≡ y → late ≡ y
-    is_late_lem y e = ap₂ ltb (sym c) (ap (λ (l : ℕ). t - l) (sym a) ∙ sym b) ∙ e
-
+  module _ (z : (soc_of ws).soc_timeout_check_active ≡ true) (b : Bool) (a : b ≡ is_loss (unlent ws) t) (ws' : List ℕ) where
     pub lost_checked :
-        n < x → (q' m' : List ℕ) → TicksIn ws q m (lost (plain (head_of ws) q m) t) r ws' q' m' (lost_words ws q m t) →
+        b ≡ true → (q' m' : List ℕ) → TicksIn ws q m (lost (plain (head_of ws) q m) t) r ws' q' m' (lost_words ws q m t) →
         TicksIn ws q m (soc_check (plain (head_of ws) q m) t) r ws' q' m' (check_words ws q m t)
     unfolding head_of check_words
     lost_checked y q' m' w =
         record {
-          ticks = check_lost (head_of ws) q m t z l x n a b c (dealt_of ws' r) y q' m' w.ticks;
-          words = w.words ∙ sym (ap₂ checked z (is_late_lem true (lt-ltb n x y)));
+          ticks = check_lost (head_of ws) q m t z b a (dealt_of ws' r) y q' m' w.ticks;
+          words = w.words ∙ sym (ap₂ checked z (sym a ∙ y));
         }
 
     pub within_checked :
-        x ≤ n → Turns ws (λ p. within_limit p t) ws' (within_words ws t) → r ≡ on →
+        b ≡ false → Turns ws (λ p. within_limit p t) ws' (within_words ws t) → r ≡ on →
         TicksIn ws q m (soc_check (plain (head_of ws) q m) t) r ws' q m (check_words ws q m t)
     unfolding head_of check_words
     within_checked y k e =
         record {
-          ticks = check_within (head_of ws) q m t z l x n a b c (dealt_of ws' r) y (head_of ws') k.becomes (ap (dealt_of ws') e);
-          words = k.words ∙ sym (ap₂ checked z (is_late_lem false (le-ltb n x y)));
+          ticks = check_within (head_of ws) q m t z b a (dealt_of ws' r) y (head_of ws') k.becomes (ap (dealt_of ws') e);
+          words = k.words ∙ sym (ap₂ checked z (sym a ∙ y));
         }
 
 -- what stands after the heartbeats

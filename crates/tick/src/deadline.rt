@@ -16,6 +16,7 @@ use head::parts::{
 };
 use head::state::Head;
 use heartbeats::dealt::{Dealt, timeout_in_tick};
+use node::range::is_loss;
 use node::timing::{cycle, last_soc, limit, time_since, tolerance_us};
 use types::frame::cs_state_machine::DllCsEvent;
 use types::frame::error::types::DllErrors;
@@ -90,8 +91,7 @@ fn soc_check(head: &mut Head, queue: &mut [u8; 640], history: &mut [u8; 5080], t
     ensures { TicksIn head.old queue.old history.old (soc_check (plain (head_of head.old) queue.old history.old) time.us) result head.new queue.new history.new (check_words head.old queue.old history.old time.us) }
 {
     if check_of(head) {
-        let elapsed = time_since(time.us, last_soc(soc_of(head)));
-        if limit(od_of(head)) < elapsed {
+        if is_loss(head, time) {
             return lose(head, queue, history, time);
         }
         within_limit(head, time);
