@@ -1,4 +1,4 @@
--- The loop of `run::settle`: the places before this one are set, those behind it are as they were.
+-- The places before this one are set, those behind it are as they were.
 use Rattle.std.proofs.Common.{◌≡◌, take, drop, map, ◌++◌}
 use Rattle.lent.specs.Runs.{settled}
 use Rattle.lent.proofs.run.settle.Given as goal
