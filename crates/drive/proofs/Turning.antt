@@ -1,14 +1,11 @@
 -- One row of a script: the call that it is, and the number of what the call said.
 -- Assumes nothing.
-use Prim.Native.Nat.{ℕ, ◌+◌, ◌-◌, ◌≤◌}
+use Prim.Native.Nat.{ℕ}
 use mathlib.Core.Path.{◌≡◌, refl, sym, ap, subst, ◌∙◌}
 use mathlib.Core.Bool.{Bool, true, false}
 use mathlib.Core.List.{List}
-use native.Mathlib.Omega.{arith}
-use lib.Dec.{eqb, ltb}
-use lib.ListN.{length, take, drop, length-drop, drop_of_length-le}
-use lib.Seq.{take_all, drop-length}
-use borrow.Author.Tests.{ne_eqb, ltb-true, ltb-false}
+use lib.Dec.{eqb}
+use borrow.Author.Tests.{ne_eqb}
 use Rattle.types.specs.Pick.{pick}
 use Rattle.std.specs.declared.result.Result.{Result}
 use Rattle.std.specs.declared.result.Result.TheVariants.{Ok, Err}
@@ -23,7 +20,7 @@ use Rattle.drive.specs.declared.Row.{Row}
 use Rattle.drive.specs.declared.Tag.{Tag}
 use Rattle.drive.specs.declared.Tag.TheVariants.{Lend, Arm}
 use Rattle.trace.specs.Driven.{Made}
-use Rattle.drive.specs.Script.{tag_of, part_of, call_tagged, call_of, number_of, number_in, held, Turned}
+use Rattle.drive.specs.Script.{tag_of, call_tagged, call_of, number_of, number_in, held, Turned}
 
 module _ {ws q m ns ws' q' m' ns' : List ℕ} {k k' n : ℕ} {c : Call} where
   pub turned : {s : Said} → Made ws q m ns k c s ws' q' m' ns' k' → n ≡ number_of s.answer → Turned (held ws q m ns k) c n (held ws' q' m' ns' k')
@@ -44,42 +41,6 @@ pub declined_lem :
     (r : Result T Refusal) (d : Option Refusal) → d ≡ result_err r → number_in d ≡ number_of (says r)
 declined_lem says f g (Ok x) d e = ap number_in e ∙ sym (f x)
 declined_lem says f g (Err y) d e = ap number_in e ∙ sym (g y)
-
--- a number that is cut
-pub cut_fits : (n most r : ℕ) → r ≡ pick (ltb n most) n most → r ≤ most
-cut_fits n most r e = by (ltb n most) refl
-  where
-    by : (b : Bool) → ltb n most ≡ b → r ≤ most
-    by true f = let g : r ≡ n = e ∙ ap (λ (b : Bool). pick b n most) f in omega (arith, ltb-true n most f)
-    by false f = let g : r ≡ most = e ∙ ap (λ (b : Bool). pick b n most) f in omega arith
-
--- what is cut to what there is takes the same part
-cut_drop : (l : List ℕ) (n : ℕ) → drop (pick (ltb n (length l)) n (length l)) l ≡ drop n l
-cut_drop l n = by (ltb n (length l)) refl
-  where
-    by : (b : Bool) → ltb n (length l) ≡ b → drop (pick b n (length l)) l ≡ drop n l
-    by true e = refl
-    by false e = let h : length l ≤ n = ltb-false n (length l) e in drop-length l ∙ sym (drop_of_length-le l h)
-
-cut_take : (l : List ℕ) (n : ℕ) → take (pick (ltb n (length l)) n (length l)) l ≡ take n l
-cut_take l n = by (ltb n (length l)) refl
-  where
-    by : (b : Bool) → ltb n (length l) ≡ b → take (pick b n (length l)) l ≡ take n l
-    by true e = refl
-    by false e = let h : length l ≤ n = ltb-false n (length l) e in take_all (length l) l (omega arith) ∙ sym (take_all n l h)
-
--- from .. to: as the code cuts them
-pub part_cut :
-    (r : Row) (l : List ℕ) (from size to : ℕ) →
-    from ≡ pick (ltb r.i (length l)) r.i (length l) →
-    size ≡ pick (ltb r.j (length l - from)) r.j (length l - from) →
-    to ≡ from + size →
-    take (to - from) (drop from l) ≡ part_of r l
-part_cut r l from size to e f g =
-    let d : drop from l ≡ drop r.i l = ap (λ (x : ℕ). drop x l) e ∙ cut_drop l r.i in
-    let s : to - from ≡ size = omega arith in
-    let w : size ≡ pick (ltb r.j (length (drop from l))) r.j (length (drop from l)) = f ∙ ap (λ (x : ℕ). pick (ltb r.j x) r.j x) (sym (length-drop from l)) in
-    ap (λ (x : ℕ). take x (drop from l)) (s ∙ w) ∙ cut_take (drop from l) r.j ∙ ap (take r.j) d
 
 -- a row with the first number of no other call is the call `arm`
 pub call_else :

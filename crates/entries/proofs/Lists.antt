@@ -63,14 +63,7 @@ module _ (m : List ℕ) (q : EmergencyQueue) where
       rw (t, n) (ring_behind 32 m long q.oldest e f (length_of q) (omega arith)))
       (λ full t. rw t)
 
-  -- memory and capacity stay as large
-  pub pushed_long : (e : ErrorEntry) → length m ≡ 640 → length (pushed_bytes m q e) ≡ length m
-  unfolding pushed_bytes
-  pushed_long e long =
-      decide (length_of q) (capacity_of q)
-      (λ room t. rw t (put_long 32 m long ((q.oldest + length_of q) % 32) (omega arith) e))
-      (λ full t. rw t)
-
+  -- the capacity stays as large
   pub pushed_capacity : (pushed q).queue.capacity ≡ q.capacity
   unfolding pushed
   pushed_capacity = decide (length_of q) (capacity_of q) (λ room t. rw t) (λ full t. rw t)
