@@ -13,13 +13,13 @@ use lib.Bits.{bit_or}
 use lib.Count.{ones}
 use lib.Dec.{eqb, leb, ltb}
 use lib.ListN.{length, get_or, set}
-use Rattle.types.specs.Pick.{pick, both, either}
+use Rattle.types.specs.Pick.{pick, both, either, all_of, any_of}
 use Rattle.types.proofs.Tests.{both_first, both_second}
 use Rattle.entries.specs.Desk.{Reply}
 use Rattle.entries.specs.Ring.{listed}
 use Rattle.entries.proofs.Rings.{listed_more, listed_same, listed_long}
 use Rattle.watched.specs.declared.nodes.WatchedNode.{WatchedNode}
-use Rattle.watched.specs.Watched.{all_of, some_of, ascending, fits, well_formed, no_node, is_watched, watched_of}
+use Rattle.watched.specs.Watched.{ascending, fits, well_formed, no_node, is_watched, watched_of}
 use Rattle.watched.specs.Nodes.{nodes_of, rising}
 use Rattle.watched.proofs.Limits.{fits_small, number_small}
 use Rattle.watched.proofs.Lists.{rising_all}
@@ -88,9 +88,9 @@ module _ (ws : List WatchedNode) where
           ∙ ones_more (bytes_of ws) (n / 8) (lowest_first (set (bits_at ws (n / 8)) (n % 8) true)) (omega (arith, bytes_long))
           (one_more_lem (bits_at ws (n / 8)) (n % 8) inside (bit_here ∙ new) ∙ ap (λ (b : ℕ). suc (ones b)) (sym byte_at))
 
-some_more : {A : Type 0} (p : A → Bool) (xs : List A) (y : A) → some_of p (xs ++ (y ∷ [])) ≡ pick (p y) true (some_of p xs)
+some_more : {A : Type 0} (p : A → Bool) (xs : List A) (y : A) → any_of p (xs ++ (y ∷ [])) ≡ pick (p y) true (any_of p xs)
 some_more p [] y = refl
-some_more p (x ∷ xs) y = ap (either (p x)) (some_more p xs y) ∙ by (p x) (p y) (some_of p xs)
+some_more p (x ∷ xs) y = ap (either (p x)) (some_more p xs y) ∙ by (p x) (p y) (any_of p xs)
   where
     by : (a b c : Bool) → either a (pick b true c) ≡ pick b true (either a c)
     by true true c = refl

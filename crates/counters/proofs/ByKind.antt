@@ -2,13 +2,14 @@
 -- Assumes nothing.
 use Prim.Native.Nat.{ℕ, zero, suc, ◌≤◌}
 use mathlib.Core.Path.{◌≡◌, refl, sym, ap, subst, ◌∙◌}
-use mathlib.Core.Bool.{Bool, true, false}
+use mathlib.Core.Bool.{Bool, true}
 use mathlib.Core.List.{List, [], ◌∷◌}
 use borrow.Author.Tests.{eqb-true, leb-true}
 use lib.Dec.{leb}
 use lib.ListN.{get_or}
-use Rattle.types.specs.Pick.{pick, both}
-use Rattle.counters.specs.Counters.{counter_kinds, place, same_kind, of_kind, for_each, counter, by_kind, replaced, new_counter, new_counters, threshold_for, all_of, thresholds_fit, Thresholds}
+use Rattle.types.specs.Pick.{pick, all_of}
+use Rattle.types.proofs.Tests.{both_first, both_second}
+use Rattle.counters.specs.Counters.{counter_kinds, place, same_kind, of_kind, for_each, counter, by_kind, replaced, new_counter, new_counters, threshold_for, thresholds_fit, Thresholds}
 use Rattle.counters.specs.declared.counters.ByKind.{ByKind}
 use Rattle.counters.specs.declared.counters.ThresholdCounter.{ThresholdCounter}
 use Rattle.counters.specs.declared.counters.CounterKind.{CounterKind}
@@ -63,30 +64,15 @@ counter_new k t = counter_of_lem (λ (i : CounterKind). new_counter (threshold_f
 
 -- what every kind passes, each passes
 module _ (p : CounterKind → Bool) where
-  first : (x : CounterKind) (xs : List CounterKind) → all_of p (x ∷ xs) ≡ true → p x ≡ true
-  first x xs h = by (p x) (all_of p xs) h
-    where
-      by : (a b : Bool) → both a b ≡ true → a ≡ true
-      by true b e = refl
-      by false b e = e
-
-  rest : (x : CounterKind) (xs : List CounterKind) → all_of p (x ∷ xs) ≡ true → all_of p xs ≡ true
-  rest x xs h = by (p x) (all_of p xs) h
-    where
-      by : (a b : Bool) → both a b ≡ true → b ≡ true
-      by true b e = e
-      by false true e = refl
-      by false false e = e
-
   at : (n : ℕ) (xs : List CounterKind) (x : CounterKind) → all_of p xs ≡ true → p x ≡ true → p (get_or xs n x) ≡ true
   at n [] x h d = d
-  at zero (y ∷ ys) x h d = first y ys h
-  at (suc n) (y ∷ ys) x h d = at n ys x (rest y ys h) d
+  at zero (y ∷ ys) x h d = both_first (p y) (all_of p ys) h
+  at (suc n) (y ∷ ys) x h d = at n ys x (both_second (p y) (all_of p ys) h) d
 
   passes : all_of p counter_kinds ≡ true → (k : CounterKind) → p k ≡ true
   passes h k =
       subst (λ (k : CounterKind). p k ≡ true) (kind_at k)
-      (at (place k) counter_kinds Collision h (first Collision (LossOfSoc ∷ LossOfSoa ∷ LossOfPreq ∷ SoCJitter ∷ Crc ∷ HeartbeatTimeout ∷ []) h))
+      (at (place k) counter_kinds Collision h (both_first (p Collision) _ h))
 
 -- each of the thresholds that pass is within the limit
 pub limited : (t : Thresholds) → thresholds_fit t ≡ true → (k : CounterKind) → threshold_for k t ≤ 1000000

@@ -1,7 +1,7 @@
 -- The error counters of a controlled node, by document 01, 'Counters', as document 02, No. 3 and No. 6 amend it: their words, in their order, stand above the definitions.
 -- Assumes nothing.
 use Rattle.std.specs.Prelude.{ℕ, ◌+◌, ◌-◌, min, Bool, true, false, not, List, [], ◌∷◌, eqb, leb, ltb}
-use Rattle.types.specs.Pick.{pick, both, either}
+use Rattle.types.specs.Pick.{pick, both, all_of, any_of}
 use Rattle.types.specs.declared.frame.error.types.DllError.{DllError}
 use Rattle.types.specs.declared.frame.error.types.DllError.TheVariants as error
 use Rattle.types.specs.declared.frame.error.types.DllErrors.{DllErrors}
@@ -90,11 +90,6 @@ new_counters t = by_kind (λ (k : CounterKind). new_counter (threshold_for k t))
 abbrev pub same_for_all : ℕ → Thresholds
 same_for_all n = for_each (λ (k : CounterKind). n)
 
--- every item of the list passes the test
-abbrev pub all_of : {A : Type 0} → (A → Bool) → List A → Bool
-all_of p [] = true
-all_of p (x ∷ xs) = both (p x) (all_of p xs)
-
 -- "0 to 1,000,000"
 unfoldable pub thresholds_fit : Thresholds → Bool
 thresholds_fit t = all_of (λ (k : CounterKind). leb (threshold_for k t) 1000000) counter_kinds
@@ -165,11 +160,6 @@ lowered s = by_kind (λ (k : CounterKind). decremented (counter k s)) s.loss_of_
 
 abbrev pub active : ThresholdCounter → Bool
 active c = ltb 0 c.threshold_cnt
-
--- some item of the list passes the test
-abbrev pub any_of : {A : Type 0} → (A → Bool) → List A → Bool
-any_of p [] = false
-any_of p (x ∷ xs) = either (p x) (any_of p xs)
 
 unfoldable pub any_active : CnErrorCounters → Bool
 any_active s = any_of (λ (k : CounterKind). active (counter k s)) counter_kinds

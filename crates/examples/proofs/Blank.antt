@@ -10,10 +10,11 @@ use lib.Dec.{eqb}
 use lib.ListN.{length, get_or, drop, replicate, drop_of_length-le}
 use lib.Seq.{drop-cons}
 use Rattle.std.specs.List.{list_all, range_with_len}
-use Rattle.types.specs.Pick.{both}
+use Rattle.types.specs.Pick.{both, all_of}
+use Rattle.types.proofs.Cases.{first_same, rest_same}
 use Rattle.entries.specs.Ring.{listed}
 use Rattle.watched.specs.declared.nodes.WatchedNode.{WatchedNode}
-use Rattle.watched.specs.Watched.{all_of, watched_node, no_node, Run, run, holding}
+use Rattle.watched.specs.Watched.{watched_node, no_node, Run, run, holding}
 use Rattle.watched.specs.Nodes.{node_at, nodes_of}
 use Rattle.watched.proofs.Watching.{places, node_at_lem}
 use Rattle.examples.specs.Same.{Exactly, blank}
@@ -25,12 +26,6 @@ exact_node x y =
     exact_by (exact_and (exact_number _ _) (exact_and (exact_number _ _) (exact_number _ _)))
     (λ h. λ i. watched_node (h.0 i) (h.1.0 i) (h.1.1 i))
     (λ e. (ap (λ (w : WatchedNode). w.node) e, (ap (λ (w : WatchedNode). w.timeout) e, ap (λ (w : WatchedNode). w.last_heard) e)))
-
-first_same : {A : Type 0} {a b : A} {xs ys : List A} → a ∷ xs ≡ b ∷ ys → a ≡ b
-first_same e = cc
-
-rest_same : {A : Type 0} {a b : A} {xs ys : List A} → a ∷ xs ≡ b ∷ ys → xs ≡ ys
-rest_same e = cc
 
 exact_both : {r s : Bool} {P Q : Type 0} → Exactly r P → Exactly s Q → Exactly (both r s) (P × Q)
 exact_both {r} {s} {P} {Q} x y = by r x

@@ -17,6 +17,7 @@ use Rattle.head.specs.Words.{errors_of, queue_of, history_of, head_of}
 use Rattle.std.specs.declared.result.Result.{Result}
 use Rattle.std.specs.declared.result.Result.TheVariants.{Ok, Err}
 use Rattle.types.specs.declared.refusals.Refusal.{Refusal}
+use Rattle.types.proofs.Cases.{first_same, rest_same}
 use Rattle.node.specs.Plain.{Plain, Call, Answer, taken, Step, begins}
 use Rattle.node.specs.Steps.{fresh, started}
 use Rattle.watched.specs.Watched.{well_formed, Run, run}
@@ -55,12 +56,6 @@ pub record Arrived (x : Coming) (ws q m : List ℕ) (l : Run) (r : Bool) : Type 
   pub whole : plain (head_of ws) q m ≡ x.all.head
   pub lent : l ≡ x.all.lent
   pub same : r ≡ true
-
-first_same : {B : Type 0} {a b : B} {xs ys : List B} → a ∷ xs ≡ b ∷ ys → a ≡ b
-first_same e = cc
-
-rest_same : {B : Type 0} {a b : B} {xs ys : List B} → a ∷ xs ≡ b ∷ ys → xs ≡ ys
-rest_same e = cc
 
 -- what is to come behind the first call
 pub then_coming : (p : Plain) (c : Call) (cs : List Call) (x : Coming) (xs : List Coming) → comings p (c ∷ cs) ≡ x ∷ xs → comings x.all.head cs ≡ xs

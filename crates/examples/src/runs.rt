@@ -1,6 +1,7 @@
 // Whether a run watches one node, and holds nothing else.
 ghost use Rattle.std.specs.Prelude.{◌≡◌, [], ◌∷◌, ◌<◌, drop};
-ghost use Rattle.watched.specs.Watched.{all_of, run, holding};
+ghost use Rattle.types.specs.Pick.{all_of};
+ghost use Rattle.watched.specs.Watched.{run, holding};
 ghost use Rattle.watched.specs.Nodes.{node_at, node_of, nodes_of};
 ghost use Rattle.examples.specs.Same.{Exactly, blank};
 

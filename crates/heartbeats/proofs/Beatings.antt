@@ -1,51 +1,38 @@
 -- The heartbeats in words: the look at the nodes, and the walk over the late ones. What they make of the head is by the laws on a head by its parts;
 -- the words are beside it.
 -- Assumes nothing.
-use Rattle.std.proofs.Common.{◌≡◌, ℕ, suc, ◌+◌, ◌-◌, ◌*◌, ◌<◌, ◌≤◌, Bool, true, false, eqb, ltb, leb, List, [], ◌∷◌, ◌++◌, map, length, get_or, take, drop, set, sym, refl, ap, ◌∙◌, subst, ap₂, add-one, arith, take-append-drop, length-take-le, get_or-take, ltb-true, le-ltb, lt-ltb, eq-eqb, ne_eqb, eqb-true, leb-true}
-use mathlib.Core.Bool.{false≢true}
+use Rattle.std.proofs.Common.{◌≡◌, ℕ, suc, ◌+◌, ◌-◌, ◌*◌, ◌<◌, ◌≤◌, Bool, true, false, eqb, ltb, leb, List, [], ◌∷◌, ◌++◌, map, length, get_or, take, drop, set, sym, refl, ap, ◌∙◌, subst, ap₂, add-one, arith, take-append-drop, length-take-le, get_or-take, ltb-true, le-ltb, lt-ltb, ne_eqb, eqb-true, leb-true}
 use Prim.Native.Nat.{min}
 use borrow.Author.Tests.{eqb-false}
-use Rattle.types.specs.Pick.{pick, both, either}
+use Rattle.types.specs.Pick.{pick, both, either, all_of}
 use Rattle.types.specs.Types.{node}
 use Rattle.types.specs.declared.frame.error.types.DllError.TheVariants.{HeartbeatTimeout}
-use Rattle.types.specs.declared.frame.error.types.DllErrors.{DllErrors}
 use Rattle.types.specs.declared.frame.error.types.DllErrors.TheVariants as errors
 use Rattle.counters.specs.Counters.{effect, handled, HandledError, replied}
 use Rattle.head.specs.Head.{Head, head_with_errors}
 use Rattle.watched.specs.declared.nodes.WatchedNode.{WatchedNode}
-use Rattle.watched.specs.Watched.{in_time, all_of, fits, well_formed, no_node, heard_now, watched_node, watched_of, Run, watching, changing}
+use Rattle.watched.specs.Watched.{in_time, fits, well_formed, no_node, heard_now, watched_of, Run, watching, changing}
 use Rattle.node.specs.Tick.{is_late, looked, late_ones, acts, signalled, timeout_of, beat, beat_all}
 use Rattle.node.specs.Refines.{plain, Becomes}
 use Rattle.watched.proofs.Lists.{watched_take, each_ahead, each_turn, from_here, at_end, whole}
 use Rattle.heartbeats.specs.Parts.{Finishes, looked_first}
+use Rattle.heartbeats.proofs.Handled.{handled_written, ending, signals, logs}
 use Rattle.heartbeats.proofs.Beats.{beat_signalled, beat_unsignalled, Beating, beats_begin, beats_over, beats_pass, beats_stop, beats_go_on}
 use Rattle.head.specs.Words.{errors_of, head_of}
 use Rattle.watched.specs.Nodes.{node_at, nodes_of, rests, not_before, never, sooner_by, soonest}
 use Rattle.node.specs.InPlace.{effect_words}
 use Rattle.counters.specs.declared.counters.ErrorTaken.{ErrorTaken}
-use Rattle.node.proofs.Refining.{effect_written}
 use Rattle.node.proofs.Moments.{now_fits}
 use Rattle.types.proofs.Tests.{both_first, both_second}
 use Rattle.watched.specs.Climb.{sum_of, three_before}
 use Rattle.watched.proofs.Limits.{all_at}
-use Rattle.watched.proofs.Walk.{sooner_by_lem}
+use Rattle.watched.proofs.Walk.{sooner_by_lem, joined}
 use Rattle.watched.proofs.Watching.{places, few, node_at_lem, rests_heard, heard_written}
 use Rattle.heartbeats.specs.declared.dealt.Dealt.{Dealt}
 use Rattle.heartbeats.specs.PartWords.{signal_words, looked_time, look_words, looked_words, finished_words, ends_by, beat_words, beat_all_words}
 use Rattle.heartbeats.specs.PartsIn.{Turns, dealt_of, FinishesIn, TicksIn}
 
 -- the look at one node
-module _ (t o l : ℕ) where
-  abbrev late : Bool
-  late = is_late t (watched_node 0 o l)
-
-  pub look_unheard : l ≡ 0 → t ≡ looked_time t o l
-  look_unheard h = sym (ap (λ (c : Bool). pick (either c late) t l) (eq-eqb l 0 h))
-
-  pub look_heard : (l ≡ 0 → ⊥) → (b c : Bool) → b ≡ late → b ≡ c → pick c t l ≡ looked_time t o l
-  look_heard h b c e z =
-      sym (ap (λ (c : Bool). pick (either c late) t l) (ne_eqb l 0 h) ∙ ap (λ (c : Bool). pick c t l) (sym e ∙ z))
-
 pub looked_by : (t : ℕ) (w : WatchedNode) → heard_now (looked_time t w.timeout w.last_heard) w ≡ looked t w
 looked_by t w = by (either (eqb w.last_heard 0) (is_late t w))
   where
@@ -116,9 +103,6 @@ module _ (t : ℕ) (ns₀ ns : List ℕ) (k i : ℕ) (formed : well_formed (watc
         ∙ ap (λ (v : WatchedNode). soonest (sooner_by s v) (map (looked t) (drop (i + 1) (take k (nodes_of ns₀))))) (ap (looked t) w ∙ sym is_looked)
         ∙ ap (λ (z : ℕ). soonest z (map (looked t) (drop (i + 1) (take k (nodes_of ns₀))))) (sym f)
 
-joined : (a x : ℕ) → min (sum_of a 3) (sum_of x 3) ≡ sum_of (min a x) 3
-joined a x = omega arith
-
 -- the walk carries what is three before
 pub sooner_joined : (a : ℕ) (w : WatchedNode) → sooner_by (sum_of a 3) w ≡ sum_of (min a (three_before w)) 3
 sooner_joined a w = sooner_by_lem (sum_of a 3) w (omega arith) ∙ joined a (three_before w)
@@ -134,14 +118,6 @@ module _ (t : ℕ) (ns : List ℕ) (k : ℕ) (formed : well_formed (watched_of (
 -- what is read at a node's words is read of the node
 pub late_at : (t : ℕ) (ns : List ℕ) (i : ℕ) → i < 32 → (b : Bool) → b ≡ is_late t (node_at ns i) → b ≡ is_late t (get_or (nodes_of ns) i no_node)
 late_at t ns i h b e = e ∙ ap (is_late t) (sym (node_at_lem ns i h))
-
-both_right : (a b : Bool) → both a b ≡ true → b ≡ true
-both_right true b h = h
-both_right false b h = absurd (false≢true h)
-
-pub both_left : (a b : Bool) → both a b ≡ true → a ≡ true
-both_left true b h = refl
-both_left false b h = h
 
 -- a node that rests
 module _ (t : ℕ) (w : WatchedNode) where
@@ -160,13 +136,13 @@ module _ (t : ℕ) (w : WatchedNode) where
       by : (b : Bool) → eqb o 0 ≡ b → rests_by (ltb 0 l) b (leb l t) (leb (t - l) o) ≡ true → (is_late t w ≡ false) × (l ≡ 0 → ⊥)
       by true e r =
           let z : o ≡ 0 = eqb-true o 0 e in
-          let a : 0 < l = ltb-true 0 l (both_left (ltb 0 l) true r) in
+          let a : 0 < l = ltb-true 0 l (both_first (ltb 0 l) true r) in
           (rw (lt-ltb 0 l a, le-ltb 0 o (omega arith)), λ h. omega arith)
       by false e r =
           let z = eqb-false o 0 e in
-          let a : 0 < l = ltb-true 0 l (both_left (ltb 0 l) _ r) in
-          let u : both (leb l t) (leb (t - l) o) ≡ true = both_right (ltb 0 l) _ r in
-          let d : t - l ≤ o = leb-true (t - l) o (both_right (leb l t) _ u) in
+          let a : 0 < l = ltb-true 0 l (both_first (ltb 0 l) _ r) in
+          let u : both (leb l t) (leb (t - l) o) ≡ true = both_second (ltb 0 l) _ r in
+          let d : t - l ≤ o = leb-true (t - l) o (both_second (leb l t) _ u) in
           let p : 0 < o = omega arith in
           (rw (lt-ltb 0 l a, lt-ltb 0 o p, le-ltb o (t - l) d), λ h. omega arith)
 
@@ -175,12 +151,12 @@ module _ (t : ℕ) where
   pub rest_before : (vs : List WatchedNode) → all_of (rests t) vs ≡ true → all_of (not_before t) vs ≡ true
   rest_before [] h = refl
   rest_before (v ∷ vs) h =
-      ap₂ both (rests_heard t v (both_left (rests t v) _ h)) (rest_before vs (both_right (rests t v) _ h))
+      ap₂ both (rests_heard t v (both_first (rests t v) _ h)) (rest_before vs (both_second (rests t v) _ h))
 
   pub rest_late : (vs : List WatchedNode) → all_of (rests t) vs ≡ true → late_ones t vs ≡ []
   rest_late [] h = refl
   rest_late (v ∷ vs) h =
-      ap₂ (λ (b : Bool) (l : List WatchedNode). pick b (v ∷ l) l) (rested t v (both_left (rests t v) _ h)).0 (rest_late vs (both_right (rests t v) _ h))
+      ap₂ (λ (b : Bool) (l : List WatchedNode). pick b (v ∷ l) l) (rested t v (both_first (rests t v) _ h)).0 (rest_late vs (both_second (rests t v) _ h))
 
   rest_looked : (v : WatchedNode) → rests t v ≡ true → looked t v ≡ v
   rest_looked v h =
@@ -218,7 +194,7 @@ module _ (t : ℕ) where
   map_same : (vs : List WatchedNode) → all_of (rests t) vs ≡ true → map (looked t) vs ≡ vs
   map_same [] h = refl
   map_same (v ∷ vs) h =
-      ap₂ (λ (v : WatchedNode) (l : List WatchedNode). v ∷ l) (rest_looked v (both_left (rests t v) _ h)) (map_same vs (both_right (rests t v) _ h))
+      ap₂ (λ (v : WatchedNode) (l : List WatchedNode). v ∷ l) (rest_looked v (both_first (rests t v) _ h)) (map_same vs (both_second (rests t v) _ h))
 
   pub rest_run : (r : Run) → r.number ≤ length r.places → all_of (rests t) (watching r) ≡ true → changing (map (looked t)) r ≡ r
   rest_run r few h =
@@ -243,27 +219,20 @@ module _ (ws : List ℕ) (long : length ws ≡ 60) (n : ℕ) (r : ErrorTaken) (e
     there = e₁ ∙ ap (λ (n : ℕ). effect_words ws (effect (HeartbeatTimeout (node n)))) (sym x)
 
     counted : head_of ws₁ ≡ head_with_errors (head_of ws) R.counters
-    unfolding handled
-    counted = ap head_of there ∙ effect_written ws long (effect (timeout_of w)) (timeout_of w)
+    counted = handled_written ws (timeout_of w) long ws₁ there
 
-    ending : a ≡ ends_by ws (timeout_of w)
-    ending = z ∙ ap (λ (r : ErrorTaken). acts r.action) same
-
-    signals : (b : Bool) → r.signal ≡ b → R.signal ≡ b
-    signals b s = sym (ap (λ (r : ErrorTaken). r.signal) same) ∙ s
-
-    logs : (g : Head) → Finishes g r.logged a (dealt_of ws' f) → Finishes g R.logged a (dealt_of ws' f)
-    logs g k = subst (λ (es : DllErrors). Finishes g es a (dealt_of ws' f)) (ap (λ (r : ErrorTaken). r.logged) same) k
+    ended : a ≡ ends_by ws (timeout_of w)
+    ended = ending ws (timeout_of w) r same a z
 
     pub beat_quiet : r.signal ≡ false → FinishesIn ws₁ r.logged a f ws' → (q m : List ℕ) → TicksIn ws q m (beat (plain (head_of ws) q m) w) f ws' q m (beat_words ws w)
     unfolding head_of beat_words
     beat_quiet s k q m =
         record {
           ticks =
-              beat_unsignalled (head_of ws) w R refl a ending (dealt_of ws' f) (signals false s)
-              (subst (λ (g : Head). Finishes g R.logged a (dealt_of ws' f)) counted (logs (head_of ws₁) k.finishes)) q m;
+              beat_unsignalled (head_of ws) w R refl a ended (dealt_of ws' f) (signals ws (timeout_of w) r same false s)
+              (subst (λ (g : Head). Finishes g R.logged a (dealt_of ws' f)) counted (logs ws (timeout_of w) r same a (dealt_of ws' f) (head_of ws₁) k.finishes)) q m;
           words =
-              k.words ∙ ap₂ finished_words ending (there ∙ sym (ap (λ (b : Bool). pick b (signal_words E) E) (signals false s)));
+              k.words ∙ ap₂ finished_words ended (there ∙ sym (ap (λ (b : Bool). pick b (signal_words E) E) (signals ws (timeout_of w) r same false s)));
         }
 
     pub beat_loud :
@@ -273,11 +242,11 @@ module _ (ws : List ℕ) (long : length ws ≡ 60) (n : ℕ) (r : ErrorTaken) (e
     beat_loud s ws₂ u k q m =
         record {
           ticks =
-              beat_signalled (head_of ws) w R refl a ending (dealt_of ws' f) (signals true s) (head_of ws₂)
-              (subst (λ (g : Head). Becomes g signalled (head_of ws₂)) counted u.becomes) (logs (head_of ws₂) k.finishes) q m;
+              beat_signalled (head_of ws) w R refl a ended (dealt_of ws' f) (signals ws (timeout_of w) r same true s) (head_of ws₂)
+              (subst (λ (g : Head). Becomes g signalled (head_of ws₂)) counted u.becomes) (logs ws (timeout_of w) r same a (dealt_of ws' f) (head_of ws₂) k.finishes) q m;
           words =
               k.words
-              ∙ ap₂ finished_words ending (u.words ∙ ap signal_words there ∙ sym (ap (λ (b : Bool). pick b (signal_words E) E) (signals true s)));
+              ∙ ap₂ finished_words ended (u.words ∙ ap signal_words there ∙ sym (ap (λ (b : Bool). pick b (signal_words E) E) (signals ws (timeout_of w) r same true s)));
         }
 
 -- the walk: what it keeps, with the words

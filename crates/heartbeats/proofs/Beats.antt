@@ -1,6 +1,6 @@
 -- The heartbeats of the tick, over plain variables: the look at the watched nodes, and the walk over the late ones.
 -- Assumes nothing.
-use Rattle.std.proofs.Common.{◌≡◌, ℕ, ◌+◌, ◌-◌, ◌<◌, ◌≤◌, Bool, true, false, ltb, List, [], ◌∷◌, ◌++◌, length, get_or, take, drop, sym, refl, ap, ◌∙◌, ap₂, arith, le-ltb, lt-ltb}
+use Rattle.std.proofs.Common.{◌≡◌, ℕ, ◌+◌, ◌<◌, ◌≤◌, Bool, true, false, List, [], ◌∷◌, ◌++◌, length, get_or, take, drop, sym, refl, ap, ◌∙◌, ap₂}
 use Rattle.types.specs.Pick.{pick}
 use Rattle.types.specs.Errors.{reported}
 use Rattle.types.specs.declared.nmt.events.NmtEvent.TheVariants.{Error}
@@ -18,21 +18,6 @@ use Rattle.node.specs.Refines.{plain, SamePlaces, Becomes, Rings, rings, joins_a
 use Rattle.heartbeats.specs.Parts.{PartLeft, Finishes, Ticks}
 use Rattle.watched.proofs.Lists.{from_here, at_end, whole}
 use Rattle.heartbeats.proofs.PartLaws.{handled_quiet, Alike}
-
--- the tests of one node, by whether its times are above 0
-module _ (t : ℕ) (w : WatchedNode) where
-  above : (n : ℕ) → (n ≡ 0 → ⊥) → ltb 0 n ≡ true
-  above n h = lt-ltb 0 n (omega arith)
-
-  pub late_unheard : w.last_heard ≡ 0 → false ≡ is_late t w
-  late_unheard h = rw (le-ltb 0 w.last_heard (omega arith))
-
-  module _ (heard : w.last_heard ≡ 0 → ⊥) where
-    pub late_idle : w.timeout ≡ 0 → false ≡ is_late t w
-    late_idle h = rw (above w.last_heard heard, le-ltb 0 w.timeout (omega arith))
-
-    pub late_tested : (w.timeout ≡ 0 → ⊥) → (e : ℕ) → e ≡ t - w.last_heard → ltb w.timeout e ≡ is_late t w
-    late_tested h e d = rw (above w.last_heard heard, above w.timeout h, d)
 
 -- the error of one late node, from what its parts left
 module _ (h : Head) (w : WatchedNode) (r : HandledError) (e : r ≡ handled h.errors (timeout_of w)) (a : Bool) (n : a ≡ acts r.action) (f : PartLeft) where

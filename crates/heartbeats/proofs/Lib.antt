@@ -1,4 +1,5 @@
 pub mod PartLaws
 pub mod Turns
 pub mod Beats
+pub mod Handled
 pub mod Beatings

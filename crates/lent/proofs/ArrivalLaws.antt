@@ -1,27 +1,26 @@
 -- Add and remove over a lent run, over plain variables: what the two walks leave is what the form in words leaves, and what the calls answer.
 -- Assumes nothing.
 use Prim.Native.Nat.{ℕ, zero, suc, ◌+◌, ◌-◌, ◌<◌, ◌≤◌}
-use mathlib.Core.Path.{◌≡◌, refl, sym, ap, ap₂, subst, ◌∙◌}
-use mathlib.Core.Bool.{Bool, true, false, false≢true}
+use mathlib.Core.Path.{◌≡◌, refl, sym, ap, ap₂, ◌∙◌}
+use mathlib.Core.Bool.{Bool, true, false}
 use mathlib.Core.List.{List, [], ◌∷◌, ◌++◌}
 use native.Mathlib.Omega.{arith}
 use lib.Dec.{eqb, leb, ltb}
 use lib.ListN.{length, get_or, take, drop}
 use lib.Seq.{length-take-le}
-use borrow.Author.Tests.{ltb-true, ltb-false, lt-ltb, le-ltb, eqb-true}
-use Rattle.types.specs.Pick.{pick, both}
-use Rattle.types.specs.Types.{node, is_node, read_node}
-use Rattle.types.specs.declared.types.NodeId.{NodeId}
+use borrow.Author.Tests.{ltb-true, lt-ltb, le-ltb, eqb-true}
+use Rattle.types.specs.Pick.{pick, both, all_of}
+use Rattle.types.specs.Types.{node, is_node}
 use Rattle.types.proofs.Tests.{both_first, both_second}
 use Rattle.types.specs.declared.refusals.Refusal.{Refusal}
-use Rattle.types.specs.declared.refusals.Refusal.TheVariants.{NodeNumber, WatchedNodes}
+use Rattle.types.specs.declared.refusals.Refusal.TheVariants.{WatchedNodes}
 use Rattle.counters.specs.Counters.{new_counter}
 use Rattle.head.specs.Written.{earliest_written}
 use Rattle.watched.specs.declared.nodes.WatchedNode.{WatchedNode}
-use Rattle.watched.specs.Watched.{all_of, fits, well_formed, no_node, watched_node, is_watched, heard_at, place_of, watched_of, Run, run, watching, well_lent}
+use Rattle.watched.specs.Watched.{fits, well_formed, no_node, watched_node, is_watched, heard_at, place_of, watched_of, Run, run, watching, well_lent}
 use Rattle.watched.specs.Nodes.{rising, never, soonest, moment_of}
-use Rattle.watched.proofs.Lists.{rising_all, watched_nowhere}
-use Rattle.std.specs.Prelude.{is_some, is_ok}
+use Rattle.watched.proofs.Lists.{rising_all, watched_by}
+use Rattle.std.specs.Prelude.{is_some}
 use Rattle.std.specs.declared.option.Option.{Option}
 use Rattle.std.specs.declared.option.Option.TheVariants.{Some, None}
 use Rattle.std.specs.declared.result.Result.{Result}
@@ -32,8 +31,6 @@ use Rattle.partners.specs.Partners.{add_answer, remove_answer, AddedOn, RemovedO
 use Rattle.partners.specs.Walks.{carried, closed}
 use Rattle.partners.proofs.Held.{added_moment, removed_moment}
 use Rattle.partners.proofs.Left.{add_left, remove_left}
-use Rattle.node.specs.Plain.{add}
-use Rattle.node.proofs.OnRuns.{run_declined}
 use Rattle.partners.proofs.Adding as Adding
 use Rattle.partners.proofs.Removing as Removing
 use Rattle.lentlaws.specs.Scan.{scanned, carried_back, scanned_back}
@@ -44,7 +41,7 @@ use Rattle.lent.specs.declared.arrivals.Carrying.{Carrying}
 use Rattle.lent.specs.declared.arrivals.Closing.{Closing}
 use Rattle.lent.specs.Runs.{for_heard, surveyed}
 use Rattle.lent.specs.Arrivals.{carrying_of, carried_all, closing_of, moved_down, close_next, closed_all}
-use Rattle.lent.proofs.SeenLaws.{seen_lent, seen_well, seen_formed, seen_places, seen_below, seen_first, seen_watched, seen_moment, settled_heard}
+use Rattle.lent.proofs.SeenLaws.{Seen, seen, seen_lent, settled_heard}
 
 -- the walk that adds
 pub carry_on : (k : ℕ) (v : WatchedNode) (vs : List WatchedNode) → carried_all (carrying_of k v) vs ≡ carried k v vs
@@ -206,38 +203,22 @@ module _ (ws : List ℕ) (vs : List WatchedNode) (k n : ℕ) (f : Findings) (ask
   remove_unformed p = Removing.remove_unformed ws r n (sym lent ∙ ap (λ (o : Option Findings). is_some o) p) false (Err WatchedNodes) refl
 
   module _ (s : Findings) (p : o ≡ Some s) where
-    passed : true ≡ well_lent r
-    passed = sym (seen_well k n 0 y (new_counter 0) vs o z s p)
-
-    all : length vs ≡ 32
-    all = seen_places k n 0 y (new_counter 0) vs o z s p
-
-    below : k ≤ 32
-    below = seen_below k n 0 y (new_counter 0) vs o z s p
-
-    formed : well_formed (watched_of vs k) ≡ true
-    formed = seen_formed k n 0 y (new_counter 0) vs o z s p
+    saw : Seen k n 0 y (new_counter 0) vs s
+    saw = seen k n 0 y (new_counter 0) vs o z s p
 
     well : rising 0 (watched_of vs k) ≡ true
     unfolding well_formed
-    well = rising_all (watched_of vs k) ∙ both_second (leb (length (watched_of vs k)) 32) _ formed
-
-    among : s.watched ≡ is_watched n (watched_of vs k)
-    among = seen_watched k n 0 y (new_counter 0) vs o z s p
+    well = rising_all (watched_of vs k) ∙ both_second (leb (length (watched_of vs k)) 32) _ saw.formed
 
     moment : moment_of s.soonest ≡ moment_of (soonest never (heard_at n 0 (watched_of vs k)))
     moment =
-        let g : all_of fits (heard_at n 0 (watched_of vs k)) ≡ true = heard_fits n 0 (watched_of vs k) refl (all_fit (watched_of vs k) formed) in
-        seen_moment k n 0 y (new_counter 0) vs o z s p (heard_at n 0 (watched_of vs k)) (settled_heard n 0 (watched_of vs k) formed) g
+        let g : all_of fits (heard_at n 0 (watched_of vs k)) ≡ true = heard_fits n 0 (watched_of vs k) refl (all_fit (watched_of vs k) saw.formed) in
+        saw.moment (heard_at n 0 (watched_of vs k)) (settled_heard n 0 (watched_of vs k) saw.formed) g
         ∙ sym (moment_of_lem (heard_at n 0 (watched_of vs k)) g)
 
     -- its place, where it is watched
     there : is_watched n (watched_of vs k) ≡ true → place_of n (watched_of vs k) < k
-    there h = by (ltb (place_of n (watched_of vs k)) k) refl
-      where
-        by : (b : Bool) → ltb (place_of n (watched_of vs k)) k ≡ b → place_of n (watched_of vs k) < k
-        by true e = ltb-true (place_of n (watched_of vs k)) k e
-        by false e = absurd (false≢true (sym (watched_nowhere vs k all below n 0 (place_of n (watched_of vs k)) refl (ltb-false (place_of n (watched_of vs k)) k e)) ∙ h))
+    there h = ltb-true (place_of n (watched_of vs k)) k (watched_by vs k saw.long saw.below n (place_of n (watched_of vs k)) refl ∙ h)
 
     -- add
     module _ (t : ℕ) (v : Bool) (a : v ≡ is_node n) (c : Result (Unit {0}) Refusal) (e : c ≡ add_answer v true t s.watched k) where
@@ -245,34 +226,33 @@ module _ (ws : List ℕ) (vs : List WatchedNode) (k n : ℕ) (f : Findings) (ask
       add_room g = ltb-true k 32 (Adding.add_passed v true t s.watched k (sym g ∙ e)).4
 
       pub add_declined : (x : Refusal) → c ≡ Err x → AddedOn ws r n t (Err x) ws r
-      add_declined x g = Adding.add_declined ws r n t v a true s.watched passed among x (sym g ∙ e)
+      add_declined x g = Adding.add_declined ws r n t v a true s.watched (sym saw.well) saw.watched x (sym g ∙ e)
 
       pub add_taken :
           c ≡ (Ok tt) → length ws ≡ 60 → (vs' : List WatchedNode) → vs' ≡ carried_all (carrying_of k (watched_node n t 0)) vs →
           (m : Option ℕ) → m ≡ moment_of s.soonest → (ws' : List ℕ) → ws' ≡ earliest_written ws m → AddedOn ws r n t (Ok tt) ws' (run vs' (k + 1))
       add_taken g long vs' d m h ws' u =
-          let none : is_watched n (watched_of vs k) ≡ false = sym among ∙ (Adding.add_passed v true t s.watched k (sym g ∙ e)).3 in
-          let left = add_left vs k n all formed t (add_room g) vs' (d ∙ carry_on k (watched_node n t 0) vs) in
-          Adding.add_taken ws r n t v a true s.watched passed among (sym g ∙ e) long _ left m
-          (h ∙ moment ∙ added_moment r n (sym passed) t none ∙ ap (λ (r : Run). earliest (watching r)) (sym left)) ws' u
+          let none : is_watched n (watched_of vs k) ≡ false = sym saw.watched ∙ (Adding.add_passed v true t s.watched k (sym g ∙ e)).3 in
+          let left = add_left vs k n saw.long saw.formed t (add_room g) vs' (d ∙ carry_on k (watched_node n t 0) vs) in
+          Adding.add_taken ws r n t v a true s.watched (sym saw.well) saw.watched (sym g ∙ e) long _ left m
+          (h ∙ moment ∙ added_moment r n saw.well t none ∙ ap (λ (r : Run). earliest (watching r)) (sym left)) ws' u
 
     -- removal
     module _ (c : Result (Unit {0}) Refusal) (e : c ≡ remove_answer true s.watched) where
       pub remove_declined : (x : Refusal) → c ≡ Err x → RemovedOn ws r n (Err x) ws r
-      remove_declined x g = Removing.remove_declined ws r n true s.watched passed among x (sym g ∙ e)
+      remove_declined x g = Removing.remove_declined ws r n true s.watched (sym saw.well) saw.watched x (sym g ∙ e)
 
       pub remove_inside : c ≡ (Ok tt) → place_of n (watched_of vs k) < k
-      remove_inside g = there (sym among ∙ (Removing.remove_passed true s.watched (sym g ∙ e)).1)
+      remove_inside g = there (sym saw.watched ∙ (Removing.remove_passed true s.watched (sym g ∙ e)).1)
 
       pub remove_taken :
           c ≡ (Ok tt) → length ws ≡ 60 → (u : WatchedNode) (vs' : List WatchedNode) → vs' ≡ closed_all (closing_of 32 k n u) vs → (k' : ℕ) → k' ≡ k - 1 →
           (m : Option ℕ) → m ≡ moment_of s.soonest → (ws' : List ℕ) → ws' ≡ earliest_written ws m → RemovedOn ws r n (Ok tt) ws' (run vs' k')
       remove_taken g long u vs' d k' less m h ws' w =
-          let first : watched_of vs k ≡ take k vs = seen_first k n 0 y (new_counter 0) vs o z s p in
-          let rises : rising 0 (take k vs) ≡ true = ap (rising 0) (sym first) ∙ well in
+          let rises : rising 0 (take k vs) ≡ true = ap (rising 0) (sym saw.taken) ∙ well in
           let inside : place_of n (watched_of vs k) < k = remove_inside g in
-          let shut = close_on k n u 32 0 k 0 (place_of n (watched_of vs k)) vs (omega (arith, all)) (omega arith) (omega (arith, below, all)) rises (ap (place_of n) first) inside in
+          let shut = close_on k n u 32 0 k 0 (place_of n (watched_of vs k)) vs (omega (arith, saw.long)) (omega arith) (omega (arith, saw.below, saw.long)) rises (ap (place_of n) saw.taken) inside in
           let left : run vs' k' ≡ removed n r =
-          ap (run vs') less ∙ remove_left vs k n all formed (place_of n (watched_of vs k)) refl inside vs' (d ∙ shut) in
-          Removing.remove_taken ws r n true s.watched passed among (sym g ∙ e) long _ left m
-          (h ∙ moment ∙ removed_moment r n (sym passed) ∙ ap (λ (r : Run). earliest (watching r)) (sym left)) ws' w
+          ap (run vs') less ∙ remove_left vs k n saw.long saw.formed (place_of n (watched_of vs k)) refl inside vs' (d ∙ shut) in
+          Removing.remove_taken ws r n true s.watched (sym saw.well) saw.watched (sym g ∙ e) long _ left m
+          (h ∙ moment ∙ removed_moment r n saw.well ∙ ap (λ (r : Run). earliest (watching r)) (sym left)) ws' w

@@ -7,7 +7,7 @@ use mathlib.Core.Bool.{Bool, true, false, not}
 use mathlib.Core.List.{List, ◌++◌, map}
 use lib.ListN.{length, take, drop}
 use Rattle.std.proofs.lemmas.Bool.{not-true, not-false}
-use Rattle.types.specs.Pick.{pick}
+use Rattle.types.specs.Pick.{pick, all_of}
 use Rattle.types.specs.declared.refusals.Refusal.{Refusal}
 use Rattle.types.specs.declared.refusals.Refusal.TheVariants.{WatchedNodes, TimeLimit, BeforeHeard}
 use Rattle.counters.specs.Counters.{new_counter}
@@ -19,7 +19,7 @@ use Rattle.std.specs.declared.result.Result.TheVariants.{Ok, Err}
 use Rattle.head.specs.Words.{nmt_of, head_of}
 use Rattle.head.specs.Written.{earliest_written}
 use Rattle.watched.specs.declared.nodes.WatchedNode.{WatchedNode}
-use Rattle.watched.specs.Watched.{in_time, all_of, well_formed, is_watched, heard_at, watched_of, Run, run, watching, well_lent, changing, first}
+use Rattle.watched.specs.Watched.{in_time, heard_at, watched_of, Run, run, watching, well_lent, changing, first}
 use Rattle.watched.proofs.Lists.{each_nodes, heard_nodes}
 use Rattle.node.specs.Plain.{heard}
 use Rattle.node.specs.Steps.{earliest}
@@ -42,8 +42,8 @@ use Rattle.types.specs.declared.frame.error.types.DllErrors.{DllErrors}
 use Rattle.lent.specs.declared.run.Findings.{Findings}
 use Rattle.lent.specs.declared.run.Setting.{Setting}
 use Rattle.lent.specs.declared.run.Setting.TheVariants.{Nothing, Unheard, Heard, Looked}
-use Rattle.lent.specs.Runs.{asked_for, for_heard, for_tick, beats_at, beats_all, tick_sets, settled, settling_of, settled_all, found_all, surveyed}
-use Rattle.lent.proofs.SeenLaws.{seen_lent, seen_well, seen_formed, seen_places, seen_below, seen_first, seen_found, seen_watched, seen_after, seen_moment, soonest_all, set_first, settled_none, settled_heard}
+use Rattle.lent.specs.Runs.{asked_for, for_heard, for_tick, beats_at, beats_all, tick_sets, settled, settling_of, settled_all, surveyed}
+use Rattle.lent.proofs.SeenLaws.{Seen, seen, seen_lent, soonest_all, set_first, settled_none, settled_heard}
 
 -- a run as it is left
 left_as : {k : ℕ} (l l' : List WatchedNode) → l ≡ l' → run l k ≡ run l' k
@@ -66,33 +66,29 @@ module _ (ws : List ℕ) (vs : List WatchedNode) (k n t : ℕ) (f : Findings) (a
       run_declined ws (heard n t r) r WatchedNodes (λ p. rw f)
 
   module _ (s : Findings) (p : o ≡ Some s) (a : Result (Unit {0}) Refusal) (e : a ≡ heard_answer true t s.watched) where
-    passed : true ≡ well_lent r
-    passed = sym (seen_well k n 0 y (new_counter 0) vs o z s p)
-
-    among : s.watched ≡ is_watched n (watched_of vs k)
-    among = seen_watched k n 0 y (new_counter 0) vs o z s p
+    saw : Seen k n 0 y (new_counter 0) vs s
+    saw = seen k n 0 y (new_counter 0) vs o z s p
 
     pub heard_refused : (x : Refusal) → a ≡ Err x → HeardOn ws r n t (Err x) ws r
-    heard_refused x g = heard_declined ws r n t true s.watched passed among x (sym g ∙ e)
+    heard_refused x g = heard_declined ws r n t true s.watched (sym saw.well) saw.watched x (sym g ∙ e)
 
     pub heard_done :
         a ≡ (Ok tt) → length ws ≡ 60 → (vs' : List WatchedNode) → vs' ≡ settled_all (settling_of k y) vs → (m : Option ℕ) → m ≡ moment_of s.soonest →
         (ws' : List ℕ) → ws' ≡ earliest_written ws m → HeardOn ws r n t (Ok tt) ws' (run vs' k)
     heard_done g long vs' d m h ws' w =
-        let formed = seen_formed k n 0 y (new_counter 0) vs o z s p in
-        let i : in_time t ≡ true = (taken_passed ws r n t true s.watched passed among (sym g ∙ e)).1 in
-        let set : map (settled y) (watched_of vs k) ≡ heard_at n t (watched_of vs k) = settled_heard n t (watched_of vs k) formed in
-        let same : take k vs ≡ watched_of vs k = sym (seen_first k n 0 y (new_counter 0) vs o z s p) in
+        let i : in_time t ≡ true = (taken_passed ws r n t true s.watched (sym saw.well) saw.watched (sym g ∙ e)).1 in
+        let set : map (settled y) (watched_of vs k) ≡ heard_at n t (watched_of vs k) = settled_heard n t (watched_of vs k) saw.formed in
+        let same : take k vs ≡ watched_of vs k = sym saw.taken in
         let left : vs' ≡ first (heard_at n t) k vs =
         d ∙ set_first k y (settling_of k y) vs refl refl
         ∙ ap (λ (l : List WatchedNode). l ++ drop k vs) (ap (map (settled y)) same ∙ set ∙ ap (heard_at n t) (sym same)) in
         let watched : watched_of vs' k ≡ heard_at n t (watched_of vs k) =
         ap (λ (l : List WatchedNode). watched_of l k) left
-        ∙ heard_nodes vs k (seen_places k n 0 y (new_counter 0) vs o z s p) (seen_below k n 0 y (new_counter 0) vs o z s p) n t in
+        ∙ heard_nodes vs k saw.long saw.below n t in
         let moment : m ≡ earliest (watched_of vs' k) =
-        h ∙ seen_moment k n 0 y (new_counter 0) vs o z s p (heard_at n t (watched_of vs k)) set (heard_fits n t (watched_of vs k) i (all_fit (watched_of vs k) formed))
+        h ∙ saw.moment (heard_at n t (watched_of vs k)) set (heard_fits n t (watched_of vs k) i (all_fit (watched_of vs k) saw.formed))
         ∙ ap earliest (sym watched) in
-        heard_taken ws r n t true s.watched passed among (sym g ∙ e) long _ (left_as _ _ left) m moment ws' w
+        heard_taken ws r n t true s.watched (sym saw.well) saw.watched (sym g ∙ e) long _ (left_as _ _ left) m moment ws' w
 
 -- start, by whether number 3 does not stand
 module _ (ws : List ℕ) (vs : List WatchedNode) (k : ℕ) (s : Setup) (g : Findings) (asks : g ≡ asked_for Unheard) (o : Option Findings) (sees : o ≡ surveyed k g vs)
@@ -131,34 +127,28 @@ module _ (ws q m : List ℕ) (vs : List WatchedNode) (k t : ℕ) (g : Findings) 
   tick_unformed p = run_unformed ws q m R t (sym (seen_lent k 0 t Y (beats_at ws) vs o e) ∙ ap (λ (o : Option Findings). is_some o) p)
 
   module _ (s : Findings) (p : o ≡ Some s) where
-    well : well_lent R ≡ true
-    well = seen_well k 0 t Y (beats_at ws) vs o e s p
-
-    formed : well_formed (watched_of vs k) ≡ true
-    formed = seen_formed k 0 t Y (beats_at ws) vs o e s p
+    known : Seen k 0 t Y (beats_at ws) vs s
+    known = seen k 0 t Y (beats_at ws) vs o e s p
 
     -- the soonest moment of the nodes as they are set, by whether heartbeats are checked
-    found : s ≡ found_all (for_tick ws t) (watched_of vs k)
-    found = seen_found k 0 t Y (beats_at ws) vs o e s p
-
     pub tick_unasked :
         C ≡ false → (x : Option ℕ) → x ≡ moment_of s.soonest → (a : Result DllErrors Refusal) (ws' q' m' : List ℕ) → StillTicks ws q m t x a ws' q' m' → TickedOn ws q m R t a ws' q' m' R
     tick_unasked c x g a ws' q' m' h =
-        h R well (ap (λ (c : Bool). is_still c t (watched_of vs k)) c)
+        h R known.well (ap (λ (c : Bool). is_still c t (watched_of vs k)) c)
         (g
         ∙ ap moment_of
-        (ap (λ (f : Findings). f.soonest) found ∙ soonest_all (for_tick ws t) (watched_of vs k)
+        (ap (λ (f : Findings). f.soonest) known.found ∙ soonest_all (for_tick ws t) (watched_of vs k)
         ∙ ap (λ (c : Bool). soonest never (map (settled (pick c (Looked t) Nothing)) (watched_of vs k))) c ∙ ap (soonest never) (settled_none (watched_of vs k))))
 
     pub tick_late : in_time t ≡ false → TickedOn ws q m R t (Err TimeLimit) ws q m R
-    tick_late b = run_late ws q m R t well b
+    tick_late b = run_late ws q m R t known.well b
 
     module _ (c : C ≡ true) (b : in_time t ≡ true) where
       after_is : pick C (all_of (not_before t) (watched_of vs k)) true ≡ s.after
-      after_is = ap (λ (c : Bool). pick c (all_of (not_before t) (watched_of vs k)) true) c ∙ sym (seen_after k 0 t Y (beats_at ws) vs o e s p)
+      after_is = ap (λ (c : Bool). pick c (all_of (not_before t) (watched_of vs k)) true) c ∙ sym known.after
 
       pub tick_before : not s.after ≡ true → TickedOn ws q m R t (Err BeforeHeard) ws q m R
-      tick_before z = run_before ws q m R t well b (after_is ∙ not-true s.after z)
+      tick_before z = run_before ws q m R t known.well b (after_is ∙ not-true s.after z)
 
       module _ (vs' : List WatchedNode) (d : vs' ≡ settled_all (settling_of k (Looked t)) vs) where
         left : run vs' k ≡ pick C (changing (map (looked t)) R) R
@@ -169,12 +159,12 @@ module _ (ws q m : List ℕ) (vs : List WatchedNode) (k t : ℕ) (g : Findings) 
         watched : watching (run vs' k) ≡ map (looked t) (watched_of vs k)
         watched =
             ap watching (left ∙ ap (λ (c : Bool). pick c (changing (map (looked t)) R) R) c)
-            ∙ each_nodes vs k (seen_places k 0 t Y (beats_at ws) vs o e s p) (seen_below k 0 t Y (beats_at ws) vs o e s p) (looked t)
+            ∙ each_nodes vs k known.long known.below (looked t)
 
         moment : moment_of s.soonest ≡ earliest (watching (run vs' k))
         moment =
-            seen_moment k 0 t Y (beats_at ws) vs o e s p (map (looked t) (watched_of vs k))
-            (ap (λ (c : Bool). map (settled (pick c (Looked t) Nothing)) (watched_of vs k)) c) (all_looked_fit t (watched_of vs k) b (all_fit (watched_of vs k) formed))
+            known.moment (map (looked t) (watched_of vs k))
+            (ap (λ (c : Bool). map (settled (pick c (Looked t) Nothing)) (watched_of vs k)) c) (all_looked_fit t (watched_of vs k) b (all_fit (watched_of vs k) known.formed))
             ∙ ap earliest (sym watched)
 
         pub tick_accepted :
@@ -183,7 +173,7 @@ module _ (ws q m : List ℕ) (vs : List WatchedNode) (k t : ℕ) (g : Findings) 
             length ws₁ ≡ 60 → (x : Option ℕ) → x ≡ moment_of s.soonest → (ws' : List ℕ) → ws' ≡ earliest_written ws₁ x →
             TickedOn ws q m R t (Ok d.logged) ws' q' m' (run vs' k)
         tick_accepted z u i d ws₁ q' m' w long x y ws' v =
-            run_accepted ws q m R t well b (after_is ∙ not-false s.after z) d ws₁ q' m'
+            run_accepted ws q m R t known.well b (after_is ∙ not-false s.after z) d ws₁ q' m'
             (subst (λ (u : ℕ). s.beats ≡ beats_all ws u (watched_of vs k) → TicksIn ws q m (tick_taken (plain (head_of ws) q m) u (watched_of vs k)) d ws₁ q' m' (tick_words ws q m u (watched_of vs k)))
-            i (w (watched_of vs k)) (ap (λ (f : Findings). f.beats) found))
+            i (w (watched_of vs k)) (ap (λ (f : Findings). f.beats) known.found))
             long _ left x (y ∙ moment) ws' v

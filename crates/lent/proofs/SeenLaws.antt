@@ -2,18 +2,19 @@
 -- Assumes nothing.
 use Prim.Native.Nat.{ℕ, zero, suc, ◌-◌, ◌≤◌, ◌<◌}
 use mathlib.Core.Path.{◌≡◌, refl, sym, ap, ap₂, ◌∙◌}
-use mathlib.Core.Bool.{Bool, true, false, true≢false}
+use mathlib.Core.Bool.{Bool, true, false}
 use mathlib.Core.List.{List, [], ◌∷◌, map}
 use native.Mathlib.Omega.{arith}
 use lib.Dec.{eqb, leb, ltb}
 use Rattle.std.specs.Prelude.{is_some}
 use lib.ListN.{length, get_or, take}
 use borrow.Author.Tests.{ltb-true, lt-ltb, le-ltb, leb-true, ne_eqb, eqb-true}
-use Rattle.types.specs.Pick.{pick, both, either}
+use Rattle.types.specs.Pick.{pick, both, either, all_of}
+use Rattle.types.proofs.Tests.{both_first, both_second, both_true}
 use Rattle.counters.specs.declared.counters.ThresholdCounter.{ThresholdCounter}
 use Rattle.watched.specs.declared.nodes.WatchedNode.{WatchedNode}
 use Rattle.entries.proofs.Rings.{listed_long}
-use Rattle.watched.specs.Watched.{all_of, ascending, fits, well_formed, no_node, heard_now, is_watched, heard_at, watched_of, run, well_lent, first}
+use Rattle.watched.specs.Watched.{ascending, fits, well_formed, no_node, heard_now, is_watched, heard_at, watched_of, run, well_lent, first}
 use Rattle.node.specs.Steps.{earliest}
 use Rattle.node.proofs.Moments.{moment_of_lem}
 use Rattle.watched.specs.Nodes.{not_before, rising, never, soonest, moment_of}
@@ -27,10 +28,6 @@ use Rattle.std.specs.declared.option.Option.{Option}
 use Rattle.std.specs.declared.option.Option.TheVariants.{Some, None}
 use Rattle.lent.specs.Runs.{tried_by, found_by, found_all, formed_of, surveyed, sought_from, settled, Settling, set_next, settled_all}
 
-both_true : (b : Bool) → both b true ≡ b
-both_true true = refl
-both_true false = refl
-
 both_again : (a b c : Bool) → both (both a b) c ≡ both a (both b c)
 both_again true b c = refl
 both_again false b c = refl
@@ -42,14 +39,6 @@ either_false false = refl
 either_again : (a b c : Bool) → either (either a b) c ≡ either a (either b c)
 either_again true b c = refl
 either_again false b c = refl
-
-both_fst : (a b : Bool) → both a b ≡ true → a ≡ true
-both_fst true b e = refl
-both_fst false b e = e
-
-both_snd : (a b : Bool) → both a b ≡ true → b ≡ true
-both_snd true b e = e
-both_snd false b e = absurd (true≢false (sym e))
 
 -- the nodes ahead rise from the last one
 abbrev rises_from : Option ℕ → List WatchedNode → Bool
@@ -109,6 +98,18 @@ formed_same b f g e = by b (is_some f.tried) e
     by true false e = ap (some_or f) e
     by false c e = ap (some_or f) e
 
+-- what was seen of a run that passes number 3; `moment` is the soonest moment of the nodes as they are set
+pub record Seen (k n t : ℕ) (y : Setting) (c : ThresholdCounter) (vs : List WatchedNode) (s : Findings) : Type 0 where
+  pub well : well_lent (run vs k) ≡ true
+  pub formed : well_formed (watched_of vs k) ≡ true
+  pub long : length vs ≡ 32
+  pub below : k ≤ 32
+  pub taken : watched_of vs k ≡ take k vs
+  pub found : s ≡ found_all (sought_from n t y c) (watched_of vs k)
+  pub watched : s.watched ≡ is_watched n (watched_of vs k)
+  pub after : s.after ≡ all_of (not_before t) (watched_of vs k)
+  pub moment : (l : List WatchedNode) → map (settled y) (watched_of vs k) ≡ l → all_of fits l ≡ true → moment_of s.soonest ≡ earliest l
+
 -- from what was seen to what the run is
 module _ (k n t : ℕ) (y : Setting) (c : ThresholdCounter) (vs : List WatchedNode) (o : Option Findings) (e : o ≡ surveyed k (sought_from n t y c) vs) where
   abbrev places : Bool
@@ -122,8 +123,8 @@ module _ (k n t : ℕ) (y : Setting) (c : ThresholdCounter) (vs : List WatchedNo
       ap (λ (o : Option Findings). is_some o) e ∙ is_formed (both places (leb k 32)) (found_all sought (take k vs))
       ∙ ap (both (both places (leb k 32))) (formed_all sought (take k vs))
 
-  long : length (watched_of vs k) ≡ k
-  long = listed_long (λ (i : ℕ). get_or vs i no_node) k
+  many : length (watched_of vs k) ≡ k
+  many = listed_long (λ (i : ℕ). get_or vs i no_node) k
 
   pub seen_lent : is_some o ≡ well_lent (run vs k)
   unfolding well_formed
@@ -139,40 +140,45 @@ module _ (k n t : ℕ) (y : Setting) (c : ThresholdCounter) (vs : List WatchedNo
       by false h = refl
       by true h =
           within (eqb-true (length vs) 32 h) (leb k 32) refl
-          ∙ ap (λ (n : ℕ). both (leb n 32) (both (ascending (watched_of vs k)) (all_of fits (watched_of vs k)))) (sym long)
+          ∙ ap (λ (n : ℕ). both (leb n 32) (both (ascending (watched_of vs k)) (all_of fits (watched_of vs k)))) (sym many)
 
+  -- of a run that passes number 3
   module _ (s : Findings) (p : o ≡ Some s) where
-    pub seen_well : well_lent (run vs k) ≡ true
-    seen_well = sym seen_lent ∙ ap (λ (o : Option Findings). is_some o) p
+    well : well_lent (run vs k) ≡ true
+    well = sym seen_lent ∙ ap (λ (o : Option Findings). is_some o) p
 
-    pub seen_formed : well_formed (watched_of vs k) ≡ true
-    seen_formed = both_snd places (well_formed (watched_of vs k)) seen_well
+    formed : well_formed (watched_of vs k) ≡ true
+    formed = both_second places (well_formed (watched_of vs k)) well
 
-    pub seen_places : length vs ≡ 32
-    seen_places = eqb-true (length vs) 32 (both_fst places (well_formed (watched_of vs k)) seen_well)
+    long : length vs ≡ 32
+    long = eqb-true (length vs) 32 (both_first places (well_formed (watched_of vs k)) well)
 
-    pub seen_below : k ≤ 32
-    seen_below = few vs k true (sym seen_formed) refl
+    below : k ≤ 32
+    below = few vs k true (sym formed) refl
 
-    pub seen_first : watched_of vs k ≡ take k vs
-    seen_first = watched_take vs k (omega (arith, seen_places, seen_below))
+    taken : watched_of vs k ≡ take k vs
+    taken = watched_take vs k (omega (arith, long, below))
 
-    pub seen_found : s ≡ found_all sought (watched_of vs k)
-    seen_found = sym (formed_same (both places (leb k 32)) (found_all sought (take k vs)) s (sym e ∙ p)) ∙ ap (found_all sought) (sym seen_first)
+    found : s ≡ found_all sought (watched_of vs k)
+    found = sym (formed_same (both places (leb k 32)) (found_all sought (take k vs)) s (sym e ∙ p)) ∙ ap (found_all sought) (sym taken)
 
-    pub seen_watched : s.watched ≡ is_watched n (watched_of vs k)
-    seen_watched = ap (λ (f : Findings). f.watched) seen_found ∙ watched_all sought (watched_of vs k)
-
-    pub seen_after : s.after ≡ all_of (not_before t) (watched_of vs k)
-    seen_after = ap (λ (f : Findings). f.after) seen_found ∙ after_all sought (watched_of vs k)
-
-    -- the soonest moment of the nodes as they are set
-    pub seen_moment :
-        (l : List WatchedNode) → map (settled y) (watched_of vs k) ≡ l → all_of fits l ≡ true → moment_of s.soonest ≡ earliest l
-    seen_moment l g f =
-        ap (λ (f : Findings). moment_of f.soonest) seen_found
-        ∙ ap moment_of (soonest_all sought (watched_of vs k) ∙ ap (soonest never) g)
-        ∙ moment_of_lem l f
+    pub seen : Seen k n t y c vs s
+    seen =
+        record {
+          well = well;
+          formed = formed;
+          long = long;
+          below = below;
+          taken = taken;
+          found = found;
+          watched = ap (λ (f : Findings). f.watched) found ∙ watched_all sought (watched_of vs k);
+          after = ap (λ (f : Findings). f.after) found ∙ after_all sought (watched_of vs k);
+          moment =
+              λ l g h.
+              ap (λ (f : Findings). moment_of f.soonest) found
+              ∙ ap moment_of (soonest_all sought (watched_of vs k) ∙ ap (soonest never) g)
+              ∙ moment_of_lem l h;
+        }
 
 -- the places as a walk sets them: the first so many
 set_idle : (a : Settling) (ws : List WatchedNode) → a.left ≡ 0 → settled_all a ws ≡ ws
@@ -202,16 +208,16 @@ module _ (n t : ℕ) where
   others : (l : ℕ) (ws : List WatchedNode) → n ≤ l → rising l ws ≡ true → map (settled (Heard n t)) ws ≡ ws
   others l [] h r = refl
   others l (w ∷ ws) h r =
-      let a : l < w.node = ltb-true l w.node (both_fst (ltb l w.node) (fits w) (both_fst (both (ltb l w.node) (fits w)) (rising w.node ws) r)) in
+      let a : l < w.node = ltb-true l w.node (both_first (ltb l w.node) (fits w) (both_first (both (ltb l w.node) (fits w)) (rising w.node ws) r)) in
       ap₂ (λ (b : Bool) (vs : List WatchedNode). pick b (heard_now t w) w ∷ vs) (ne_eqb w.node n (λ e. omega arith))
-      (others w.node ws (omega arith) (both_snd (both (ltb l w.node) (fits w)) (rising w.node ws) r))
+      (others w.node ws (omega arith) (both_second (both (ltb l w.node) (fits w)) (rising w.node ws) r))
 
   heard_rising : (l : ℕ) (ws : List WatchedNode) → rising l ws ≡ true → map (settled (Heard n t)) ws ≡ heard_at n t ws
   heard_rising l [] r = refl
   heard_rising l (w ∷ ws) r = by (eqb w.node n) refl (heard_rising w.node ws on)
     where
       on : rising w.node ws ≡ true
-      on = both_snd (both (ltb l w.node) (fits w)) (rising w.node ws) r
+      on = both_second (both (ltb l w.node) (fits w)) (rising w.node ws) r
 
       by : (b : Bool) → eqb w.node n ≡ b → map (settled (Heard n t)) ws ≡ heard_at n t ws → pick b (heard_now t w) w ∷ map (settled (Heard n t)) ws ≡ pick b (heard_now t w ∷ ws) (w ∷ heard_at n t ws)
       by true e more = let k : w.node ≡ n = eqb-true w.node n e in ap (λ (l : List WatchedNode). heard_now t w ∷ l) (others w.node ws (omega arith) on)
@@ -219,4 +225,4 @@ module _ (n t : ℕ) where
 
   pub settled_heard : (ws : List WatchedNode) → well_formed ws ≡ true → map (settled (Heard n t)) ws ≡ heard_at n t ws
   unfolding well_formed
-  settled_heard ws f = heard_rising 0 ws (rising_all ws ∙ both_snd (leb (length ws) 32) _ f)
+  settled_heard ws f = heard_rising 0 ws (rising_all ws ∙ both_second (leb (length ws) 32) _ f)

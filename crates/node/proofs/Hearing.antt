@@ -5,7 +5,7 @@ use mathlib.Core.Path.{◌≡◌, refl, sym, ap, subst, ◌∙◌}
 use mathlib.Core.Bool.{Bool, true, false}
 use native.Mathlib.Omega.{arith}
 use lib.Dec.{ltb}
-use borrow.Author.Tests.{ltb-true, ltb-false}
+use borrow.Author.Tests.{ltb-true}
 use Rattle.types.specs.Pick.{pick}
 use Rattle.types.specs.Refusals.{refusal_number}
 use mathlib.Core.List.{List}
@@ -23,7 +23,7 @@ use Rattle.watched.specs.Watched.{in_time, well_formed, no_node, is_watched, hea
 use Rattle.node.specs.Plain.{Plain, heard}
 use Rattle.node.specs.Steps.{declines, leaves, earliest}
 use Rattle.node.specs.Run.{step}
-use Rattle.watched.proofs.Lists.{watched_there, watched_nowhere, heard_stored, heard_nodes, few}
+use Rattle.watched.proofs.Lists.{watched_by, heard_stored, heard_nodes, few}
 use Rattle.watched.specs.Nodes.{never, nodes_of, soonest, moment_of}
 use Rattle.watched.proofs.Watching.{places, lent_words, heard_written}
 use Rattle.node.specs.Heard.{heard_answer, HeardOn, Heard}
@@ -102,11 +102,7 @@ module _ (ws ns : List ℕ) (k n t : ℕ) where
     lent = sym (lent_words ns k ∙ a)
 
     among : w ≡ is_watched n vs
-    among = z ∙ by (ltb p k) refl
-      where
-        by : (b : Bool) → ltb p k ≡ b → b ≡ is_watched n vs
-        by true c = sym (watched_there (nodes_of ns) k (places ns) below n t p e (ltb-true p k c))
-        by false c = sym (watched_nowhere (nodes_of ns) k (places ns) below n t p e (ltb-false p k c))
+    among = z ∙ watched_by (nodes_of ns) k (places ns) below n p e
 
     pub inside : r ≡ (Ok tt) → p < k
     inside g = ltb-true p k (sym z ∙ (taken_passed ws lent_run n t true w lent among (sym g ∙ x)).2)

@@ -11,12 +11,10 @@ use Rattle.types.specs.States.{same_state}
 use Rattle.types.specs.Events.{read_event}
 use Rattle.types.specs.CsEvents.{read_cs_event}
 use Rattle.types.specs.Errors.{read_error, reported}
-use Rattle.types.specs.Refusals.{refusal_number}
-use Rattle.types.specs.declared.refusals.Refusal.{Refusal}
 use Rattle.types.specs.declared.nmt.states.NmtState.{NmtState}
 use Rattle.types.specs.declared.nmt.states.NmtState.TheVariants.{NmtReadyToOperate}
 use Rattle.types.specs.declared.nmt.events.NmtEvent.{NmtEvent}
-use Rattle.std.specs.declared.result.Result.TheVariants.{Ok, Err}
+use Rattle.std.specs.declared.result.Result.TheVariants.{Ok}
 use Rattle.std.specs.declared.option.Option.{Option}
 use Rattle.std.specs.declared.option.Option.TheVariants.{Some, None}
 use Rattle.types.specs.declared.frame.cs_state_machine.DllCsEvent.{DllCsEvent}
@@ -92,12 +90,6 @@ nmt_taken_lem h n e es t r x y = (
   let s = forgets_places (is_reset e) (head_with_nmt h (Nmt.processed h.nmt e).machine) in record { queue = s.queue; history = s.history },
 )
 
-pub nmt_refused : (h : Head) (n : ℕ) (x : Refusal) → read_event n ≡ Err x → Alone h (nmt_event n) (left h (refused (refusal_number x)))
-nmt_refused h n x r = (
-  λ q m. refined h q m (nmt_event n) _ q m no_run (declines (plain h q m) no_run (refusal_number x)) (ap (nmt_step (plain h q m)) r) refl refl refl,
-  same_places h,
-)
-
 pub dll_taken_lem :
     (h : Head) (n : ℕ) (expected : Bool) (e : DllCsEvent) (a : DllAnswer) →
     read_cs_event n ≡ Ok e →
@@ -108,15 +100,6 @@ dll_taken_lem h n expected e a r o = (
       let p : Plain = plain h q m in
       refined h q m (dll_event n expected) _ q m no_run (dll_taken p (Dll.cs_outcome a)) (ap (dll_step p expected) r ∙ ap (dll_taken p) (sym o)) refl refl refl,
   record { queue = refl; history = refl },
-)
-
-pub dll_refused :
-    (h : Head) (n : ℕ) (expected : Bool) (x : Refusal) →
-    read_cs_event n ≡ Err x →
-    Alone h (dll_event n expected) (left h (refused (refusal_number x)))
-dll_refused h n expected x r = (
-  λ q m. refined h q m (dll_event n expected) _ q m no_run (declines (plain h q m) no_run (refusal_number x)) (ap (dll_step (plain h q m) expected) r) refl refl refl,
-  same_places h,
 )
 
 pub error_taken_lem :
@@ -131,15 +114,6 @@ error_taken_lem h kind a b e r t s = (
       refined h q m (error kind a b) _ q m no_run (error_taken p r (error_marks h.errors e))
       (ap (error_step p) t ∙ ap (λ (r : HandledError). error_taken p r (error_marks h.errors e)) (sym s)) refl refl refl,
   record { queue = refl; history = refl },
-)
-
-pub error_refused :
-    (h : Head) (kind a b : ℕ) (x : Refusal) →
-    read_error kind a b ≡ Err x →
-    Alone h (error kind a b) (left h (refused (refusal_number x)))
-error_refused h kind a b x t = (
-  λ q m. refined h q m (error kind a b) _ q m no_run (declines (plain h q m) no_run (refusal_number x)) (ap (error_step (plain h q m)) t) refl refl refl,
-  same_places h,
 )
 
 pub cycle_taken_lem :
@@ -178,16 +152,7 @@ withdraw_taken h e = (
   record { queue = refl; history = refl },
 )
 
--- arm: number 5, or the watch armed
-pub arm_refused : (h : Head) (t : ℕ) → in_time t ≡ false → Alone h (arm t) (left h (refused 5))
-arm_refused h t e = (
-  λ q m.
-      let p : Plain = plain h q m in
-      refined h q m (arm t) _ q m no_run (declines p no_run 5)
-      (ap (λ (b : Bool). pick b (answers (with_soc p (armed p.soc p.od t)) taken no_run) (declines p no_run 5)) e) refl refl refl,
-  same_places h,
-)
-
+-- arm: the watch armed
 pub arm_taken :
     (h : Head) (t : ℕ) (s : SocWatch) →
     in_time t ≡ true →

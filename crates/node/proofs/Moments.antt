@@ -8,13 +8,13 @@ use native.Mathlib.Omega.{arith}
 use lib.Dec.{eqb, leb, ltb}
 use lib.ListN.{length}
 use borrow.Author.Tests.{eqb-true, ne_eqb}
-use Rattle.types.specs.Pick.{pick, both}
+use Rattle.types.specs.Pick.{pick, both, all_of}
 use Rattle.types.specs.Types.{is_node}
 use Rattle.types.proofs.Tests.{both_first, both_second}
 use Rattle.std.specs.declared.option.Option.{Option}
 use Rattle.std.specs.declared.option.Option.TheVariants.{Some, None}
 use Rattle.watched.specs.declared.nodes.WatchedNode.{WatchedNode}
-use Rattle.watched.specs.Watched.{latest, in_time, all_of, ascending, fits, well_formed, heard_now, heard_at}
+use Rattle.watched.specs.Watched.{latest, in_time, ascending, fits, well_formed, heard_now, heard_at}
 use Rattle.watched.specs.Nodes.{never, sooner_by, soonest, moment_of}
 use Rattle.watched.proofs.Watching.{times_fit}
 use Rattle.node.specs.Steps.{late_from, smaller, earliest}

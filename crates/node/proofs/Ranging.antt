@@ -1,13 +1,13 @@
 -- The readings of a clock: a reading after a loss is a loss, so that the two ends say it of all between them; and what the calls answer of them.
 -- Assumes nothing.
-use Prim.Native.Nat.{ℕ, zero, suc, ◌+◌, ◌-◌, ◌≤◌, ◌<◌, min}
+use Prim.Native.Nat.{ℕ, zero, suc, ◌+◌, ◌-◌, ◌≤◌, min}
 use mathlib.Core.Path.{◌≡◌, refl, sym, ap, subst, ◌∙◌}
 use mathlib.Core.Bool.{Bool, true, false, not, true≢false}
 use mathlib.Core.List.{List, []}
 use native.Mathlib.Omega.{arith}
-use lib.Dec.{leb, ltb}
+use lib.Dec.{ltb}
 use lib.IntN.{ℤ, pos, ◌-ℤ◌}
-use borrow.Author.Tests.{lt-ltb, le-leb, lt-leb, ltb-true, ltb-false}
+use borrow.Author.Tests.{lt-ltb, le-leb, ltb-true, ltb-false}
 use Rattle.types.specs.Pick.{pick, both}
 use Rattle.types.proofs.Tests.{both_first, both_second}
 use Rattle.head.specs.Words.{soc_of, od_of, head_of}
@@ -16,7 +16,7 @@ use Rattle.head.specs.declared.state.Dictionary.{Dictionary}
 use Rattle.watched.specs.Watched.{in_time}
 use Rattle.node.specs.declared.range.SocVerdict.{SocVerdict}
 use Rattle.node.specs.declared.range.SocVerdict.TheVariants as verdict
-use Rattle.node.specs.Plain.{Plain, Step, Call, range, margin, Answer, refused, range_answer, margin_answer}
+use Rattle.node.specs.Plain.{Plain, Step, Call, range, margin, Answer, range_answer, margin_answer}
 use Rattle.node.specs.Steps.{no_run, answers, declines, limit_of}
 use Rattle.node.specs.Tick.{last_soc, elapsed, is_loss}
 use Rattle.node.specs.Range.{each_reading, every_reading, verdict_of, margin_of, AllLost, NoneLost}
@@ -139,31 +139,11 @@ range_by p x y z v = pick x (pick y (pick z (answers p (range_answer v) no_run) 
 abbrev margin_by : Plain → Bool → ℤ → Step
 margin_by p x z = pick x (answers p (margin_answer z) no_run) (declines p no_run 5)
 
-module _ (ws : List ℕ) (a b : ℕ) where
-  pub range_first_late : in_time a ≡ false → Reading ws (range a b) (refused 5)
-  range_first_late e =
-      reading ws (range a b) (refused 5)
-      (λ q m. let p = plain (head_of ws) q m in ap (λ (x : Bool). range_by p x (in_time b) (leb a b) (verdict_of p a b)) e)
-
-  module _ (e : in_time a ≡ true) where
-    pub range_second_late : in_time b ≡ false → Reading ws (range a b) (refused 5)
-    range_second_late f =
-        reading ws (range a b) (refused 5)
-        (λ q m. let p = plain (head_of ws) q m in λ i. range_by p (e i) (f i) (leb a b) (verdict_of p a b))
-
-    module _ (f : in_time b ≡ true) where
-      pub range_reversed : b < a → Reading ws (range a b) (refused 21)
-      range_reversed h =
-          reading ws (range a b) (refused 21)
-          (λ q m. let p = plain (head_of ws) q m in λ i. range_by p (e i) (f i) (lt-leb a b h i) (verdict_of p a b))
-
-      pub range_taken : (v : SocVerdict) → a ≤ b → verdict_of (head_in ws) a b ≡ v → Reading ws (range a b) (range_answer v)
-      range_taken v h g =
-          reading ws (range a b) (range_answer v)
-          (λ q m. let p = plain (head_of ws) q m in λ i. range_by p (e i) (f i) (le-leb a b h i) (g i))
-
-pub margin_late : (ws : List ℕ) (t : ℕ) → in_time t ≡ false → Reading ws (margin t) (refused 5)
-margin_late ws t e = reading ws (margin t) (refused 5) (λ q m. let p = plain (head_of ws) q m in ap (λ (x : Bool). margin_by p x (margin_of p t)) e)
+module _ (ws : List ℕ) (a b : ℕ) (e : in_time a ≡ true) (f : in_time b ≡ true) where
+  pub range_taken : (v : SocVerdict) → a ≤ b → verdict_of (head_in ws) a b ≡ v → Reading ws (range a b) (range_answer v)
+  range_taken v h g =
+      reading ws (range a b) (range_answer v)
+      (λ q m. let p = plain (head_of ws) q m in λ i. range_by p (e i) (f i) (le-leb a b h i) (g i))
 
 pub margin_taken :
     (ws : List ℕ) (t : ℕ) (z : ℤ) → in_time t ≡ true → z ≡ margin_of (head_in ws) t → Reading ws (margin t) (margin_answer z)

@@ -12,12 +12,10 @@ use Rattle.types.specs.States.{same_state}
 use Rattle.types.specs.Events.{read_event}
 use Rattle.types.specs.CsEvents.{read_cs_event}
 use Rattle.types.specs.Errors.{read_error, reported}
-use Rattle.types.specs.Refusals.{refusal_number}
-use Rattle.types.specs.declared.refusals.Refusal.{Refusal}
 use Rattle.types.specs.declared.nmt.states.NmtState.{NmtState}
 use Rattle.types.specs.declared.nmt.states.NmtState.TheVariants.{NmtReadyToOperate}
 use Rattle.types.specs.declared.nmt.events.NmtEvent.{NmtEvent}
-use Rattle.std.specs.declared.result.Result.TheVariants.{Ok, Err}
+use Rattle.std.specs.declared.result.Result.TheVariants.{Ok}
 use Rattle.types.specs.declared.frame.cs_state_machine.DllCsEvent.{DllCsEvent}
 use Rattle.types.specs.declared.frame.error.types.DllError.{DllError}
 use Rattle.types.specs.declared.frame.error.types.DllErrors.TheVariants as errors
@@ -26,7 +24,6 @@ use Rattle.nmt.specs.Resets.{passed, states_entered, is_reset}
 use Rattle.nmt.specs.Nmt as Nmt
 use Rattle.nmt.specs.declared.cn_state_machine.CnNmtStateMachine.{CnNmtStateMachine}
 use Rattle.nmt.specs.Nmt.{Move, Goes, Stays, Enables, Readies, Unexpected}
-use Rattle.nmt.specs.declared.cn_state_machine.NmtAnswer.{NmtAnswer}
 use Rattle.dll.specs.Dll as Dll
 use Rattle.dll.specs.declared.cs_state_machine.DllAnswer.{DllAnswer}
 use Rattle.counters.specs.Counters as Counters
@@ -45,7 +42,7 @@ use Rattle.node.specs.Plain.{Call, nmt_event, dll_event, error, cycle_complete, 
 use Rattle.watched.specs.Watched.{in_time}
 use Rattle.node.specs.Steps.{no_run, armed}
 use Rattle.node.specs.Refines.{left, Refines}
-use Rattle.node.proofs.Laws.{Alone, forgetting_if, nmt_taken_lem, nmt_refused, dll_taken_lem, dll_refused, error_taken_lem, error_refused, cycle_taken_lem, withdraw_taken, withdraw_refused, arm_taken, arm_refused, hand_out_taken}
+use Rattle.node.proofs.Laws.{Alone, forgetting_if, nmt_taken_lem, dll_taken_lem, error_taken_lem, cycle_taken_lem, withdraw_taken, withdraw_refused, arm_taken, hand_out_taken}
 use Rattle.node.specs.declared.calls.NmtTaken.{NmtTaken}
 use Rattle.counters.specs.declared.counters.ErrorTaken.{ErrorTaken}
 use Rattle.head.specs.Places as at
@@ -75,23 +72,6 @@ nmt_long ws long m = length-set (set (set ws at.state _) at.enabled _) at.ready 
 reset_written : (b : Bool) (ws : List ℕ) → length ws ≡ 60 → head_of (reset_words b ws) ≡ forgetting_if b (head_of ws)
 reset_written true ws long = forgotten_written_lem ws long
 reset_written false ws long = refl
-
--- an NMT event, decided by the function by value
-pub nmt_processed :
-    (ws ws' : List ℕ) (e : NmtEvent) (a : NmtAnswer) →
-    Nmt.outcome a ≡ Nmt.processed (nmt_of ws) e →
-    (b : Bool) →
-    is_reset e ≡ b →
-    ws' ≡ reset_words b (nmt_written ws a.machine) →
-    Processed ws e (record { errors = a.errors; reset = a.reset }) ws'
-nmt_processed ws ws' e a o b x w =
-    record {
-      errors = ap (λ (o : Nmt.Outcome). o.errors) o;
-      reset = ap (λ (o : Nmt.Outcome). o.reset) o;
-      words =
-          w ∙ ap (λ (b : Bool). reset_words b (nmt_written ws a.machine)) (sym x)
-          ∙ ap (λ (o : Nmt.Outcome). reset_words (is_reset e) (nmt_written ws o.machine)) o;
-    }
 
 -- and one that wrote none
 pub unwritten :
@@ -196,24 +176,6 @@ module _ (ws : List ℕ) where
   withdraw_no e =
       unwritten ws withdraw _ _ (withdraw_refused (head_of ws) e)
       (ap (λ (s : NmtState). pick (same_state s NmtReadyToOperate) ws (set ws at.ready 0)) e)
-
-  pub nmt_no : (n : ℕ) (x : Refusal) → read_event n ≡ Err x → InPlace ws (nmt_event n) (refused (refusal_number x)) ws (nmt_words ws (read_event n))
-  nmt_no n x r = unwritten ws (nmt_event n) _ _ (nmt_refused (head_of ws) n x r) (ap (nmt_words ws) r)
-
-  pub dll_no :
-      (n : ℕ) (expected : Bool) (x : Refusal) →
-      read_cs_event n ≡ Err x →
-      InPlace ws (dll_event n expected) (refused (refusal_number x)) ws (dll_words ws expected (read_cs_event n))
-  dll_no n expected x r = unwritten ws (dll_event n expected) _ _ (dll_refused (head_of ws) n expected x r) (ap (dll_words ws expected) r)
-
-  pub error_no :
-      (kind a b : ℕ) (x : Refusal) →
-      read_error kind a b ≡ Err x →
-      InPlace ws (error kind a b) (refused (refusal_number x)) ws (error_words ws (read_error kind a b))
-  error_no kind a b x r = unwritten ws (error kind a b) _ _ (error_refused (head_of ws) kind a b x r) (ap (error_words ws) r)
-
-  pub arm_no : (t : ℕ) → in_time t ≡ false → InPlace ws (arm t) (refused 5) ws (arm_words ws t)
-  arm_no t e = unwritten ws (arm t) _ _ (arm_refused (head_of ws) t e) (ap (λ (b : Bool). pick b (soc_written ws (armed (soc_of ws) (od_of ws) t)) ws) e)
 
   module _ (long : length ws ≡ 60) (ws' : List ℕ) where
     pub withdraw_yes :

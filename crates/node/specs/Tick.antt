@@ -1,7 +1,7 @@
 -- The tick of the plain head, by document 01, 'The tick': its words, in its order, stand above the definitions.
 -- Assumes nothing.
 use Rattle.std.specs.Prelude.{ℕ, ◌+◌, ◌-◌, ◌*◌, ◌/◌, ◌%◌, min, Bool, true, false, List, [], ◌∷◌, ◌++◌, map, eqb, leb, ltb, length, take}
-use Rattle.types.specs.Pick.{pick, both, either}
+use Rattle.types.specs.Pick.{pick, both, either, all_of}
 use Rattle.types.specs.Types.{node}
 use Rattle.types.specs.States.{state_number, same_state}
 use Rattle.types.specs.Errors.{reported}
@@ -25,7 +25,7 @@ use Rattle.std.specs.declared.option.Option.TheVariants.{Some, None}
 use Rattle.head.specs.declared.state.SocWatch.{SocWatch}
 use Rattle.head.specs.declared.state.Dictionary.{Dictionary}
 use Rattle.watched.specs.declared.nodes.WatchedNode.{WatchedNode}
-use Rattle.watched.specs.Watched.{latest, in_time, all_of, heard_now, Run, watching, well_lent, changing}
+use Rattle.watched.specs.Watched.{latest, in_time, heard_now, Run, watching, well_lent, changing}
 use Rattle.watched.specs.Nodes.{not_before}
 use Rattle.node.specs.Plain.{Plain, tick_answer, EventMade, made, no_event, Step}
 use Rattle.node.specs.Steps.{Test, must, tried, plain_of, with_nmt, with_dll, with_errors, with_soc, declines, up_to_date, cycle_of, tolerance_of, limit_of}

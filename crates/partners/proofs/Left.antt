@@ -8,10 +8,10 @@ use native.Mathlib.Omega.{arith}
 use native.Mathlib.Numerals.{add-one}
 use lib.Dec.{leb}
 use lib.ListN.{length, take, drop, replicate}
-use Rattle.types.specs.Pick.{both}
+use Rattle.types.specs.Pick.{both, all_of}
 use Rattle.types.proofs.Tests.{both_first, both_second}
 use Rattle.watched.specs.declared.nodes.WatchedNode.{WatchedNode}
-use Rattle.watched.specs.Watched.{all_of, ascending, fits, well_formed, place_of, no_node, watched_node, watched_of, run, inserted, without}
+use Rattle.watched.specs.Watched.{ascending, fits, well_formed, place_of, no_node, watched_node, watched_of, run, inserted, without}
 use Rattle.watched.proofs.Lists.{taken_long, few}
 use Rattle.watched.proofs.Lists as Lists
 use Rattle.node.specs.Steps.{added, removed}

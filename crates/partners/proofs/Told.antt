@@ -6,7 +6,7 @@ use mathlib.Core.Bool.{Bool, true, false}
 use mathlib.Core.List.{List, ◌++◌}
 use lib.Dec.{ltb}
 use lib.ListN.{length, take, drop, replicate}
-use borrow.Author.Tests.{ltb-true, ltb-false}
+use borrow.Author.Tests.{ltb-true}
 use Rattle.types.specs.Types.{is_node, read_node}
 use Rattle.std.specs.declared.result.Result.{Result}
 use Rattle.std.specs.declared.option.Option.{Option}
@@ -17,7 +17,7 @@ use Rattle.head.specs.Written.{earliest_written}
 use Rattle.watched.specs.declared.nodes.WatchedNode.{WatchedNode}
 use Rattle.watched.specs.Watched.{no_node, inserted, well_formed, is_watched, heard_at, place_of, watched_node, watched_of, Run, run, watching, well_lent}
 use Rattle.watched.specs.Nodes.{never, nodes_of, soonest, moment_of}
-use Rattle.watched.proofs.Lists.{watched_there, watched_nowhere}
+use Rattle.watched.proofs.Lists.{watched_by}
 use Rattle.watched.proofs.Watching.{places, few, lent_words}
 use Rattle.node.specs.Steps.{earliest, added}
 use Rattle.node.specs.InPlace.{unless_refused}
@@ -65,11 +65,7 @@ module _ (ws ns : List ℕ) (k n : ℕ) where
     lent = lent_words ns k ∙ f
 
     among : w ≡ is_watched n vs
-    among = z ∙ by (ltb p k) refl
-      where
-        by : (b : Bool) → ltb p k ≡ b → b ≡ is_watched n vs
-        by true c = sym (watched_there ps k (places ns) below n 0 p e (ltb-true p k c))
-        by false c = sym (watched_nowhere ps k (places ns) below n 0 p e (ltb-false p k c))
+    among = z ∙ watched_by ps k (places ns) below n p e
 
     -- add
     module _ (o : ℕ) (v : Bool) (a : v ≡ is_node n) (c : Result (Unit {0}) Refusal) (x : c ≡ add_answer v true o w k) where

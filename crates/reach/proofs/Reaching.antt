@@ -8,7 +8,7 @@ use mathlib.Core.List.{List, [], ◌∷◌, map}
 use mathlib.Core.Logic.{◌⊎◌, inl, inr}
 use lib.Dec.{eqb, leb, eqb-suc-zero}
 use borrow.Author.Tests.{eqb-true, eq-eqb, leb-true}
-use Rattle.types.specs.Pick.{pick, both, either}
+use Rattle.types.specs.Pick.{pick, both, either, all_of as all, any_of as any}
 use Rattle.types.specs.States.{state_number, same_state}
 use Rattle.types.specs.Events.{events, event_number, read_event}
 use Rattle.types.specs.declared.nmt.states.NmtState.TheVariants.{NmtGsInitialising, NmtReadyToOperate}
@@ -20,7 +20,6 @@ use Rattle.types.specs.declared.refusals.Refusal.{Refusal}
 use Rattle.types.proofs.Cases.{everywhere, NmtEvents}
 use Rattle.types.proofs.RoundTrips.{events_faithful}
 use Rattle.types.proofs.Tests.{both_first, both_second, either_cases}
-use Rattle.counters.specs.Counters.{all_of as all}
 use Rattle.nmt.specs.Resets.{is_reset}
 use Rattle.nmt.specs.Nmt.{Outcome, processed}
 use Rattle.nmt.specs.Table.{ruled}
@@ -38,11 +37,6 @@ use Rattle.reach.specs.Positions.{position_at, position, Steps, none, event, wit
 
 event_small : (e : NmtEvent) → event_number e - 18 ≡ 0
 event_small = everywhere NmtEvents (λ e. event_number e - 18) (λ e. 0) refl refl
-
--- a test at one of a list; the library's any of a list tells the place of one, and asked here is that it is among them
-abbrev any : {A : Type 0} → (A → Bool) → List A → Bool
-any f [] = false
-any f (x ∷ xs) = either (f x) (any f xs)
 
 all_at : {A : Type 0} (f : A → Bool) (xs : List A) {x : A} → all f xs ≡ true → Among x xs → f x ≡ true
 all_at f [] h m = absurd m

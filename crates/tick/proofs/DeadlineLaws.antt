@@ -6,7 +6,7 @@ use mathlib.Core.Bool.{Bool, true, false}
 use mathlib.Core.List.{List, [], append-nil}
 use lib.Dec.{ltb}
 use borrow.Author.Tests.{lt-ltb, le-ltb, le-leb, lt-leb}
-use Rattle.types.specs.Pick.{pick, both}
+use Rattle.types.specs.Pick.{pick, both, all_of}
 use Rattle.types.specs.Errors.{reported}
 use Rattle.types.specs.declared.frame.error.types.DllErrors.{DllErrors}
 use Rattle.types.specs.declared.frame.error.types.DllErrors.TheVariants as errors
@@ -18,7 +18,6 @@ use Rattle.dll.specs.declared.cs_state_machine.DllCsState.TheVariants.{NonCyclic
 use Rattle.types.specs.declared.nmt.states.NmtState.{NmtState}
 use Rattle.entries.specs.Queue.{capacity_of, waiting}
 use Rattle.entries.specs.History.{history}
-use Rattle.watched.specs.Watched.{all_of}
 use Rattle.types.specs.declared.frame.cs_state_machine.DllCsEvent.TheVariants.{SocTimeout}
 use Rattle.std.specs.declared.option.Option.TheVariants.{Some, None}
 use Rattle.head.specs.Head.{Head, head_with_dll}

@@ -9,7 +9,6 @@ use native.Mathlib.Omega.{arith}
 use lib.ListN.{length, set}
 use Rattle.types.specs.Pick.{pick}
 use Rattle.types.specs.declared.frame.error.types.DllError.{DllError}
-use Rattle.types.specs.declared.frame.error.types.DllErrors.{DllErrors}
 use Rattle.types.specs.declared.frame.error.types.DllErrors.TheVariants as errors
 use Rattle.counters.specs.Counters.{effect, handled, HandledError, replied}
 use Rattle.entries.specs.Entry.{FitsBytes, crossing_entry}
@@ -25,7 +24,7 @@ use Rattle.node.specs.Tick.{acts, one_more, statistics, counter1, signalled, que
 use Rattle.node.specs.Refines.{plain, Becomes, rings, joins}
 use Rattle.head.specs.declared.state.Statistic.TheVariants.{Counter3}
 use Rattle.head.proofs.Laws.{statistic_written}
-use Rattle.heartbeats.specs.Parts.{Finishes, is_quiet}
+use Rattle.heartbeats.specs.Parts.{is_quiet}
 use Rattle.tick.proofs.TickLaws as tick
 use Rattle.tick.proofs.TickLaws.{entry_kept, entry_dropped, deal_signalled, deal_unsignalled}
 use Rattle.head.specs.Places as at
@@ -33,7 +32,8 @@ use Rattle.head.specs.Words.{word, errors_of, od_of, queue_of, history_of, head_
 use Rattle.head.specs.Written.{queue_written, history_written}
 use Rattle.node.specs.InPlace.{effect_words}
 use Rattle.counters.specs.declared.counters.ErrorTaken.{ErrorTaken}
-use Rattle.node.proofs.Refining.{picked, effect_written}
+use Rattle.node.proofs.Refining.{picked}
+use Rattle.heartbeats.proofs.Handled.{handled_written, ending, signals, logs}
 use Rattle.heartbeats.specs.declared.dealt.Dealt.{Dealt}
 use Rattle.heartbeats.specs.PartWords.{signal_words, finished_words, ends_by}
 use Rattle.tick.specs.TickWords.{count2, entry_words, counted_words, deal_words, deal_all_words}
@@ -124,8 +124,7 @@ module _ (ws : List ℕ) (long : length ws ≡ 60) (q m : List ℕ) (e : DllErro
   R = handled (errors_of ws) e
 
   raised : head_of ws₁ ≡ head_with_errors (head_of ws) R.counters
-  unfolding handled
-  raised = ap head_of there ∙ effect_written ws long (effect e) e
+  raised = handled_written ws e long ws₁ there
 
   counts : Becomes (head_of ws) (λ p. with_errors (counter1 p) R.counters) (head_of ws₂)
   counts =
@@ -138,14 +137,8 @@ module _ (ws : List ℕ) (long : length ws ≡ 60) (q m : List ℕ) (e : DllErro
   unfolding counted_words
   counted = count ∙ ap (λ (l : List ℕ). set l at.counter1 (one_more (word l at.counter1))) there
 
-  ending : a ≡ ends_by ws e
-  ending = z ∙ ap (λ (r : ErrorTaken). acts r.action) same
-
-  signals : (b : Bool) → r.signal ≡ b → R.signal ≡ b
-  signals b s = sym (ap (λ (r : ErrorTaken). r.signal) same) ∙ s
-
-  logs : (g : Head) → Finishes g r.logged a (dealt_of ws' f) → Finishes g R.logged a (dealt_of ws' f)
-  logs g k = subst (λ (es : DllErrors). Finishes g es a (dealt_of ws' f)) (ap (λ (r : ErrorTaken). r.logged) same) k
+  ended : a ≡ ends_by ws e
+  ended = ending ws e r same a z
 
   abbrev ahead : Bool → List ℕ
   ahead b = pick b (entry_words (signal_words (counted_words ws e))) (counted_words ws e)
@@ -155,8 +148,8 @@ module _ (ws : List ℕ) (long : length ws ≡ 60) (q m : List ℕ) (e : DllErro
   deal_quiet s k =
       record {
         ticks =
-            deal_unsignalled (head_of ws) q m e t quiet R refl (head_of ws₂) counts a ending (dealt_of ws' f) (signals false s) (logs (head_of ws₂) k.finishes);
-        words = k.words ∙ ap₂ finished_words ending (counted ∙ sym (ap ahead (signals false s)));
+            deal_unsignalled (head_of ws) q m e t quiet R refl (head_of ws₂) counts a ended (dealt_of ws' f) (signals ws e r same false s) (logs ws e r same a (dealt_of ws' f) (head_of ws₂) k.finishes);
+        words = k.words ∙ ap₂ finished_words ended (counted ∙ sym (ap ahead (signals ws e r same false s)));
       }
 
   pub deal_loud :
@@ -173,12 +166,12 @@ module _ (ws : List ℕ) (long : length ws ≡ 60) (q m : List ℕ) (e : DllErro
   deal_loud s ws₃ u ws₄ q' m' v k =
       record {
         ticks =
-            deal_signalled (head_of ws) q m e t quiet R refl (head_of ws₂) counts a ending (dealt_of ws' f) (signals true s) (head_of ws₃) u.becomes
-            (head_of ws₄) q' m' (v.0, v.1) (logs (head_of ws₄) k.finishes);
+            deal_signalled (head_of ws) q m e t quiet R refl (head_of ws₂) counts a ended (dealt_of ws' f) (signals ws e r same true s) (head_of ws₃) u.becomes
+            (head_of ws₄) q' m' (v.0, v.1) (logs ws e r same a (dealt_of ws' f) (head_of ws₄) k.finishes);
         words =
             k.words
-            ∙ ap₂ finished_words ending
-            (v.2 ∙ ap entry_words (u.words ∙ ap signal_words counted) ∙ sym (ap ahead (signals true s)));
+            ∙ ap₂ finished_words ended
+            (v.2 ∙ ap entry_words (u.words ∙ ap signal_words counted) ∙ sym (ap ahead (signals ws e r same true s)));
       }
 
 -- the walk, with the words

@@ -4,13 +4,13 @@ use Prim.Native.Nat.{ℕ}
 use mathlib.Core.Path.{◌≡◌, refl, sym, ap, ap₂, ◌∙◌}
 use mathlib.Core.Bool.{Bool, true, false, true≢false}
 use mathlib.Core.List.{List, [], ◌∷◌, ◌++◌, map}
-use Rattle.types.specs.Pick.{pick}
+use Rattle.types.specs.Pick.{pick, all_of}
 use Rattle.types.specs.Errors.{reported}
 use Rattle.types.specs.declared.frame.error.types.DllError.{DllError}
 use Rattle.entries.specs.declared.status_response.ErrorEntry.{ErrorEntry}
 use Rattle.head.specs.Head.{Head, head_with_earliest}
 use Rattle.watched.specs.declared.nodes.WatchedNode.{WatchedNode}
-use Rattle.watched.specs.Watched.{in_time, all_of, Run, watching, well_lent, changing}
+use Rattle.watched.specs.Watched.{in_time, Run, watching, well_lent, changing}
 use Rattle.node.specs.Plain.{Plain, tick, Answer, refused, tick_answer, Step}
 use Rattle.node.specs.Steps.{earliest, up_to_date, declines}
 use Rattle.watched.specs.Nodes.{not_before}

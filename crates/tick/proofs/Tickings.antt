@@ -7,7 +7,7 @@ use mathlib.Core.Bool.{Bool, true, false, true≢false}
 use mathlib.Core.List.{List, map}
 use lib.Dec.{eqb}
 use lib.ListN.{length}
-use Rattle.types.specs.Pick.{pick}
+use Rattle.types.specs.Pick.{pick, all_of}
 use Rattle.types.specs.Errors.{reported}
 use Rattle.types.proofs.Tests.{both_second}
 use Rattle.std.specs.declared.result.Result.{Result}
@@ -25,7 +25,7 @@ use Rattle.node.specs.Steps.{earliest}
 use Rattle.node.proofs.Moments.{moment_of_lem, all_fit}
 use Rattle.types.specs.declared.refusals.Refusal.TheVariants.{WatchedNodes, TimeLimit, BeforeHeard}
 use Rattle.watched.specs.declared.nodes.WatchedNode.{WatchedNode}
-use Rattle.watched.specs.Watched.{in_time, all_of, well_formed, watched_of, Run, run, watching, well_lent, changing}
+use Rattle.watched.specs.Watched.{in_time, well_formed, watched_of, Run, run, watching, well_lent, changing}
 use Rattle.node.specs.Tick.{checks_heartbeats, looked, late_ones, beat_all, by_deadline, tick_taken}
 use Rattle.node.specs.Refines.{plain}
 use Rattle.heartbeats.specs.Parts.{looked_first}

@@ -1,11 +1,11 @@
 -- What a SocTimeout leaves of a head in words, against the plain tick; and the contract of the tick.
 -- Assumes nothing.
 use Rattle.std.specs.Prelude.{ℕ, ◌≡◌, Bool, true, List}
-use Rattle.types.specs.Pick.{pick}
+use Rattle.types.specs.Pick.{pick, all_of}
 use Rattle.types.specs.Errors.{reported}
 use Rattle.types.specs.declared.frame.error.types.DllErrors.{DllErrors}
 use Rattle.node.specs.Plain.{Call, Answer, tick_answer}
-use Rattle.watched.specs.Watched.{all_of, well_formed, Run, run, watching, well_lent}
+use Rattle.watched.specs.Watched.{well_formed, Run, run, watching, well_lent}
 use Rattle.node.specs.Steps.{earliest}
 use Rattle.node.specs.Tick.{checks_heartbeats}
 use Rattle.node.specs.Run.{step}

@@ -1,8 +1,8 @@
 // The errors of the SoC check.
 ghost use Rattle.std.specs.Prelude.{◌≡◌, true};
+ghost use Rattle.types.specs.Pick.{all_of};
 ghost use Rattle.types.specs.Errors.{reported};
 ghost use Rattle.entries.specs.Entry.{crossing_entry};
-ghost use Rattle.watched.specs.Watched.{all_of};
 ghost use Rattle.node.specs.Tick.{queued, deal, deal_all};
 ghost use Rattle.node.specs.Refines.{plain, rings, joins};
 ghost use Rattle.heartbeats.specs.Parts.{is_quiet};

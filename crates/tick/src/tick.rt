@@ -2,7 +2,8 @@
 // Head, queue and history are lent one by one: of an array behind a struct's reference the check knows no length, and each method of a struct of the three
 // would state beside its promise that the references stay the same.
 ghost use Rattle.std.specs.Prelude.{◌≡◌, true};
-ghost use Rattle.watched.specs.Watched.{all_of, well_formed, watched_of};
+ghost use Rattle.types.specs.Pick.{all_of};
+ghost use Rattle.watched.specs.Watched.{well_formed, watched_of};
 ghost use Rattle.node.specs.Tick.{checks_heartbeats, tick_taken};
 ghost use Rattle.node.specs.Refines.{plain};
 ghost use Rattle.head.specs.Words.{nmt_of, head_of};

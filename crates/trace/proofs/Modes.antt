@@ -5,7 +5,7 @@ use mathlib.Core.Path.{◌≡◌, refl, sym, ap, ◌∙◌}
 use mathlib.Core.Bool.{Bool, true, false, not}
 use mathlib.Core.List.{List, [], ◌∷◌}
 use lib.ListN.{get_or}
-use Rattle.types.specs.Pick.{pick, both}
+use Rattle.types.specs.Pick.{pick, both, all_of}
 use Rattle.types.specs.States.{same_state}
 use Rattle.types.specs.declared.nmt.states.NmtState.TheVariants.{NmtPreOperational2, NmtReadyToOperate}
 use Rattle.types.specs.declared.nmt.events.NmtEvent.{NmtEvent}
@@ -33,26 +33,22 @@ mode m w =
     (pick (same_state m.current_state NmtReadyToOperate) (both w.asked w.word)
     (not m.ready_to_operate_enabled)))
 
--- a test at every item of a list, of an enum, of the Booleans
-abbrev all : {A : Type 0} → (A → Bool) → List A → Bool
-all f [] = true
-all f (x ∷ xs) = both (f x) (all f xs)
-
+-- a test at every item of an enum, of the Booleans
 abbrev pub always : {A : Type 0} → Enum A → (A → Bool) → Bool
-always E f = both (f E.first) (all f E.items)
+always E f = both (f E.first) (all_of f E.items)
 
 abbrev all_flags : (Bool → Bool) → Bool
 all_flags f = both (f true) (f false)
 
-all_at : {A : Type 0} (f : A → Bool) (xs : List A) (k : ℕ) (d : A) → f d ≡ true → all f xs ≡ true → f (get_or xs k d) ≡ true
+all_at : {A : Type 0} (f : A → Bool) (xs : List A) (k : ℕ) (d : A) → f d ≡ true → all_of f xs ≡ true → f (get_or xs k d) ≡ true
 all_at f [] k d h e = h
-all_at f (x ∷ xs) zero d h e = both_first (f x) (all f xs) e
-all_at f (x ∷ xs) (suc k) d h e = all_at f xs k d h (both_second (f x) (all f xs) e)
+all_at f (x ∷ xs) zero d h e = both_first (f x) (all_of f xs) e
+all_at f (x ∷ xs) (suc k) d h e = all_at f xs k d h (both_second (f x) (all_of f xs) e)
 
 pub always_at : {A : Type 0} (E : Enum A) (f : A → Bool) → always E f ≡ true → (x : A) → f x ≡ true
 always_at E f e x =
     ap f (sym (E.back x)) ∙
-    all_at f E.items (E.position x) E.first (both_first (f E.first) (all f E.items) e) (both_second (f E.first) (all f E.items) e)
+    all_at f E.items (E.position x) E.first (both_first (f E.first) (all_of f E.items) e) (both_second (f E.first) (all_of f E.items) e)
 
 flags_at : (f : Bool → Bool) → all_flags f ≡ true → (b : Bool) → f b ≡ true
 flags_at f e true = both_first (f true) (f false) e

@@ -7,7 +7,7 @@ use mathlib.Core.List.{List, [], ◌∷◌, ◌++◌}
 use lib.Dec.{leb, ltb}
 use lib.ListN.{length, length-append}
 use borrow.Author.Tests.{leb-true, leb-false, lt-ltb, le-ltb}
-use Rattle.types.specs.Pick.{pick, both}
+use Rattle.types.specs.Pick.{pick, both, all_of}
 use Rattle.types.specs.declared.nmt.events.NmtEvent.TheVariants.{Error, Timeout}
 use Rattle.types.specs.declared.frame.error.types.DllError.{DllError}
 use Rattle.types.proofs.Tests.{both_first, both_second}
@@ -26,7 +26,6 @@ use Rattle.entries.specs.declared.status_response.ErrorEntry.{ErrorEntry}
 use Rattle.std.specs.declared.option.Option.{Option}
 use Rattle.std.specs.declared.option.Option.TheVariants.{Some, None}
 use Rattle.watched.specs.declared.nodes.WatchedNode.{WatchedNode}
-use Rattle.watched.specs.Watched.{all_of}
 use Rattle.node.specs.Plain.{Plain, EventMade, made, no_event}
 use Rattle.node.specs.Steps.{with_dll, with_errors, with_soc, cycle_of, limit_of}
 use Rattle.node.specs.Tick.{Ticked, goes_on, behind, checks_heartbeats, acts, one_more, signalled, check_off, finished, dealt, beat_by, timeout_of, beat, beat_all, late_ones, heartbeats, with_deadline, at_not_active, basic_timeout, event_in_tick, timed_out, counter1, kept, dropped_one, queued, deal_by, deal, deal_all, last_soc, elapsed, next_deadline, rescheduled, within_limit, soc_timeout, lost, soc_check, used_up, by_deadline, tick_taken}

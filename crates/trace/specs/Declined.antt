@@ -2,8 +2,9 @@
 -- field of the head and no lent byte."
 -- Assumes nothing.
 use Rattle.std.specs.Prelude.{ℕ, ◌≡◌, Bool, true, List, [], ◌∷◌, eqb}
+use Rattle.types.specs.Pick.{any_of}
 use Rattle.head.specs.Words.{head_of}
-use Rattle.watched.specs.Watched.{some_of, Run}
+use Rattle.watched.specs.Watched.{Run}
 use Rattle.node.specs.Plain.{Call, nmt_event, dll_event, error, cycle_complete, withdraw, heard, hand_out, load, arm, tick, range, margin, add, remove, refused}
 use Rattle.node.specs.Steps.{no_run}
 use Rattle.node.specs.Run.{step, Said}
@@ -31,7 +32,7 @@ abbrev pub start_refusals : List ℕ
 start_refusals = 1 ∷ 2 ∷ 3 ∷ 14 ∷ []
 
 abbrev pub is_among : ℕ → List ℕ → Bool
-is_among n ns = some_of (eqb n) ns
+is_among n ns = any_of (eqb n) ns
 
 -- the run that a call is lent
 abbrev pub lent_to : Call → Run

@@ -7,36 +7,23 @@ use mathlib.Core.List.{List, [], ◌∷◌}
 use native.Mathlib.Omega.{arith}
 use lib.Dec.{ltb}
 use lib.ListN.{length, get_or, take, drop, length-drop}
-use lib.Seq.{length-take-le, take_all, get_or-take, get_or-drop}
-use borrow.Author.Tests.{ltb-true, leb-true, le-leb}
-use Rattle.types.specs.Pick.{pick, both}
+use lib.Seq.{length-take-le, get_or-take, get_or-drop}
+use borrow.Author.Tests.{ltb-true, le-leb}
+use Rattle.types.specs.Pick.{pick, both, all_of}
 use Rattle.types.specs.Types.{is_node}
-use Rattle.types.proofs.Tests.{both_first, both_second}
+use Rattle.types.proofs.Tests.{both_first, both_second, both_false, both_true}
 use Rattle.std.specs.declared.option.Option.TheVariants.{Some, None}
 use Rattle.watched.specs.declared.nodes.WatchedNode.{WatchedNode}
-use Rattle.watched.specs.Watched.{latest, in_time, timed, fits, all_of, no_node}
+use Rattle.watched.specs.Watched.{timed, fits, no_node}
 use Rattle.watched.specs.Nodes.{node_at, nodes_of, not_before, rising, climbing, numbered, roused_from}
 use Rattle.watched.proofs.Lists.{at_end}
 use Rattle.watched.proofs.Watching.{places, node_at_lem, turn_read}
-
-pub both_false : (b : Bool) → both b false ≡ false
-both_false true = refl
-both_false false = refl
-
-both_true : (b : Bool) → both b true ≡ b
-both_true true = refl
-both_true false = refl
 
 pub both_assoc : (a b c : Bool) → both a (both b c) ≡ both (both a b) c
 both_assoc true b c = refl
 both_assoc false b c = refl
 
 -- a node follows where it climbs and has a number
-pub follows_parts : (a b c : Bool) → both (both a c) b ≡ both a (both b c)
-follows_parts true true c = both_true c
-follows_parts true false c = both_false c
-follows_parts false b c = refl
-
 parts : (a b c u v : Bool) → both (both a (both b c)) (both u v) ≡ both (both (both a c) u) (both b v)
 parts true true true u v = refl
 parts true true false u v = refl
@@ -48,26 +35,6 @@ rising_parts n [] = refl
 rising_parts n (w ∷ ws) =
     ap (both (both (ltb n w.node) (fits w))) (rising_parts w.node ws)
     ∙ parts (ltb n w.node) (is_node w.node) (timed w) (climbing w.node ws) (all_of numbered ws)
-
--- a node that was tried whether it climbs
-module _ (n : ℕ) (w : WatchedNode) (z : Bool) (f : z ≡ both (ltb n w.node) (timed w)) where
-  by_parts : (y : Bool) → z ≡ y → both (ltb n w.node) (fits w) ≡ both y (is_node w.node)
-  by_parts y h = sym (follows_parts (ltb n w.node) (is_node w.node) (timed w)) ∙ ap (λ (y : Bool). both y (is_node w.node)) (sym f ∙ h)
-
-  pub follows_not : z ≡ false → false ≡ both (ltb n w.node) (fits w)
-  follows_not h = sym (by_parts false h)
-
-  pub follows_by : z ≡ true → (y : Bool) → y ≡ is_node w.node → y ≡ both (ltb n w.node) (fits w)
-  follows_by h y g = g ∙ sym (by_parts true h)
-
-  pub climbs_up : z ≡ true → n < w.node
-  climbs_up h = ltb-true n w.node (both_first (ltb n w.node) (timed w) (sym f ∙ h))
-
--- the times of a node that climbs
-pub climbs_timed : (n : ℕ) (w : WatchedNode) (z : Bool) → z ≡ both (ltb n w.node) (timed w) → z ≡ true → (w.timeout ≤ latest) × (w.last_heard ≤ latest)
-climbs_timed n w z f h =
-    let b : timed w ≡ true = both_second (ltb n w.node) (timed w) (sym f ∙ h) in
-    (leb-true w.timeout latest (both_first (in_time w.timeout) _ b), leb-true w.last_heard latest (both_second (in_time w.timeout) _ b))
 
 -- of nodes that climb, each is above the number before them, and those before one of at most 240 have a number
 pub climb_head : (n : ℕ) (w : WatchedNode) (ws : List WatchedNode) → climbing n (w ∷ ws) ≡ true → n < w.node
@@ -113,50 +80,39 @@ module _ (ns : List ℕ) (k : ℕ) (below : k ≤ 32) where
   left_long p = length-drop p (take k (nodes_of ns)) ∙ ap (λ (l : ℕ). l - p) (length-take-le k (nodes_of ns) (rw (places ns) below))
 
   -- the numbers of the nodes from the place p on, tried from the last one back: those before the place e are left
-  module _ (p : ℕ) where
-    pub numbers_begin : all_of numbered (left p) ≡ all_of numbered (take (k - p) (left p))
-    numbers_begin = sym (ap (all_of numbered) (take_all (k - p) (left p) (rw (left_long p) (omega arith))))
+  module _ (p : ℕ) (b : Bool) (e : ℕ) (inv : b ≡ all_of numbered (take (e - p) (left p))) (more : p < e) (inside : e ≤ k) where
+    abbrev j : ℕ
+    j = e - 1 - p
 
-    module _ (b : Bool) (e : ℕ) (inv : b ≡ all_of numbered (take (e - p) (left p))) where
-      pub numbers_end : e ≤ p → b ≡ true
-      numbers_end h = let z : e - p ≡ 0 = omega arith in inv ∙ ap (λ (m : ℕ). all_of numbered (take m (left p))) z
+    at_end_of : get_or (left p) j no_node ≡ node_at ns (e - 1)
+    at_end_of =
+        get_or-drop p (take k (nodes_of ns)) j no_node
+        ∙ ap (λ (m : ℕ). get_or (take k (nodes_of ns)) m no_node) (omega arith)
+        ∙ get_or-take k (nodes_of ns) (e - 1) no_node (omega arith)
+        ∙ node_at_lem ns (e - 1) (omega arith)
 
-      module _ (more : p < e) (inside : e ≤ k) where
-        abbrev j : ℕ
-        j = e - 1 - p
+    in_left : j < length (left p)
+    in_left = rw (left_long p) (omega arith)
 
-        at_end_of : get_or (left p) j no_node ≡ node_at ns (e - 1)
-        at_end_of =
-            get_or-drop p (take k (nodes_of ns)) j no_node
-            ∙ ap (λ (m : ℕ). get_or (take k (nodes_of ns)) m no_node) (omega arith)
-            ∙ get_or-take k (nodes_of ns) (e - 1) no_node (omega arith)
-            ∙ node_at_lem ns (e - 1) (omega arith)
+    one_more_lem : b ≡ all_of numbered (take (suc j) (left p))
+    one_more_lem = let m : e - p ≡ suc j = omega arith in inv ∙ ap (λ (m : ℕ). all_of numbered (take m (left p))) m
 
-        in_left : j < length (left p)
-        in_left = rw (left_long p) (omega arith)
+    -- at the node that was read there
+    module _ (w : WatchedNode) (is : w ≡ node_at ns (e - 1)) where
+      here : get_or (left p) j no_node ≡ w
+      here = at_end_of ∙ sym is
 
-        one_more_lem : b ≡ all_of numbered (take (suc j) (left p))
-        one_more_lem = let m : e - p ≡ suc j = omega arith in inv ∙ ap (λ (m : ℕ). all_of numbered (take m (left p))) m
+      turn : b ≡ both (all_of numbered (take j (left p))) (numbered w)
+      turn = one_more_lem ∙ all_more numbered (left p) j no_node in_left ∙ ap (λ (w : WatchedNode). both (all_of numbered (take j (left p))) (numbered w)) here
 
-        -- at the node that was read there
-        module _ (w : WatchedNode) (is : w ≡ node_at ns (e - 1)) where
-          here : get_or (left p) j no_node ≡ w
-          here = at_end_of ∙ sym is
+      pub numbers_stop : (z : Bool) → z ≡ numbered w → z ≡ false → b ≡ false
+      numbers_stop z f h = turn ∙ ap (both (all_of numbered (take j (left p)))) (sym f ∙ h) ∙ both_false (all_of numbered (take j (left p)))
 
-          turn : b ≡ both (all_of numbered (take j (left p))) (numbered w)
-          turn = one_more_lem ∙ all_more numbered (left p) j no_node in_left ∙ ap (λ (w : WatchedNode). both (all_of numbered (take j (left p))) (numbered w)) here
+      pub numbers_next : (z : Bool) → z ≡ numbered w → z ≡ true → b ≡ all_of numbered (take (e - 1 - p) (left p))
+      numbers_next z f h = turn ∙ ap (both (all_of numbered (take j (left p)))) (sym f ∙ h) ∙ both_true (all_of numbered (take j (left p)))
 
-          pub numbers_stop : (z : Bool) → z ≡ numbered w → z ≡ false → b ≡ false
-          numbers_stop z f h = turn ∙ ap (both (all_of numbered (take j (left p)))) (sym f ∙ h) ∙ both_false (all_of numbered (take j (left p)))
-
-          pub numbers_next : (z : Bool) → z ≡ numbered w → z ≡ true → b ≡ all_of numbered (take (e - 1 - p) (left p))
-          numbers_next z f h = turn ∙ ap (both (all_of numbered (take j (left p)))) (sym f ∙ h) ∙ both_true (all_of numbered (take j (left p)))
-
-          pub numbers_above : (n : ℕ) → climbing n (left p) ≡ true → n < w.node
-          numbers_above n c = rw (← here) (climb_above n (left p) j no_node c in_left)
-
-          pub numbers_rest : (n : ℕ) → climbing n (left p) ≡ true → w.node ≤ 240 → b ≡ true
-          numbers_rest n c l = one_more_lem ∙ numbers_low n (left p) j no_node c in_left (rw here l)
+      pub numbers_rest : (n : ℕ) → climbing n (left p) ≡ true → w.node ≤ 240 → b ≡ true
+      numbers_rest n c l = one_more_lem ∙ numbers_low n (left p) j no_node c in_left (rw here l)
 
   -- whether what is left climbs, and whether it is before now, as the whole
   module _ (i n : ℕ) (b : Bool) (e : b ≡ climbing n (left i)) where

@@ -10,11 +10,11 @@ use borrow.Author.Tests.{leb-true}
 use lib.Dec.{leb}
 use lib.ListN.{length, get_or, take}
 use lib.Seq.{get_or-take, length-take-le}
-use Rattle.types.specs.Pick.{both}
+use Rattle.types.specs.Pick.{both, all_of}
 use Rattle.types.specs.Types.{is_node}
 use Rattle.types.proofs.Tests.{both_first, both_second, either_cases}
 use Rattle.watched.specs.declared.nodes.WatchedNode.{WatchedNode}
-use Rattle.watched.specs.Watched.{all_of, ascending, in_time, fits, well_formed, no_node, watched_of}
+use Rattle.watched.specs.Watched.{ascending, in_time, fits, well_formed, no_node, watched_of}
 use Rattle.watched.specs.Nodes.{node_at, nodes_of}
 use Rattle.watched.proofs.Lists.{whole}
 use Rattle.watched.proofs.Watching.{places, node_at_lem}

@@ -9,15 +9,16 @@ use native.Mathlib.Numerals.{add-one}
 use lib.Dec.{eqb, leb, ltb}
 use lib.ListN.{length, get_or, set, take, drop, take-append-drop, length-append, drop_of_length-le}
 use lib.Seq.{length-take-le, take-suc, drop-cons, append_snoc, set-append_left, get_or-take, set_at, get_or_at, take_at}
-use borrow.Author.Tests.{ltb-false, le-leb, lt-leb, leb-true}
+use borrow.Author.Tests.{ltb-true, ltb-false, le-leb, lt-leb, leb-true}
 use Rattle.std.proofs.lemmas.List.{length-map, map-append}
-use Rattle.types.specs.Pick.{pick, both, either}
+use Rattle.types.specs.Pick.{pick, both, either, all_of}
 use Rattle.types.specs.Types.{is_node}
+use Rattle.types.proofs.Tests.{both_false}
 use Rattle.entries.specs.Ring.{listed}
 use Rattle.entries.proofs.Rings.{listed_long}
 use Rattle.watched.specs.declared.nodes.WatchedNode.{WatchedNode}
 use Rattle.watched.specs.Nodes.{rising}
-use Rattle.watched.specs.Watched.{all_of, ascending, fits, well_formed, no_node, heard_now, is_watched, heard_at, place_of, watched_of, heard_first}
+use Rattle.watched.specs.Watched.{ascending, fits, well_formed, no_node, heard_now, is_watched, heard_at, place_of, watched_of, heard_first}
 
 -- the first k nodes of an array that has as many
 pub watched_take : (ns : List WatchedNode) (k : ℕ) → k ≤ length ns → watched_of ns k ≡ take k ns
@@ -49,10 +50,6 @@ rising_above n (w ∷ ws) =
     ∙ swap (ltb n w.node) (fits w) (above w.node ws) (all_of fits ws)
 
 -- a node within its limits has a number above 0
-never : (a : Bool) → both a false ≡ false
-never true = refl
-never false = refl
-
 above_zero : (w : WatchedNode) (u v : Bool) → both (both (ltb 0 w.node) u) (both (fits w) v) ≡ both u (both (fits w) v)
 above_zero w u v = by (ltb 0 w.node) refl
   where
@@ -62,7 +59,7 @@ above_zero w u v = by (ltb 0 w.node) refl
 
     by : (b : Bool) → ltb 0 w.node ≡ b → both (both b u) (both (fits w) v) ≡ both u (both (fits w) v)
     by true e = refl
-    by false e = rw (none w.node (ltb-false 0 w.node e)) (sym (never u))
+    by false e = rw (none w.node (ltb-false 0 w.node e)) (sym (both_false u))
 
 pub rising_all : (ws : List WatchedNode) → rising 0 ws ≡ both (ascending ws) (all_of fits ws)
 rising_all [] = refl
@@ -188,25 +185,28 @@ module _ (ns : List WatchedNode) (k : ℕ) (long : length ns ≡ 32) (few : k �
   pub each_nodes : (f : WatchedNode → WatchedNode) → watched_of (map f (take k ns) ++ drop k ns) k ≡ map f (watched_of ns k)
   each_nodes f = front ns (map f (take k ns)) k (length-map (take k ns) f ∙ taken_long) ∙ ap (map f) (sym whole)
 
+  -- whether a node is watched, by its place
+  module _ (n p : ℕ) (e : p ≡ place_of n (watched_of ns k)) where
+    at_place : p ≡ place_of n (take k ns)
+    at_place = e ∙ ap (place_of n) whole
+
+    pub watched_by : ltb p k ≡ is_watched n (watched_of ns k)
+    watched_by = by (ltb p k) refl
+      where
+        by : (b : Bool) → ltb p k ≡ b → b ≡ is_watched n (watched_of ns k)
+        by true c = sym (rw (whole) (place_inside n (take k ns) (rw (← at_place, taken_long) (ltb-true p k c))))
+        by false c = sym (rw (whole) (place_outside n (take k ns) (rw (← at_place, taken_long) (ltb-false p k c))))
+
   module _ (n t : ℕ) where
     pub heard_nodes : watched_of (heard_first n t k ns) k ≡ heard_at n t (watched_of ns k)
     heard_nodes = front ns (heard_at n t (take k ns)) k (heard_long n t (take k ns) ∙ taken_long) ∙ ap (heard_at n t) (sym whole)
 
     module _ (p : ℕ) (e : p ≡ place_of n (watched_of ns k)) where
-      at_place : p ≡ place_of n (take k ns)
-      at_place = e ∙ ap (place_of n) whole
-
-      pub watched_there : p < k → is_watched n (watched_of ns k) ≡ true
-      watched_there h = rw (whole) (place_inside n (take k ns) (rw (← at_place, taken_long) h))
-
-      pub watched_nowhere : k ≤ p → is_watched n (watched_of ns k) ≡ false
-      watched_nowhere h = rw (whole) (place_outside n (take k ns) (rw (← at_place, taken_long) h))
-
       pub heard_stored : (d : WatchedNode) → p < k → set ns p (heard_now t (get_or ns p d)) ≡ heard_first n t k ns
       heard_stored d h =
-          let l : place_of n (take k ns) < length (take k ns) = rw (← at_place, taken_long) h in
+          let l : place_of n (take k ns) < length (take k ns) = rw (← at_place n p e, taken_long) h in
           let s : heard_at n t (take k ns) ≡ set (take k ns) p (heard_now t (get_or ns p d)) =
-          rw (at_place, ← get_or-take k ns (place_of n (take k ns)) d (rw (← at_place) h)) (heard_set n t (take k ns) d l) in
+          rw (at_place n p e, ← get_or-take k ns (place_of n (take k ns)) d (rw (← at_place n p e) h)) (heard_set n t (take k ns) d l) in
           sym (ap (λ (l : List WatchedNode). l ++ drop k ns) s
           ∙ sym (set-append_left (take k ns) (drop k ns) p (heard_now t (get_or ns p d)) (rw taken_long h))
           ∙ ap (λ (l : List WatchedNode). set l p (heard_now t (get_or ns p d))) (take-append-drop k ns))

@@ -10,17 +10,17 @@ use lib.Bits.{bit_or, or_lt, or_comm, or_add_and, and_le_r}
 use lib.Dec.{eqb, leb, ltb}
 use lib.ListN.{get_or, take, drop}
 use borrow.Author.Tests.{le-leb, lt-leb, leb-true, leb-false, lt-ltb, ltb-true, eq-eqb, ne_eqb, eqb-true, eqb-false}
-use Rattle.types.specs.Pick.{pick, both}
-use Rattle.types.proofs.Tests.{both_first}
+use Rattle.types.specs.Pick.{pick, both, all_of}
+use Rattle.types.proofs.Tests.{both_first, both_false}
 use Rattle.watched.specs.declared.nodes.WatchedNode.{WatchedNode}
 use Rattle.watched.specs.declared.nodes.Climbed.{Climbed}
 use Rattle.std.specs.declared.option.Option.{Option}
 use Rattle.std.specs.declared.option.Option.TheVariants.{Some, None}
-use Rattle.watched.specs.Watched.{latest, in_time, all_of, timed, heard_now, heard_at, place_of, watched_of}
+use Rattle.watched.specs.Watched.{latest, in_time, timed, heard_now, heard_at, place_of, watched_of}
 use Rattle.watched.specs.Nodes.{node_at, nodes_of, climbing, numbered, never, sooner_by, soonest, found_of}
 use Rattle.watched.specs.Climb.{one_less, sum_of, three_before, climbed, over, climb_of, climbed_of, first_heard, heard_climbed}
 use Rattle.watched.proofs.Lists.{at_end, whole}
-use Rattle.watched.proofs.Climbing.{both_false, both_assoc, climb_head, not_climbing, not_numbered, is_rising}
+use Rattle.watched.proofs.Climbing.{both_assoc, climb_head, not_climbing, not_numbered, is_rising}
 use Rattle.watched.proofs.Watching.{places, turn as turn_at, turn_read, sooner_idle, sooner_unheard, both_up, tried_unformed, tried_formed, formed_begins, find_unformed, find_formed}
 
 -- the walk in words: what is left gives what the whole gives
@@ -106,7 +106,7 @@ module _ (s : ℕ) (w : WatchedNode) (h : s ≤ never) where
           ∙ awaits w.timeout w.last_heard (omega (arith, t)) (omega (arith, l)) in
           both_up s w t l ∙ stopped s (w.last_heard + w.timeout + 1) h ∙ ap (min s) (sym late)
 
-joined : (a x : ℕ) → min (sum_of a 3) (sum_of x 3) ≡ sum_of (min a x) 3
+pub joined : (a x : ℕ) → min (sum_of a 3) (sum_of x 3) ≡ sum_of (min a x) 3
 joined a x = omega arith
 
 regrouped : (s a b : ℕ) → min (min s a) b ≡ min s (min a b)
@@ -312,25 +312,21 @@ module _ (ns : List ℕ) (k : ℕ) (below : k ≤ 32) (p n : ℕ) (r : Climbed) 
   climbed_late s h = climbed_not s (climbs_late ns k below 0 p n r e h)
 
 -- the first of the nodes from the place p on heard at t
-module _ (ns : List ℕ) (k : ℕ) (below : k ≤ 32) (p n s t : ℕ) where
-  pub first_none : k ≤ p → Some s ≡ heard_climbed n s t (left ns k below p)
-  first_none h = sym (ap (heard_climbed n s t) (at_end (nodes_of ns) k (places ns) below p h))
+module _ (ns : List ℕ) (k : ℕ) (below : k ≤ 32) (p n s t : ℕ) (inside : p < k) (w : WatchedNode) (is : w ≡ node_at ns p) (z : Bool) (f : z ≡ both (ltb n w.node) (timed w)) where
+  abbrev heard_if : Bool → Option ℕ
+  heard_if z =
+      pick (both z (climbing w.node (left ns k below (p + 1))))
+      (Some (soonest (sooner_by s (heard_now t w)) (left ns k below (p + 1)))) None
 
-  module _ (inside : p < k) (w : WatchedNode) (is : w ≡ node_at ns p) (z : Bool) (f : z ≡ both (ltb n w.node) (timed w)) where
-    abbrev heard_if : Bool → Option ℕ
-    heard_if z =
-        pick (both z (climbing w.node (left ns k below (p + 1))))
-        (Some (soonest (sooner_by s (heard_now t w)) (left ns k below (p + 1)))) None
+  first_turn : (y : Bool) → z ≡ y → heard_climbed n s t (left ns k below p) ≡ heard_if y
+  first_turn y h = ap (heard_climbed n s t) (turn_read ns k below p inside w is) ∙ ap heard_if (sym f ∙ h)
 
-    first_turn : (y : Bool) → z ≡ y → heard_climbed n s t (left ns k below p) ≡ heard_if y
-    first_turn y h = ap (heard_climbed n s t) (turn_read ns k below p inside w is) ∙ ap heard_if (sym f ∙ h)
+  pub first_stops : z ≡ false → None ≡ heard_climbed n s t (left ns k below p)
+  first_stops h = sym (first_turn false h)
 
-    pub first_stops : z ≡ false → None ≡ heard_climbed n s t (left ns k below p)
-    first_stops h = sym (first_turn false h)
-
-    pub first_next :
-        z ≡ true → (x : ℕ) → x ≡ sooner_by s (heard_now t w) → climbed_of w.node x (left ns k below (p + 1)) ≡ heard_climbed n s t (left ns k below p)
-    first_next h x g = ap (λ (x : ℕ). climbed_of w.node x (left ns k below (p + 1))) g ∙ sym (first_turn true h)
+  pub first_next :
+      z ≡ true → (x : ℕ) → x ≡ sooner_by s (heard_now t w) → climbed_of w.node x (left ns k below (p + 1)) ≡ heard_climbed n s t (left ns k below p)
+  first_next h x g = ap (λ (x : ℕ). climbed_of w.node x (left ns k below (p + 1))) g ∙ sym (first_turn true h)
 
 -- the node sought among all: number 3 by climbing and by the numbers, its place, and the soonest moment with it heard at t
 module _ (ns : List ℕ) (k : ℕ) (below : k ≤ 32) (m t : ℕ) (r : Climbed) (e : r ≡ climb_of m (climbed 0 0 0 never) (left ns k below 0)) where

@@ -1,6 +1,6 @@
 -- The watched nodes in words: what is read at a place, and what a time written makes of the nodes. All else is by the laws of lists of nodes (Lists).
 -- Assumes nothing.
-use Prim.Native.Nat.{ℕ, zero, suc, ◌+◌, ◌*◌, ◌-◌, ◌%◌, ◌<◌, ◌≤◌, min}
+use Prim.Native.Nat.{ℕ, zero, suc, ◌+◌, ◌*◌, ◌-◌, ◌<◌, ◌≤◌, min}
 use mathlib.Core.Path.{◌≡◌, refl, sym, ap, ap₂, ◌∙◌}
 use mathlib.Core.Bool.{Bool, true, false}
 use mathlib.Core.List.{List, ◌∷◌}
@@ -8,14 +8,14 @@ use native.Mathlib.Omega.{arith}
 use lib.Dec.{eqb, leb, ltb}
 use lib.ListN.{length, get_or, set, take, drop}
 use lib.Seq.{get_or-set_same, get_or-set_other}
-use borrow.Author.Tests.{lt-ltb, le-ltb, lt-leb, le-leb, leb-true, eqb-true, eq-eqb, ne_eqb}
-use Rattle.types.specs.Pick.{pick, both, either}
+use borrow.Author.Tests.{lt-ltb, le-ltb, leb-true, eqb-true, eq-eqb}
+use Rattle.types.specs.Pick.{pick, both, all_of}
 use Rattle.entries.specs.Ring.{listed}
 use Rattle.entries.proofs.Rings.{listed_long, listed_same}
 use Rattle.watched.specs.declared.nodes.WatchedNode.{WatchedNode}
 use Rattle.types.specs.Types.{is_node}
 use Rattle.types.proofs.Tests.{both_first, both_second}
-use Rattle.watched.specs.Watched.{latest, in_time, all_of, fits, well_formed, no_node, heard_now, heard_at, watched_node, watched_of, place_of, Run, run, well_lent}
+use Rattle.watched.specs.Watched.{latest, in_time, fits, well_formed, no_node, heard_now, heard_at, watched_node, watched_of, place_of, Run, run, well_lent}
 use Rattle.watched.proofs.Lists as Lists
 use Rattle.watched.proofs.Lists.{too_many, tests_begin, from_here, at_end}
 use Rattle.std.specs.declared.option.Option.{Option}
@@ -76,26 +76,11 @@ module _ (b r q : Bool) (s : Option ℕ) (a : Option Seen) (e : a ≡ pick b (So
       by true x = (refl, cc)
       by false x = (cc, cc)
 
--- the numbers of nodes above 240
-pub no_high_node : (n : ℕ) → 240 < n → 2 < n % 253 → false ≡ is_node n
-no_high_node n h d = sym (ap₂ (λ (a b : Bool). either (both (leb 1 n) a) b) (lt-leb n 240 h) (by (leb 253 n) refl) ∙ low (leb 1 n))
-  where
-    low : (a : Bool) → either (both a false) false ≡ false
-    low true = refl
-    low false = refl
-
-    by : (b : Bool) → leb 253 n ≡ b → both b (leb n 255) ≡ false
-    by true e = let g : 253 ≤ n = leb-true 253 n e in lt-leb n 255 (omega (arith, g, d))
-    by false e = refl
-
 -- the times of a node that passed number 3
 pub times_fit : (w : WatchedNode) → fits w ≡ true → (w.timeout ≤ latest) × (w.last_heard ≤ latest)
 times_fit w f =
     let b : both (in_time w.timeout) (in_time w.last_heard) ≡ true = both_second (is_node w.node) _ f in
     (leb-true w.timeout latest (both_first (in_time w.timeout) _ b), leb-true w.last_heard latest (both_second (in_time w.timeout) _ b))
-
-pub follows_fit : (n : ℕ) (w : WatchedNode) (z : Bool) → z ≡ both (ltb n w.node) (fits w) → z ≡ true → (w.timeout ≤ latest) × (w.last_heard ≤ latest)
-follows_fit n w z f h = times_fit w (both_second (ltb n w.node) (fits w) (sym f ∙ h))
 
 -- the soonest moment with one more node, by its tests
 module _ (s : ℕ) (w : WatchedNode) where
@@ -119,23 +104,10 @@ module _ (s : ℕ) (w : WatchedNode) where
       pub both_up : sooner_by s w ≡ min s late
       both_up = ap₂ sooner_if timed_up (lt-ltb 0 w.last_heard (omega arith))
 
-      pub sooner_this : late < s → late ≡ sooner_by s w
-      sooner_this h = let m : late ≡ min s late = omega arith in m ∙ sym both_up
-
-      pub sooner_kept : s ≤ late → s ≡ sooner_by s w
-      sooner_kept h = let m : s ≡ min s late = omega arith in m ∙ sym both_up
-
 -- a node that is not before now, by its tests
 module _ (t : ℕ) (w : WatchedNode) where
   pub before_idle : w.timeout ≡ 0 → true ≡ not_before t w
   before_idle h = rw (le-ltb 0 w.timeout (omega arith))
-
-  module _ (timed : w.timeout ≡ 0 → ⊥) where
-    pub before_unheard : w.last_heard ≡ 0 → true ≡ not_before t w
-    before_unheard h = rw (lt-ltb 0 w.timeout (omega arith), le-ltb 0 w.last_heard (omega arith))
-
-    pub before_tested : (w.last_heard ≡ 0 → ⊥) → leb w.last_heard t ≡ not_before t w
-    before_tested h = rw (lt-ltb 0 w.timeout (omega arith), lt-ltb 0 w.last_heard (omega arith))
 
   -- one that rests is not
   pub rests_heard : rests t w ≡ true → not_before t w ≡ true
@@ -148,38 +120,6 @@ module _ (t : ℕ) (w : WatchedNode) where
           some : (a : Bool) {c : Bool} → c ≡ true → pick a c true ≡ true
           some true g = g
           some false g = refl
-
--- a node that rests, by its tests
-module _ (t : ℕ) (w : WatchedNode) where
-  abbrev o : ℕ
-  o = w.timeout
-
-  abbrev l : ℕ
-  l = w.last_heard
-
-  abbrev rests_by : Bool → Bool → Bool → Bool → Bool
-  rests_by a b c d = both a (pick b true (both c d))
-
-  pub rests_unheard : l ≡ 0 → false ≡ rests t w
-  rests_unheard h = sym (ap (λ (a : Bool). rests_by a (eqb o 0) (leb l t) (leb (t - l) o)) (le-ltb 0 l (omega arith)))
-
-  module _ (heard : l ≡ 0 → ⊥) where
-    up : ltb 0 l ≡ true
-    up = lt-ltb 0 l (omega arith)
-
-    pub rests_idle : o ≡ 0 → true ≡ rests t w
-    rests_idle h = sym (ap₂ (λ (a b : Bool). rests_by a b (leb l t) (leb (t - l) o)) up (eq-eqb o 0 h))
-
-    module _ (timed : o ≡ 0 → ⊥) where
-      pub rests_before : t < l → false ≡ rests t w
-      rests_before h =
-          sym (ap₂ (λ (a b : Bool). rests_by a b (leb l t) (leb (t - l) o)) up (ne_eqb o 0 timed)
-          ∙ ap (λ (c : Bool). both c (leb (t - l) o)) (lt-leb l t h))
-
-      pub rests_tested : l ≤ t → leb (t - l) o ≡ rests t w
-      rests_tested h =
-          sym (ap₂ (λ (a b : Bool). rests_by a b (leb l t) (leb (t - l) o)) up (ne_eqb o 0 timed)
-          ∙ ap (λ (c : Bool). both c (leb (t - l) o)) (le-leb l t h))
 
 -- the number of a run that passes number 3 is within its places
 pub lent_inside : (r : Run) → well_lent r ≡ true → r.number ≤ length r.places

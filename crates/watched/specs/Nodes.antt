@@ -2,12 +2,12 @@
 -- has is one that number 3 declines.
 -- Assumes nothing.
 use Rattle.std.specs.Prelude.{ℕ, ◌+◌, ◌*◌, ◌-◌, min, Bool, true, List, [], ◌∷◌, eqb, leb, ltb, get_or}
-use Rattle.types.specs.Pick.{pick, both}
+use Rattle.types.specs.Pick.{pick, both, all_of}
 use Rattle.types.specs.Types.{is_node}
 use Rattle.entries.specs.Ring.{listed}
 use Rattle.watched.specs.declared.nodes.WatchedNode.{WatchedNode}
 use Rattle.watched.specs.declared.record.NodeRecord.{NodeRecord}
-use Rattle.watched.specs.Watched.{all_of, timed, fits, well_formed, watched_node, heard_at, place_of}
+use Rattle.watched.specs.Watched.{timed, fits, well_formed, watched_node, heard_at, place_of}
 use Rattle.std.specs.declared.option.Option.{Option}
 use Rattle.std.specs.declared.option.Option.TheVariants.{Some, None}
 use Rattle.watched.specs.declared.nodes.Seen.{Seen}

@@ -1,7 +1,7 @@
 -- The watched nodes, as a list: what number 3 declines, and what start and heard make of it.
 -- Assumes nothing.
-use Rattle.std.specs.Prelude.{ℕ, suc, ◌-◌, Bool, true, false, List, [], ◌∷◌, ◌++◌, map, eqb, leb, ltb, length, get_or, take, drop, replicate}
-use Rattle.types.specs.Pick.{pick, both, either}
+use Rattle.std.specs.Prelude.{ℕ, suc, ◌-◌, Bool, true, List, [], ◌∷◌, ◌++◌, map, eqb, leb, ltb, length, get_or, take, drop, replicate}
+use Rattle.types.specs.Pick.{pick, both, all_of, any_of}
 use Rattle.types.specs.Types.{is_node}
 use Rattle.entries.specs.Ring.{listed}
 use Rattle.watched.specs.declared.nodes.WatchedNode.{WatchedNode}
@@ -12,15 +12,6 @@ latest = 4611686018427387903
 
 abbrev pub in_time : ℕ → Bool
 in_time t = leb t latest
-
--- each item of a list passes a test, some item does: by `both` and `either`, the words of the tests here, which std's are not by computation
-abbrev pub all_of : {A : Type 0} → (A → Bool) → List A → Bool
-all_of p [] = true
-all_of p (x ∷ xs) = both (p x) (all_of p xs)
-
-abbrev pub some_of : {A : Type 0} → (A → Bool) → List A → Bool
-some_of p [] = false
-some_of p (x ∷ xs) = either (p x) (some_of p xs)
 
 -- "strictly ascending"
 abbrev pub ascending : List WatchedNode → Bool
@@ -47,7 +38,7 @@ abbrev pub heard_now : ℕ → WatchedNode → WatchedNode
 heard_now t w = watched_node w.node w.timeout t
 
 abbrev pub is_watched : ℕ → List WatchedNode → Bool
-is_watched n ws = some_of (λ (w : WatchedNode). eqb w.node n) ws
+is_watched n ws = any_of (λ (w : WatchedNode). eqb w.node n) ws
 
 -- "a watched node's last-heard time set"
 abbrev pub heard_at : ℕ → ℕ → List WatchedNode → List WatchedNode

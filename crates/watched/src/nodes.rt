@@ -1,7 +1,8 @@
 // The watched nodes in lent words, three a node: its number, its timeout, when it was last heard. 32 places, of which the first so many are
 // watched.
 ghost use Rattle.std.specs.Prelude.{◌≡◌, ◌≤◌, ◌<◌, ◌+◌, ◌*◌, set, true, MatchOption};
-ghost use Rattle.watched.specs.Watched.{all_of, well_formed, watched_of};
+ghost use Rattle.types.specs.Pick.{all_of};
+ghost use Rattle.watched.specs.Watched.{well_formed, watched_of};
 ghost use Rattle.watched.specs.Climb.{climbed, over, climb_of, climbed_of, heard_climbed, nodes_from};
 ghost use Rattle.watched.specs.Nodes.{never, moment_of, climbing, numbered, roused_from, nodes_tried, found_of, seen_of, node_of, nodes_of};
 

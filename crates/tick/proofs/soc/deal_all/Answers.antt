@@ -3,10 +3,10 @@
 use mathlib.Core.Bool.{true}
 use mathlib.Core.List.{[], ◌∷◌}
 use mathlib.Core.Path.{◌≡◌, ap, sym, ◌∙◌}
+use Rattle.types.specs.Pick.{all_of}
 use Rattle.types.specs.Errors.{reported}
 use Rattle.types.specs.declared.frame.error.types.DllErrors.{DllErrors}
 use Rattle.types.proofs.Tests.{both_first}
-use Rattle.watched.specs.Watched.{all_of}
 use Rattle.heartbeats.specs.Parts.{is_quiet}
 use Rattle.tick.proofs.Dealings.{walk_none, walk_stops, walk_goes_on, walk_last}
 use Rattle.tick.proofs.soc.deal_all.Goals as goal

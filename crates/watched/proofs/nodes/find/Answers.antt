@@ -4,7 +4,8 @@ use Prim.Native.Nat.{◌≤◌}
 use mathlib.Core.Path.{◌≡◌, sym, ◌∙◌}
 use mathlib.Core.Bool.{true}
 use native.Mathlib.Omega.{arith}
-use Rattle.watched.specs.Watched.{in_time, all_of}
+use Rattle.types.specs.Pick.{all_of}
+use Rattle.watched.specs.Watched.{in_time}
 use Rattle.std.proofs.lemmas.Option.{MatchOption-at_none, MatchOption-at_some}
 use Rattle.watched.specs.Nodes.{climbing, numbered, never}
 use Rattle.watched.specs.Climb.{sum_of, climbed, climb_of, heard_climbed, nodes_from}

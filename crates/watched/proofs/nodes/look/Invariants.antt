@@ -1,7 +1,8 @@
 -- `watched::nodes::look` meets its contract: node by node up to one that does not rest. The invariant: what is left gives what the whole gives.
 -- Assumes nothing.
 use mathlib.Core.Path.{◌≡◌}
-use Rattle.watched.specs.Watched.{all_of, well_formed, watched_of}
+use Rattle.types.specs.Pick.{all_of}
+use Rattle.watched.specs.Watched.{well_formed, watched_of}
 use Rattle.watched.specs.Nodes.{nodes_of, not_before, rests, rising, never, soonest}
 use Rattle.watched.specs.Climb.{nodes_from}
 use Rattle.watched.proofs.nodes.look.Given as goal

@@ -3,9 +3,9 @@
 use Prim.Native.Nat.{◌≤◌}
 use mathlib.Core.Path.{sym, ap, ◌∙◌}
 use native.Mathlib.Omega.{arith}
+use Rattle.types.specs.Pick.{all_of}
 use Rattle.std.specs.declared.option.Option.TheVariants.{Some}
 use Rattle.std.proofs.lemmas.Option.{MatchOption-at_none, MatchOption-at_some}
-use Rattle.watched.specs.Watched.{all_of}
 use Rattle.watched.specs.Nodes.{numbered, never}
 use Rattle.watched.specs.Climb.{climbed_of, nodes_from}
 use Rattle.watched.proofs.Watching.{many, tried_unformed, tried_formed, formed_begins, soonest_begins, nodes_unformed, nodes_formed}

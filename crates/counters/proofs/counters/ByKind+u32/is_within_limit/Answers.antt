@@ -6,8 +6,8 @@ use lib.Dec.{leb}
 use Rattle.std.specs.List.{list_all}
 use Rattle.std.proofs.lemmas.Iterator.{YieldsList-from_slice}
 use Rattle.std.proofs.lemmas.Iterator.Search.{all_from_yields_List}
-use Rattle.types.specs.Pick.{both}
-use Rattle.counters.specs.Counters.{counter_kinds, threshold_for, all_of, Thresholds, thresholds_fit}
+use Rattle.types.specs.Pick.{both, all_of}
+use Rattle.counters.specs.Counters.{counter_kinds, threshold_for, Thresholds, thresholds_fit}
 use Rattle.counters.specs.declared.counters.CounterKind.{CounterKind}
 use Rattle.counters.proofs.counters.ByKind+u32.is_within_limit.Goals as goal
 

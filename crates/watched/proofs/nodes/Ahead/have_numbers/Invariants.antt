@@ -3,7 +3,7 @@
 use Prim.Native.Nat.{◌-◌}
 use mathlib.Core.Path.{◌≡◌}
 use lib.ListN.{take}
-use Rattle.watched.specs.Watched.{all_of}
+use Rattle.types.specs.Pick.{all_of}
 use Rattle.watched.specs.Nodes.{numbered}
 use Rattle.watched.specs.Climb.{nodes_from}
 use Rattle.watched.proofs.nodes.Ahead.have_numbers.Given as goal

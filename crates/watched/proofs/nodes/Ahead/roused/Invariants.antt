@@ -1,8 +1,7 @@
 -- `watched::nodes::Ahead::roused` meets its contract: node by node, then the numbers. The invariant: what is left gives what the whole gives.
 -- Assumes nothing.
 use mathlib.Core.Path.{◌≡◌}
-use Rattle.types.specs.Pick.{both}
-use Rattle.watched.specs.Watched.{all_of}
+use Rattle.types.specs.Pick.{both, all_of}
 use Rattle.watched.specs.Nodes.{not_before, climbing}
 use Rattle.watched.specs.Climb.{nodes_from}
 use Rattle.watched.proofs.nodes.Ahead.roused.Given as goal
