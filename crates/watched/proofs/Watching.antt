@@ -18,6 +18,7 @@ use Rattle.types.proofs.Tests.{both_first, both_second}
 use Rattle.watched.specs.Watched.{latest, in_time, fits, well_formed, no_node, heard_now, heard_at, watched_node, watched_of, place_of, Run, run, well_lent}
 use Rattle.watched.proofs.Lists as Lists
 use Rattle.watched.proofs.Lists.{too_many, tests_begin, from_here, at_end}
+use Rattle.std.specs.Bool.{then_some}
 use Rattle.std.specs.declared.option.Option.{Option}
 use Rattle.std.specs.declared.option.Option.TheVariants.{Some, None}
 use Rattle.watched.specs.declared.nodes.Seen.{Seen}
@@ -40,6 +41,11 @@ listed_set f g (suc n) zero h same =
 listed_set f g (suc n) (suc i) h same =
     rw (same 0 (λ e. omega arith))
     (ap (λ (l : List _). f 0 ∷ l) (listed_set (λ (j : ℕ). f (suc j)) (λ (j : ℕ). g (suc j)) n i (omega arith) (λ j apart. same (suc j) (λ e. apart (omega arith)))))
+
+-- what a last test lets pass, by both its cases
+pub by_test : {A : Type 0} (b : Bool) (x : A) (o : Option A) → (b ≡ true → Some x ≡ o) → (b ≡ false → None ≡ o) → then_some b x ≡ o
+by_test true x o f g = f refl
+by_test false x o f g = g refl
 
 -- what an answer of climb_from, roused, try_nodes or look says
 module _ {A : Type 0} (b : Bool) (s : A) (a : Option A) (e : a ≡ pick b (Some s) None) where

@@ -144,10 +144,7 @@ impl<'a> Ahead<'a> {
         if climbed.place < self.count {
             return None;
         }
-        if !in_time(climbed.times) {
-            return None;
-        }
-        Some(before.min(climbed.soonest.saturating_add(3)))
+        in_time(climbed.times).then_some(before.min(climbed.soonest.saturating_add(3)))
     }
 
     // Whether all, which climb, have a node's number: from the last one back to one of at most 240, since those before it are below it.
@@ -200,10 +197,7 @@ impl<'a> Ahead<'a> {
             heard = heard && node.heard_by(time);
             above = node.node;
         }
-        if !self.have_numbers() {
-            return None;
-        }
-        Some(heard)
+        self.have_numbers().then_some(heard)
     }
 }
 
@@ -213,10 +207,7 @@ pub fn try_nodes(nodes: &NodeWords, count: usize) -> Option<Option<u64>>
 {
     let all = Ahead::all(nodes, count)?;
     let soonest = all.climb_from(NEVER)?;
-    if !all.have_numbers() {
-        return None;
-    }
-    Some(moment(soonest))
+    all.have_numbers().then_some(moment(soonest))
 }
 
 // Nodes that pass number 3, lent to be read.
@@ -245,10 +236,7 @@ pub fn find(nodes: &NodeWords, count: usize, node: u64, time: u64) -> Option<(us
     }
     let rest = all.behind(front.place, front.last);
     let soonest = rest.hear_first(front.soonest.saturating_add(3), time)?;
-    if !all.have_numbers() {
-        return None;
-    }
-    Some((front.place, soonest))
+    all.have_numbers().then_some((front.place, soonest))
 }
 
 // Whether some of well formed nodes does not rest, so that a tick is to look at them, and then whether its time is before no last-heard time (number 6);

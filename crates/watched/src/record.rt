@@ -34,7 +34,7 @@ impl From<WatchedNode> for NodeRecord {
 fn one_less(time: u64) -> u64
     ensures { result ≡ one_less time }
 {
-    if 0 < time { time - 1 } else { NEVER }
+    time.checked_sub(1).unwrap_or(NEVER)
 }
 
 impl NodeRecord {

@@ -9,7 +9,7 @@ use Rattle.watched.specs.Watched.{in_time}
 use Rattle.std.proofs.lemmas.Option.{MatchOption-at_none, MatchOption-at_some}
 use Rattle.watched.specs.Nodes.{climbing, numbered, never}
 use Rattle.watched.specs.Climb.{sum_of, climbed, climb_of, heard_climbed, nodes_from}
-use Rattle.watched.proofs.Watching.{many, find_unformed}
+use Rattle.watched.proofs.Watching.{by_test, many, find_unformed}
 use Rattle.watched.proofs.Walk.{seek_late, seek_unformed, seek_climbs, seek_unnumbered, seek_found}
 use Rattle.watched.proofs.nodes.find.Goals as goal
 
@@ -54,20 +54,6 @@ have_numbers-requires c =
     let h = c.hear_first.ensures ∙ (λ i. heard_climbed (b.3 i) c.saturating_add.result a.time (nodes_from (b.2 i) ((b.1 ∙ x.1) i) ((b.0 ∙ x.0) i))) in
     (λ i. climbing (x.3 i) (nodes_from (x.2 i) (x.1 i) (x.0 i))) ∙ seek_climbs a.nodes.now a.count k a.node a.time r f c.saturating_add.result s c.hear_first.result h t _ c.in_ok-soonest.was
 
-pub returns-then-not-have_numbers : goal.returns-then-not-have_numbers
-returns-then-not-have_numbers c =
-    let a = c.args in
-    let x = MatchOption-at_some _ _ _ c.in_ok-all.was c.all.ensures in
-    let k : a.count ≤ 32 = omega (arith, x.1, c.in_ok-all.all.few) in
-    let r = c.climb-front.result in
-    let f = c.climb-front.ensures ∙ (λ i. climb_of a.node (climbed (x.2 i) (x.3 i) 0 never) (nodes_from (x.2 i) (x.1 i) (x.0 i))) in
-    let t : in_time r.times ≡ true = sym c.in_time.ensures ∙ c.if-not-in_time.false in
-    let s : c.saturating_add.result ≡ sum_of r.soonest 3 = omega (arith, c.saturating_add.ensures) in
-    let b = c.behind-rest.ensures in
-    let h = c.hear_first.ensures ∙ (λ i. heard_climbed (b.3 i) c.saturating_add.result a.time (nodes_from (b.2 i) ((b.1 ∙ x.1) i) ((b.0 ∙ x.0) i))) in
-    let n = c.have_numbers.ensures ∙ (λ i. all_of numbered (nodes_from (x.2 i) (x.1 i) (x.0 i))) in
-    seek_unnumbered a.nodes.now a.count k a.node a.time r f c.saturating_add.result s c.hear_first.result h t _ c.in_ok-soonest.was (sym n ∙ c.if-not-have_numbers.true)
-
 pub returns : goal.returns
 returns c =
     let a = c.args in
@@ -80,4 +66,7 @@ returns c =
     let b = c.behind-rest.ensures in
     let h = c.hear_first.ensures ∙ (λ i. heard_climbed (b.3 i) c.saturating_add.result a.time (nodes_from (b.2 i) ((b.1 ∙ x.1) i) ((b.0 ∙ x.0) i))) in
     let n = c.have_numbers.ensures ∙ (λ i. all_of numbered (nodes_from (x.2 i) (x.1 i) (x.0 i))) in
-    seek_found a.nodes.now a.count k a.node a.time r f c.saturating_add.result s c.hear_first.result h t _ c.in_ok-soonest.was (sym n ∙ c.if-not-have_numbers.false)
+    c.then_some.ensures
+    ∙ by_test c.have_numbers.result _ _
+    (λ w. seek_found a.nodes.now a.count k a.node a.time r f c.saturating_add.result s c.hear_first.result h t _ c.in_ok-soonest.was (sym n ∙ w))
+    (λ w. seek_unnumbered a.nodes.now a.count k a.node a.time r f c.saturating_add.result s c.hear_first.result h t _ c.in_ok-soonest.was (sym n ∙ w))

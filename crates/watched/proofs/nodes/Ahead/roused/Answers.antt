@@ -4,6 +4,7 @@ use mathlib.Core.Path.{sym, ap, ◌∙◌}
 use Rattle.types.specs.Pick.{both}
 use Rattle.watched.specs.Nodes.{node_of, not_before}
 use Rattle.watched.specs.Climb.{nodes_from}
+use Rattle.watched.proofs.Watching.{by_test}
 use Rattle.watched.proofs.Climbing.{climbing_stops, climbing_next, climbing_ends, heard_all_next, heard_all_ends, not_climbing, not_numbered, is_rising, roused_not, roused_all}
 use Rattle.watched.proofs.nodes.Ahead.roused.Goals.{then-heard, else-heard}
 use Rattle.watched.proofs.nodes.Ahead.roused.Goals as goal
@@ -28,20 +29,14 @@ loop-i-preserved c =
           ]),
     )
 
-pub returns-then-not-have_numbers : goal.returns-then-not-have_numbers
-returns-then-not-have_numbers c =
-    let l = c.loop-i in
-    let s = c.args.self in
-    let ws = nodes_from s.place s.count s.nodes.now in
-    roused_not s.last ws c.args.time (not_numbered s.last ws
-    (climbing_ends s.nodes.now s.count s.few l.i l.above _ l.invariant.0 c.loop-i-test.false)
-    (sym c.have_numbers.ensures ∙ c.if-not-have_numbers.true))
-
 pub returns : goal.returns
 returns c =
     let l = c.loop-i in
     let s = c.args.self in
     let ws = nodes_from s.place s.count s.nodes.now in
-    roused_all s.last ws c.args.time l.heard (heard_all_ends s.nodes.now s.count s.few l.i c.args.time _ l.heard l.invariant.1 c.loop-i-test.false)
-    (is_rising s.last ws (climbing_ends s.nodes.now s.count s.few l.i l.above _ l.invariant.0 c.loop-i-test.false)
-    (sym c.have_numbers.ensures ∙ c.if-not-have_numbers.false))
+    let up = climbing_ends s.nodes.now s.count s.few l.i l.above _ l.invariant.0 c.loop-i-test.false in
+    c.then_some.ensures
+    ∙ by_test c.have_numbers.result _ _
+    (λ h. roused_all s.last ws c.args.time l.heard (heard_all_ends s.nodes.now s.count s.few l.i c.args.time _ l.heard l.invariant.1 c.loop-i-test.false)
+    (is_rising s.last ws up (sym c.have_numbers.ensures ∙ h)))
+    (λ h. roused_not s.last ws c.args.time (not_numbered s.last ws up (sym c.have_numbers.ensures ∙ h)))
