@@ -27,16 +27,12 @@ use Rattle.head.proofs.Laws.{register_written, object_written_lem, statistic_wri
 use Rattle.std.specs.Bool.{then_some}
 use Rattle.types.specs.Pick.{pick}
 use denote.Ref.{Bor}
-use Rattle.node.specs.Loaded.{bytes_named, byte_loaded, counter_loaded, object_loaded, ByteFits, values_loaded, load_words, LoadedIn}
+use Rattle.node.specs.Loaded.{bytes_named, number_loaded, object_loaded, ByteFits, values_loaded, load_words, LoadedIn}
 
 -- the number of words stays
-byte_long : (ws : List ℕ) (i : ℕ) (u : Option ℕ) → length (byte_loaded ws i u) ≡ length ws
-byte_long ws i (Some n) = length-set ws i n
-byte_long ws i None = refl
-
-counter_long : (ws : List ℕ) (i : ℕ) (u : Option ℕ) → length (counter_loaded ws i u) ≡ length ws
-counter_long ws i (Some n) = length-set ws i n
-counter_long ws i None = refl
+number_long : (ws : List ℕ) (i : ℕ) (u : Option ℕ) → length (number_loaded ws i u) ≡ length ws
+number_long ws i (Some n) = length-set ws i n
+number_long ws i None = refl
 
 object_long : (ws : List ℕ) (i : ℕ) (u : Option (Option ℕ)) → length (object_loaded ws i u) ≡ length ws
 object_long ws i (Some (Some n)) = length-set (set ws i 1) (i + 1) n ∙ length-set ws i 1
@@ -47,7 +43,7 @@ object_long ws i None = refl
 module _ (ws : List ℕ) (long : length ws ≡ 60) where
   register_loaded :
       (u : Option ℕ) → ByteFits u →
-      head_of (byte_loaded ws at.register u) ≡ head_with_od (head_of ws) (with_register (updated_byte (head_of ws).od.error_register u) (head_of ws).od)
+      head_of (number_loaded ws at.register u) ≡ head_with_od (head_of ws) (with_register (updated_byte (head_of ws).od.error_register u) (head_of ws).od)
   register_loaded (Some n) h = register_written ws long n h
   register_loaded None h = refl
 
@@ -60,7 +56,7 @@ module _ (ws : List ℕ) (long : length ws ≡ 60) where
 
   statistic_loaded :
       (s : Statistic) (u : Option ℕ) →
-      head_of (counter_loaded ws (at.statistic s) u) ≡ head_with_od (head_of ws) (with_statistic s (updated_counter (statistic_in s (head_of ws).od) u) (head_of ws).od)
+      head_of (number_loaded ws (at.statistic s) u) ≡ head_with_od (head_of ws) (with_statistic s (updated_counter (statistic_in s (head_of ws).od) u) (head_of ws).od)
   statistic_loaded s (Some n) = statistic_written ws long s n
   statistic_loaded Counter1 None = refl
   statistic_loaded Counter2 None = refl
@@ -84,18 +80,18 @@ pub values_loaded_lem :
     (head_of (values_loaded ws u) ≡ head_with_od (head_of ws) (updated (od_of ws) u)) × (length (values_loaded ws u) ≡ 60)
 unfolding head_of values_loaded updated
 values_loaded_lem ws l₀ u fits =
-    let w₁ = byte_loaded ws at.register u.error_register in
-    let l₁ : length w₁ ≡ 60 = byte_long ws at.register u.error_register ∙ l₀ in
+    let w₁ = number_loaded ws at.register u.error_register in
+    let l₁ : length w₁ ≡ 60 = number_long ws at.register u.error_register ∙ l₀ in
     let w₂ = object_loaded w₁ at.cycle u.cycle_time in
     let l₂ : length w₂ ≡ 60 = object_long w₁ at.cycle u.cycle_time ∙ l₁ in
     let w₃ = object_loaded w₂ at.tolerance u.tolerance in
     let l₃ : length w₃ ≡ 60 = object_long w₂ at.tolerance u.tolerance ∙ l₂ in
-    let w₄ = counter_loaded w₃ at.counter1 u.counter_1 in
-    let l₄ : length w₄ ≡ 60 = counter_long w₃ at.counter1 u.counter_1 ∙ l₃ in
-    let w₅ = counter_loaded w₄ at.counter2 u.counter_2 in
-    let l₅ : length w₅ ≡ 60 = counter_long w₄ at.counter2 u.counter_2 ∙ l₄ in
-    let w₆ = counter_loaded w₅ at.counter3 u.counter_3 in
-    let l₆ : length w₆ ≡ 60 = counter_long w₅ at.counter3 u.counter_3 ∙ l₅ in
+    let w₄ = number_loaded w₃ at.counter1 u.counter_1 in
+    let l₄ : length w₄ ≡ 60 = number_long w₃ at.counter1 u.counter_1 ∙ l₃ in
+    let w₅ = number_loaded w₄ at.counter2 u.counter_2 in
+    let l₅ : length w₅ ≡ 60 = number_long w₄ at.counter2 u.counter_2 ∙ l₄ in
+    let w₆ = number_loaded w₅ at.counter3 u.counter_3 in
+    let l₆ : length w₆ ≡ 60 = number_long w₅ at.counter3 u.counter_3 ∙ l₅ in
     let e₁ = register_loaded ws l₀ u.error_register fits in
     let e₂ = object_loaded_lem w₁ l₁ CycleTime u.cycle_time ∙ ap (object_by CycleTime u.cycle_time) e₁ in
     let e₃ = object_loaded_lem w₂ l₂ Tolerance u.tolerance ∙ ap (object_by Tolerance u.tolerance) e₂ in
@@ -103,27 +99,27 @@ values_loaded_lem ws l₀ u fits =
     let e₅ = statistic_loaded w₄ l₄ Counter2 u.counter_2 ∙ ap (statistic_by Counter2 u.counter_2) e₄ in
     let e₆ = statistic_loaded w₅ l₅ Counter3 u.counter_3 ∙ ap (statistic_by Counter3 u.counter_3) e₅ in (
       statistic_loaded w₆ l₆ Counter5 u.counter_5 ∙ ap (statistic_by Counter5 u.counter_5) e₆,
-      counter_long w₆ at.counter5 u.counter_5 ∙ l₆,
+      number_long w₆ at.counter5 u.counter_5 ∙ l₆,
     )
 
 -- the writers in their order
 pub values_in :
     (ws : List ℕ) → length ws ≡ 60 → (u : DictionaryUpdate) → (w₁ w₂ w₃ w₄ w₅ w₆ w₇ : List ℕ) →
-    (w₁ ≡ byte_loaded ws at.register u.error_register) × ByteFits u.error_register →
+    (w₁ ≡ number_loaded ws at.register u.error_register) × ByteFits u.error_register →
     w₂ ≡ object_loaded w₁ at.cycle u.cycle_time →
     w₃ ≡ object_loaded w₂ at.tolerance u.tolerance →
-    w₄ ≡ counter_loaded w₃ at.counter1 u.counter_1 →
-    w₅ ≡ counter_loaded w₄ at.counter2 u.counter_2 →
-    w₆ ≡ counter_loaded w₅ at.counter3 u.counter_3 →
-    w₇ ≡ counter_loaded w₆ at.counter5 u.counter_5 →
+    w₄ ≡ number_loaded w₃ at.counter1 u.counter_1 →
+    w₅ ≡ number_loaded w₄ at.counter2 u.counter_2 →
+    w₆ ≡ number_loaded w₅ at.counter3 u.counter_3 →
+    w₇ ≡ number_loaded w₆ at.counter5 u.counter_5 →
     (head_of w₇ ≡ head_with_od (head_of ws) (updated (od_of ws) u)) × (w₇ ≡ values_loaded ws u)
 unfolding values_loaded
 values_in ws long u w₁ w₂ w₃ w₄ w₅ w₆ w₇ e₁ e₂ e₃ e₄ e₅ e₆ e₇ =
     let e : w₇ ≡ values_loaded ws u =
-    e₇ ∙ ap (λ (l : List ℕ). counter_loaded l at.counter5 u.counter_5)
-    (e₆ ∙ ap (λ (l : List ℕ). counter_loaded l at.counter3 u.counter_3)
-    (e₅ ∙ ap (λ (l : List ℕ). counter_loaded l at.counter2 u.counter_2)
-    (e₄ ∙ ap (λ (l : List ℕ). counter_loaded l at.counter1 u.counter_1)
+    e₇ ∙ ap (λ (l : List ℕ). number_loaded l at.counter5 u.counter_5)
+    (e₆ ∙ ap (λ (l : List ℕ). number_loaded l at.counter3 u.counter_3)
+    (e₅ ∙ ap (λ (l : List ℕ). number_loaded l at.counter2 u.counter_2)
+    (e₄ ∙ ap (λ (l : List ℕ). number_loaded l at.counter1 u.counter_1)
     (e₃ ∙ ap (λ (l : List ℕ). object_loaded l at.tolerance u.tolerance)
     (e₂ ∙ ap (λ (l : List ℕ). object_loaded l at.cycle u.cycle_time) e₁.0))))) in
     (ap head_of e ∙ (values_loaded_lem ws long u e₁.1).0, e)

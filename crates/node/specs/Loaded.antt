@@ -14,13 +14,9 @@ use Rattle.head.specs.Words.{head_of}
 use Rattle.head.specs.Written.{object_written, history_written}
 
 -- a value that is named is written, and one that is kept is not
-abbrev pub byte_loaded : List ℕ → ℕ → Option ℕ → List ℕ
-byte_loaded ws i (Some n) = set ws i n
-byte_loaded ws i None = ws
-
-abbrev pub counter_loaded : List ℕ → ℕ → Option ℕ → List ℕ
-counter_loaded ws i (Some n) = set ws i n
-counter_loaded ws i None = ws
+abbrev pub number_loaded : List ℕ → ℕ → Option ℕ → List ℕ
+number_loaded ws i (Some n) = set ws i n
+number_loaded ws i None = ws
 
 abbrev pub object_loaded : List ℕ → ℕ → Option (Option ℕ) → List ℕ
 object_loaded ws i (Some v) = object_written ws i v
@@ -33,8 +29,8 @@ ByteFits None = Unit
 
 unfoldable pub values_loaded : List ℕ → DictionaryUpdate → List ℕ
 values_loaded ws u =
-    counter_loaded (counter_loaded (counter_loaded (counter_loaded
-    (object_loaded (object_loaded (byte_loaded ws at.register u.error_register) at.cycle u.cycle_time) at.tolerance u.tolerance)
+    number_loaded (number_loaded (number_loaded (number_loaded
+    (object_loaded (object_loaded (number_loaded ws at.register u.error_register) at.cycle u.cycle_time) at.tolerance u.tolerance)
     at.counter1 u.counter_1) at.counter2 u.counter_2) at.counter3 u.counter_3) at.counter5 u.counter_5
 
 unfoldable pub load_words : List ℕ → DictionaryUpdate → Option (List ℕ) → List ℕ

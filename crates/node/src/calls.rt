@@ -50,14 +50,14 @@ fn process_event(head: &mut Head, event: NmtEvent) -> NmtTaken
     ensures { Processed head.old event result head.new }
 {
     let answer = nmt_of(head).process_event(event);
-    let machine = answer.machine;
-    let errors = answer.errors;
-    let reset = answer.reset;
-    set_nmt(head, machine);
+    set_nmt(head, answer.machine);
     if is_reset(event) {
         forget(head);
     }
-    NmtTaken { errors, reset }
+    NmtTaken {
+        errors: answer.errors,
+        reset: answer.reset,
+    }
 }
 
 // An NMT event, by its number.
@@ -74,10 +74,8 @@ pub fn dll_event(head: &mut Head, event: u64, expect_preq: bool) -> Result<DllEr
 {
     let event = DllCsEvent::try_from(event)?;
     let answer = dll_of(head).process_event(event, state_at(head), expect_preq);
-    let machine = answer.machine;
-    let errors = answer.errors;
-    set_dll(head, machine);
-    Ok(errors)
+    set_dll(head, answer.machine);
+    Ok(answer.errors)
 }
 
 // Whether an error that counts for a kind crosses: of the counters, only that kind's is read and written.

@@ -3,7 +3,7 @@ ghost use Rattle.std.specs.Prelude.{◌≡◌};
 ghost use Rattle.node.specs.Steps.{updated};
 ghost use Rattle.head.specs.Places as at;
 ghost use Rattle.head.specs.Words.{od_of, head_of};
-ghost use Rattle.node.specs.Loaded.{byte_loaded, counter_loaded, object_loaded, ByteFits, values_loaded, bytes_named, LoadedIn};
+ghost use Rattle.node.specs.Loaded.{number_loaded, object_loaded, ByteFits, values_loaded, bytes_named, LoadedIn};
 ghost use Rattle.head.specs.Head.{head_with_od};
 
 use entries::error_history::ErrorHistory;
@@ -21,9 +21,9 @@ pub struct DictionaryUpdate {
     pub counter_5: Option<u32>,
 }
 
-// Three writers and no generic one: each is a line, with the value's own type.
+// A writer for each type of value and no generic one, which would take the line of each as a closure, seven times.
 fn load_register(head: &mut Head, update: Option<u8>)
-    ensures { (head.new ≡ byte_loaded head.old at.register update) × ByteFits update }
+    ensures { (head.new ≡ number_loaded head.old at.register update) × ByteFits update }
 {
     if let Some(n) = update {
         set_register(head, n);
@@ -39,7 +39,7 @@ fn load_object(head: &mut Head, object: Object, update: Option<Option<u32>>)
 }
 
 fn load_statistic(head: &mut Head, statistic: Statistic, update: Option<u32>)
-    ensures { head.new ≡ counter_loaded head.old (at.statistic statistic) update }
+    ensures { head.new ≡ number_loaded head.old (at.statistic statistic) update }
 {
     if let Some(n) = update {
         set_statistic(head, statistic, n);
@@ -51,20 +51,13 @@ fn load_values(head: &mut Head, values: DictionaryUpdate)
     ensures { (head_of head.new ≡ head_with_od (head_of head.old) (updated (od_of head.old) values))
         × (head.new ≡ values_loaded head.old values) }
 {
-    let register = values.error_register;
-    let cycle = values.cycle_time;
-    let tolerance = values.tolerance;
-    let c1 = values.counter_1;
-    let c2 = values.counter_2;
-    let c3 = values.counter_3;
-    let c5 = values.counter_5;
-    load_register(head, register);
-    load_object(head, Object::CycleTime, cycle);
-    load_object(head, Object::Tolerance, tolerance);
-    load_statistic(head, Statistic::Counter1, c1);
-    load_statistic(head, Statistic::Counter2, c2);
-    load_statistic(head, Statistic::Counter3, c3);
-    load_statistic(head, Statistic::Counter5, c5);
+    load_register(head, values.error_register);
+    load_object(head, Object::CycleTime, values.cycle_time);
+    load_object(head, Object::Tolerance, values.tolerance);
+    load_statistic(head, Statistic::Counter1, values.counter_1);
+    load_statistic(head, Statistic::Counter2, values.counter_2);
+    load_statistic(head, Statistic::Counter3, values.counter_3);
+    load_statistic(head, Statistic::Counter5, values.counter_5);
 }
 
 // Sets the values that are named and, where its entries are, the history from their bytes, newest first: the newest 254 whole entries are taken.

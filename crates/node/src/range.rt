@@ -22,7 +22,7 @@ pub enum SocVerdict {
 
 // How long ago the last SoC was.
 fn elapsed(head: &Head, time: Time) -> u64
-    ensures { (result ≡ elapsed (plain (head_of head.now) [] []) time.us) × (result ≤ 4611686018427387903) }
+    ensures { (result ≡ elapsed (plain (head_of head.now) [] []) time.us) × (result ≤ time.us) }
 {
     time_since(time.us, last_soc(soc_of(head)))
 }
@@ -40,7 +40,7 @@ pub fn soc_range(head: &Head, earliest: u64, latest: u64) -> Result<SocVerdict, 
 {
     let earliest = Time::try_from(earliest)?;
     let latest = Time::try_from(latest)?;
-    if latest.us < earliest.us {
+    if latest < earliest {
         return Err(Refusal::EarliestAfterLatest);
     }
     if is_loss(head, earliest) {

@@ -10,14 +10,14 @@ use Rattle.node.proofs.range.soc_range.Goals as goal
 pub returns-then-is_loss : goal.returns-then-is_loss
 returns-then-is_loss c =
     let a = c.args in
-    let h : a.earliest ≤ a.latest = omega (arith, c.in_ok-earliest.ensures.0, c.in_ok-latest.ensures.0, c.if-latest-earliest.false) in
+    let h : a.earliest ≤ a.latest = grind (arith, c.in_ok-earliest.ensures.0, c.in_ok-latest.ensures.0, c.lt.ensures, c.if-lt.false) in
     range_taken a.head.now a.earliest a.latest c.in_ok-earliest.ensures.1 c.in_ok-latest.ensures.1 _ h
     (lost_end (head_in a.head.now) a.earliest a.latest h (ap (is_loss (head_in a.head.now)) (sym c.in_ok-earliest.ensures.0) ∙ sym c.is_loss.ensures ∙ c.if-is_loss.true))
 
 pub returns-then-is_loss-2 : goal.returns-then-is_loss-2
 returns-then-is_loss-2 c =
     let a = c.args in
-    let h : a.earliest ≤ a.latest = omega (arith, c.in_ok-earliest.ensures.0, c.in_ok-latest.ensures.0, c.if-latest-earliest.false) in
+    let h : a.earliest ≤ a.latest = grind (arith, c.in_ok-earliest.ensures.0, c.in_ok-latest.ensures.0, c.lt.ensures, c.if-lt.false) in
     range_taken a.head.now a.earliest a.latest c.in_ok-earliest.ensures.1 c.in_ok-latest.ensures.1 _ h
     (open_ends (head_in a.head.now) a.earliest a.latest h (ap (is_loss (head_in a.head.now)) (sym c.in_ok-earliest.ensures.0) ∙ sym c.is_loss.ensures ∙ c.if-is_loss.false)
     (ap (is_loss (head_in a.head.now)) (sym c.in_ok-latest.ensures.0) ∙ sym c.is_loss-2.ensures ∙ c.if-is_loss-2.true))
@@ -25,7 +25,7 @@ returns-then-is_loss-2 c =
 pub returns : goal.returns
 returns c =
     let a = c.args in
-    let h : a.earliest ≤ a.latest = omega (arith, c.in_ok-earliest.ensures.0, c.in_ok-latest.ensures.0, c.if-latest-earliest.false) in
+    let h : a.earliest ≤ a.latest = grind (arith, c.in_ok-earliest.ensures.0, c.in_ok-latest.ensures.0, c.lt.ensures, c.if-lt.false) in
     range_taken a.head.now a.earliest a.latest c.in_ok-earliest.ensures.1 c.in_ok-latest.ensures.1 _ h
     (kept_ends (head_in a.head.now) a.earliest a.latest h (ap (is_loss (head_in a.head.now)) (sym c.in_ok-earliest.ensures.0) ∙ sym c.is_loss.ensures ∙ c.if-is_loss.false)
     (ap (is_loss (head_in a.head.now)) (sym c.in_ok-latest.ensures.0) ∙ sym c.is_loss-2.ensures ∙ c.if-is_loss-2.false))
