@@ -97,14 +97,14 @@ fn say_change(out: &mut Output, name: &str, before: bool, after: bool) {
 
 // Where the entry leads, and what it does to enabled and ready. A reset enters NotActive from there too.
 fn say_cell(out: &mut Output, from: Position, event: NmtEvent) {
-    let entry = chosen(from.state, event, from.enabled, from.ready);
-    if entry.state == from.state && !is_reset(event) {
+    let to = chosen(from.state, event, from.enabled, from.ready).position;
+    if to.state == from.state && !is_reset(event) {
         write!(out, " | stays");
     } else {
-        write!(out, " | {}", Name(entry.state));
+        write!(out, " | {}", Name(to.state));
     }
-    say_change(out, "enabled", from.enabled, entry.enabled);
-    say_change(out, "ready", from.ready, entry.ready);
+    say_change(out, "enabled", from.enabled, to.enabled);
+    say_change(out, "ready", from.ready, to.ready);
 }
 
 fn say_row(out: &mut Output, state: NmtState, event: NmtEvent) {
@@ -183,9 +183,9 @@ fn say_arrow(out: &mut Output, state: NmtState, event: NmtEvent, next: NmtState,
 
 // Where a ready or an enabled machine moves and another does not, the arrow says so.
 fn say_move(out: &mut Output, state: NmtState, event: NmtEvent) {
-    let neither = chosen(state, event, false, false).state;
-    let ready = chosen(state, event, false, true).state;
-    let enabled = chosen(state, event, true, false).state;
+    let neither = chosen(state, event, false, false).position.state;
+    let ready = chosen(state, event, false, true).position.state;
+    let enabled = chosen(state, event, true, false).position.state;
     if neither != state {
         say_arrow(out, state, event, neither, "");
     } else if ready != state {

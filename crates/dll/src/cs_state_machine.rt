@@ -73,13 +73,12 @@ fn goes(state: DllCsState, errors: DllErrors) -> DllAnswer
 fn non_cyclic(event: DllCsEvent) -> DllAnswer
     ensures { cs_outcome result ≡ non_cyclic event }
 {
-    let state = DllCsState::NonCyclic;
     match event {
         DllCsEvent::Soc => goes(DllCsState::WaitPreq, DllErrors::None),
         _ => goes(
-            state,
+            DllCsState::NonCyclic,
             DllErrors::One(DllError::UnexpectedEventInState {
-                state: state.as_u8(),
+                state: DllCsState::NonCyclic.as_u8(),
                 event: event.as_u8(),
             }),
         ),
@@ -102,7 +101,9 @@ fn wait_preq(event: DllCsEvent, expect_preq: bool) -> DllAnswer
     ensures { cs_outcome result ≡ wait_preq event expect_preq }
 {
     match event {
-        DllCsEvent::Soc => goes(DllCsState::WaitPreq, DllErrors::One(DllError::LossOfSoa)),
+        DllCsEvent::Soc | DllCsEvent::Asnd => {
+            goes(DllCsState::WaitPreq, DllErrors::One(DllError::LossOfSoa))
+        }
         DllCsEvent::Preq => goes(DllCsState::WaitSoa, DllErrors::None),
         DllCsEvent::Pres => goes(DllCsState::WaitPreq, DllErrors::None),
         DllCsEvent::Soa => {
@@ -112,7 +113,6 @@ fn wait_preq(event: DllCsEvent, expect_preq: bool) -> DllAnswer
                 goes(DllCsState::WaitSoc, DllErrors::None)
             }
         }
-        DllCsEvent::Asnd => goes(DllCsState::WaitPreq, DllErrors::One(DllError::LossOfSoa)),
         DllCsEvent::SocTimeout => goes(
             DllCsState::WaitSoc,
             DllErrors::Two(DllError::LossOfSoc, DllError::LossOfSoa),

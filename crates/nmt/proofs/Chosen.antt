@@ -23,7 +23,7 @@ use Rattle.nmt.specs.declared.table.Entry.{Entry}
 use Rattle.nmt.proofs.Laws.{reset_enters, plain_passes}
 
 abbrev of : Bool → Bool → Bool → NmtState → Entry
-of on up u s = record { state = s; enabled = on; ready = up; unexpected = u }
+of on up u s = record { position = record { state = s; enabled = on; ready = up }; unexpected = u }
 
 back : (on up u : Bool) → map (λ (s : NmtState). unpacked (packed (of on up u s))) states ≡ map (of on up u) states
 unfolding state_at unpacked
@@ -39,14 +39,14 @@ back true true true = refl
 -- an entry that was packed is read as itself
 pub packed_back : (x : Entry) → unpacked (packed x) ≡ x
 packed_back x =
-    let test = back x.enabled x.ready x.unexpected in
-    everywhere NmtStates (λ s. unpacked (packed (of x.enabled x.ready x.unexpected s))) (of x.enabled x.ready x.unexpected) test (ap (λ (l : List Entry). get_or l 0 x) test) x.state
+    let test = back x.position.enabled x.position.ready x.unexpected in
+    everywhere NmtStates (λ s. unpacked (packed (of x.position.enabled x.position.ready x.unexpected s))) (of x.position.enabled x.position.ready x.unexpected) test (ap (λ (l : List Entry). get_or l 0 x) test) x.position.state
 
 -- what an entry makes of a machine and an event
 abbrev pub read : CnNmtStateMachine → NmtEvent → Entry → Outcome
 read m e x =
     record {
-      machine = with m x.state x.enabled x.ready;
+      machine = with m x.position.state x.position.enabled x.position.ready;
       errors = reports x.unexpected m.current_state e;
       reset = reset_sequence e;
     }
@@ -56,7 +56,7 @@ module _ (m : CnNmtStateMachine) (e : NmtEvent) where
   alike = standing m.current_state m.ready_to_operate_enabled m.app_ready
 
   abbrev plainly : Entry → Outcome
-  plainly x = without_reset (with m x.state x.enabled x.ready) (reports x.unexpected m.current_state e)
+  plainly x = without_reset (with m x.position.state x.position.enabled x.position.ready) (reports x.unexpected m.current_state e)
 
   chosen : (b : Bool) (p q : CnNmtStateMachine) (m' m'' : CnNmtStateMachine) → plainly (entry_of (without_reset p [])) ≡ without_reset m' [] → plainly (entry_of (without_reset q [])) ≡ without_reset m'' [] → plainly (entry_of (without_reset (pick b p q) [])) ≡ without_reset (pick b m' m'') []
   chosen true p q m' m'' x y = x
@@ -90,7 +90,7 @@ pub follows :
     x ≡ ruled m.current_state e m.ready_to_operate_enabled m.app_ready →
     es ≡ reports x.unexpected m.current_state e →
     p ≡ reset_sequence e →
-    ◌≡◌ {A = Outcome} (record { machine = with m x.state x.enabled x.ready; errors = es; reset = p }) (processed m e)
+    ◌≡◌ {A = Outcome} (record { machine = with m x.position.state x.position.enabled x.position.ready; errors = es; reset = p }) (processed m e)
 follows m e x es p asked reported passed = rw (reported, passed) (ap (read m e) asked) ∙ ruled_read m e
 
 -- the table that the rule asks for

@@ -39,14 +39,12 @@ event_at k = read_by event_number (λ e. e) StartNode events k
 
 -- the packing: the place of the next state, 16 where ready, 32 where enabled, 64 where the pair is reported
 abbrev pub packed : Entry → ℕ
-packed x = place x.state + pick x.ready 16 0 + pick x.enabled 32 0 + pick x.unexpected 64 0
+packed x = place x.position.state + pick x.position.ready 16 0 + pick x.position.enabled 32 0 + pick x.unexpected 64 0
 
 unfoldable pub unpacked : ℕ → Entry
 unpacked k =
     record {
-      state = state_at (k % 16);
-      enabled = eqb (k / 32 % 2) 1;
-      ready = eqb (k / 16 % 2) 1;
+      position = record { state = state_at (k % 16); enabled = eqb (k / 32 % 2) 1; ready = eqb (k / 16 % 2) 1 };
       unexpected = eqb (k / 64 % 2) 1;
     }
 
@@ -62,9 +60,7 @@ some (e ∷ es) = true
 abbrev pub entry_of : Outcome → Entry
 entry_of o =
     record {
-      state = o.machine.current_state;
-      enabled = o.machine.ready_to_operate_enabled;
-      ready = o.machine.app_ready;
+      position = record { state = o.machine.current_state; enabled = o.machine.ready_to_operate_enabled; ready = o.machine.app_ready };
       unexpected = some o.errors;
     }
 

@@ -85,17 +85,10 @@ impl CnNmtStateMachine {
     {
         let state = self.current_state;
         let entry = chosen(state, event, self.ready_to_operate_enabled, self.app_ready);
-        let errors = reported_of(entry.unexpected, state, event);
-        let reset = reset_sequence(event);
-        let position = Position {
-            state: entry.state,
-            enabled: entry.enabled,
-            ready: entry.ready,
-        };
         NmtAnswer {
-            machine: self.at(position),
-            errors,
-            reset,
+            machine: self.at(entry.position),
+            errors: reported_of(entry.unexpected, state, event),
+            reset: reset_sequence(event),
         }
     }
 }

@@ -2,15 +2,14 @@
 ghost use Rattle.std.specs.Prelude.{◌≡◌};
 ghost use Rattle.nmt.specs.Table.{place, state_at, unpacked, ruled};
 
+use crate::cn_state_machine::Position;
 use types::nmt::events::NmtEvent;
 use types::nmt::states::NmtState;
 
 // What an event leaves.
 #[derive(Clone, Copy, PartialEq, Eq)]
 pub struct Entry {
-    pub state: NmtState,
-    pub enabled: bool,
-    pub ready: bool,
+    pub position: Position,
     // The pair of state and event has no row, and is reported.
     pub unexpected: bool,
 }
@@ -21,11 +20,12 @@ pub struct Entry {
 fn unpack(entry: u8) -> Entry
     ensures { result ≡ unpacked entry }
 {
-    let state = state_at(entry % 16);
     Entry {
-        state,
-        enabled: entry / 32 % 2 == 1,
-        ready: entry / 16 % 2 == 1,
+        position: Position {
+            state: state_at(entry % 16),
+            enabled: entry / 32 % 2 == 1,
+            ready: entry / 16 % 2 == 1,
+        },
         unexpected: entry / 64 % 2 == 1,
     }
 }

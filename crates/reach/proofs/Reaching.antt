@@ -24,7 +24,6 @@ use Rattle.nmt.specs.Resets.{is_reset}
 use Rattle.nmt.specs.Nmt.{Outcome, processed}
 use Rattle.nmt.specs.Table.{ruled}
 use Rattle.nmt.specs.declared.cn_state_machine.CnNmtStateMachine.{CnNmtStateMachine}
-use Rattle.nmt.specs.declared.table.Entry.{Entry}
 use Rattle.nmt.proofs.Chosen.{ruled_read}
 use Rattle.nmt.specs.declared.cn_state_machine.Position.{Position}
 use Rattle.head.specs.Words.{one, yes}
@@ -79,11 +78,8 @@ same_is : (x y : Position) → x ≡ y → same_position x y ≡ true
 same_is x y e = subst (λ (y : Position). same_position x y ≡ true) e (rw (eq-eqb (state_number x.state) (state_number x.state) refl, eq-eqb (one x.enabled) (one x.enabled) refl, eq-eqb (one x.ready) (one x.ready) refl))
 
 -- what an event makes of a position, and what a withdrawal does
-abbrev entry_position : Entry → Position
-entry_position y = position_at y.state y.enabled y.ready
-
 abbrev moved : Position → NmtEvent → Position
-moved x e = entry_position (ruled x.state e x.enabled x.ready)
+moved x e = (ruled x.state e x.enabled x.ready).position
 
 abbrev taken_back : Position → Position
 taken_back x = position_at x.state x.enabled false

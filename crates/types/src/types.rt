@@ -25,10 +25,10 @@ impl TryFrom<u8> for NodeId {
 
     fn try_from(value: u8) -> Result<Self, Refusal> {
         match value {
-            1..=C_ADR_MN_DEF_NODE_ID => Ok(NodeId(value)),
-            C_ADR_DIAG_DEF_NODE_ID | C_ADR_RT1_DEF_NODE_ID | C_ADR_BROADCAST_NODE_ID => {
-                Ok(NodeId(value))
-            }
+            1..=C_ADR_MN_DEF_NODE_ID
+            | C_ADR_DIAG_DEF_NODE_ID
+            | C_ADR_RT1_DEF_NODE_ID
+            | C_ADR_BROADCAST_NODE_ID => Ok(NodeId(value)),
             _ => Err(Refusal::NodeNumber),
         }
     }

@@ -6,4 +6,4 @@ use Rattle.nmt.proofs.cn_state_machine.CnNmtStateMachine.process_event.Goals as 
 pub returns : goal.returns
 returns c =
     let a = c.args in
-    rw c.at.ensures (follows a.self a.event c.chosen-entry.result _ _ c.chosen-entry.ensures c.reported_of-errors.ensures c.reset_sequence-reset.ensures)
+    rw c.at.ensures (follows a.self a.event c.chosen-entry.result _ _ c.chosen-entry.ensures c.reported_of.ensures c.reset_sequence.ensures)
