@@ -25,10 +25,10 @@ use Rattle.std.specs.declared.result.Result.TheVariants.{Ok, Err}
 use Rattle.types.specs.declared.refusals.Refusal.{Refusal}
 use Rattle.nmt.specs.Resets.{passed}
 use Rattle.node.specs.Plain.{nmt_answer, dll_answer, tick_answer}
-use Rattle.node.specs.InPlace.{nmt_said, dll_said}
-use Rattle.tick.specs.TickIn.{tick_said}
+use Rattle.node.specs.InPlace.{nmt_said, dll_said, dll_says}
+use Rattle.tick.specs.TickIn.{tick_said, tick_says}
 use Rattle.examples.specs.Same.{Exactly}
-use Rattle.examples.specs.Said.{nmt_stated, dll_stated, tick_stated}
+use Rattle.examples.specs.Said.{nmt_stated}
 use Rattle.examples.proofs.Exact.{exact_by, exact_and, exact_is, no}
 
 pub clash : ◌≡◌ {A = ℕ} 0 1 → ⊥
@@ -72,11 +72,11 @@ nmt_same (Err n) es s ne r e = exact_is e (never (λ h. clash (cc)))
 
 -- of a DLL event and of a tick, compared by `==`
 pub dll_same :
-    (a : Result DllErrors Refusal) (t : DllErrors) (ne : Refusal → Refusal → Bool) (r : Bool) → r ≡ result_eq ((some-errors.ghosts).eq) ne a (Ok t) → Exactly r (dll_said a ≡ dll_stated t)
+    (a : Result DllErrors Refusal) (t : DllErrors) (ne : Refusal → Refusal → Bool) (r : Bool) → r ≡ result_eq ((some-errors.ghosts).eq) ne a (Ok t) → Exactly r (dll_said a ≡ dll_says t)
 dll_same (Ok es) t ne r e = exact_by (exact_reported es t r e) (ap dll_answer) (λ h. cc)
 dll_same (Err n) t ne r e = exact_is e (never (λ h. clash (cc)))
 
 pub tick_same :
-    (a : Result DllErrors Refusal) (t : DllErrors) (ne : Refusal → Refusal → Bool) (r : Bool) → r ≡ result_eq ((some-errors.ghosts).eq) ne a (Ok t) → Exactly r (tick_said a ≡ tick_stated t)
+    (a : Result DllErrors Refusal) (t : DllErrors) (ne : Refusal → Refusal → Bool) (r : Bool) → r ≡ result_eq ((some-errors.ghosts).eq) ne a (Ok t) → Exactly r (tick_said a ≡ tick_says t)
 tick_same (Ok es) t ne r e = exact_by (exact_reported es t r e) (ap tick_answer) (λ h. cc)
 tick_same (Err n) t ne r e = exact_is e (never (λ h. clash (cc)))

@@ -9,15 +9,12 @@ use Rattle.types.specs.declared.frame.error.types.DllErrors.TheVariants as error
 use Rattle.types.specs.declared.frame.error.types.NmtAction.TheVariants as action
 use Rattle.nmt.specs.Resets.{passed}
 use Rattle.nmt.specs.declared.state_machine.ResetSequence.{ResetSequence}
-use Rattle.node.specs.Plain.{Answer, nmt_answer, dll_answer, tick_answer}
+use Rattle.node.specs.Plain.{Answer, nmt_answer}
 use Rattle.node.specs.Examples.{quiet, asks_reset}
 use Rattle.counters.specs.declared.counters.ErrorTaken.{ErrorTaken}
 
 abbrev pub nmt_stated : DllErrors → ResetSequence → Answer
 nmt_stated es s = nmt_answer (reported es) (passed s)
-
-abbrev pub dll_stated : DllErrors → Answer
-dll_stated es = dll_answer (reported es)
 
 -- of a loss that crosses, or of one that does not
 abbrev pub replied_of : Bool → ErrorTaken
@@ -26,6 +23,3 @@ replied_of crosses =
 
 abbrev pub error_stated : Bool → Answer
 error_stated crosses = pick crosses asks_reset quiet
-
-abbrev pub tick_stated : DllErrors → Answer
-tick_stated es = tick_answer (reported es)

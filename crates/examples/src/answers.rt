@@ -1,10 +1,10 @@
 // Whether a call answered what is stated.
 ghost use Rattle.std.specs.Prelude.{◌≡◌};
 ghost use Rattle.node.specs.Plain.{taken};
-ghost use Rattle.node.specs.InPlace.{said, nmt_said, dll_said, error_said};
-ghost use Rattle.tick.specs.TickIn.{tick_said};
+ghost use Rattle.node.specs.InPlace.{said, nmt_said, dll_said, dll_says, error_said};
+ghost use Rattle.tick.specs.TickIn.{tick_said, tick_says};
 ghost use Rattle.examples.specs.Same.{Exactly};
-ghost use Rattle.examples.specs.Said.{nmt_stated, dll_stated, replied_of, error_stated, tick_stated};
+ghost use Rattle.examples.specs.Said.{nmt_stated, replied_of, error_stated};
 
 use nmt::state_machine::ResetSequence;
 use node::calls::{ErrorTaken, NmtTaken};
@@ -19,8 +19,8 @@ pub fn nmt_says(answer: Result<NmtTaken, Refusal>, errors: DllErrors, reset: Res
 
 // Of a DLL event and of a tick.
 pub fn says(answer: Result<DllErrors, Refusal>, stated: DllErrors) -> bool
-    ensures dll { Exactly result (dll_said answer ≡ dll_stated stated) }
-    ensures tick { Exactly result (tick_said answer ≡ tick_stated stated) }
+    ensures dll { Exactly result (dll_said answer ≡ dll_says stated) }
+    ensures tick { Exactly result (tick_said answer ≡ tick_says stated) }
 {
     answer == Ok(stated)
 }

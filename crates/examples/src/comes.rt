@@ -5,10 +5,12 @@ ghost use Rattle.counters.specs.Counters.{incremented};
 ghost use Rattle.head.specs.Words.{errors_of};
 ghost use Rattle.node.specs.Plain.{Call, taken, cycle_answer};
 ghost use Rattle.node.specs.Steps.{no_run};
+ghost use Rattle.node.specs.InPlace.{dll_says};
+ghost use Rattle.tick.specs.TickIn.{tick_says};
 ghost use Rattle.watched.specs.Watched.{run};
 ghost use Rattle.watched.specs.Nodes.{nodes_of};
 ghost use Rattle.examples.specs.Same.{Exactly};
-ghost use Rattle.examples.specs.Said.{nmt_stated, dll_stated, error_stated, tick_stated};
+ghost use Rattle.examples.specs.Said.{nmt_stated, error_stated};
 ghost use Rattle.examples.specs.Shown.{Came};
 
 use crate::answers::{error_says, is_taken, nmt_says, says};
@@ -45,7 +47,7 @@ pub fn nmt_comes(
 }
 
 pub fn dll_comes(head: &mut Head, event: u64, preq: bool, stated: DllErrors, after: &Head) -> bool
-    ensures { (q m : List ℕ) → Came head.old q m (Call.dll_event event preq) (dll_stated stated) after.now head.new q m no_run result }
+    ensures { (q m : List ℕ) → Came head.old q m (Call.dll_event event preq) (dll_says stated) after.now head.new q m no_run result }
 {
     let said = says(dll_event(head, event, preq), stated);
     said & same_head(head, after)
@@ -95,7 +97,7 @@ pub fn tick_comes(
     stated: DllErrors,
     after: &Head,
 ) -> bool
-    ensures { Came bench.old.head bench.old.queue bench.old.history (Call.tick time (run (nodes_of bench.old.nodes) count)) (tick_stated stated) after.now bench.new.head bench.new.queue bench.new.history (run (nodes_of bench.new.nodes) count) result }
+    ensures { Came bench.old.head bench.old.queue bench.old.history (Call.tick time (run (nodes_of bench.old.nodes) count)) (tick_says stated) after.now bench.new.head bench.new.queue bench.new.history (run (nodes_of bench.new.nodes) count) result }
 {
     let answer = process_tick(
         &mut bench.head,

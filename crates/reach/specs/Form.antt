@@ -1,19 +1,12 @@
 -- The bytes of a line, in document 02's form: `(at 0x19 (enabled 0) (ready 1) (steps 0))`.
 -- Assumes nothing.
-use Rattle.std.specs.Prelude.{ℕ, ◌%◌, Bool, true, List, [], ◌∷◌, ◌++◌, ltb}
-use Prim.Native.Char.{code}
-use Prim.Native.String.{String, [] as []ˢ, ◌∷◌ as ◌∷ˢ◌}
+use Rattle.std.specs.Prelude.{ℕ, ◌%◌, Bool, true, List, [], ◌∷◌, ◌++◌, ltb, codes}
 use Rattle.types.specs.Pick.{both}
 use Rattle.types.specs.States.{state_number}
 use Rattle.forms.specs.Hex.{glyph, hex_form}
 use Rattle.head.specs.Words.{one}
 use Rattle.reach.specs.declared.Line.{Line}
 use Rattle.reach.specs.Positions.{named, steps_to}
-
--- the ASCII codes of a text
-abbrev pub codes : String → List ℕ
-codes []ˢ = []
-codes (c ∷ˢ s) = code c ∷ codes s
 
 -- "1 meaning yes, hexadecimal letters in capitals"; of the steps the last decimal digit, which is all of them below 10
 abbrev pub flag : Bool → List ℕ

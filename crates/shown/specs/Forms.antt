@@ -1,12 +1,6 @@
 -- The two long forms that are printed, as codes of their characters.
 -- Assumes nothing.
-use Rattle.std.specs.Prelude.{ℕ, List, [], ◌∷◌}
-use Prim.Native.Char.{code}
-use Prim.Native.String.{String, [] as []ˢ, ◌∷◌ as ◌∷ˢ◌}
-
-abbrev pub codes : String → List ℕ
-codes []ˢ = []
-codes (c ∷ˢ s) = code c ∷ codes s
+use Rattle.std.specs.Prelude.{ℕ, List, [], ◌∷◌, codes}
 
 -- of answers (CALLS, Output): a row for each key, with the code of its letter; `*` stands for every key
 abbrev pub answers_form : List (ℕ × List ℕ)

@@ -14,12 +14,7 @@ use Rattle.head.specs.Head.{Head}
 use Rattle.head.specs.Words.{one}
 use Rattle.std.specs.declared.option.Option.{Option}
 use Rattle.std.specs.declared.option.Option.TheVariants.{Some, None}
-use Rattle.answers.specs.Numbers.{nothing}
-
--- a moment or a value
-abbrev pub number_of : Option ℕ → ℕ
-number_of (Some n) = n
-number_of None = nothing
+use Rattle.answers.specs.Numbers.{said_of}
 
 -- NMT: state, enabled, ready, node, flags, timeout; then the DLL state
 abbrev pub machines_shown : Head → List ℕ
@@ -49,13 +44,13 @@ counters_shown h =
 -- the last SoC, whether the check is on, the deadline, whether the error status changed
 abbrev pub soc_shown : Head → List ℕ
 soc_shown h =
-    h.soc.last_soc_reception_time_us ∷ one h.soc.soc_timeout_check_active ∷ number_of h.soc.next_tick_us
+    h.soc.last_soc_reception_time_us ∷ one h.soc.soc_timeout_check_active ∷ said_of h.soc.next_tick_us
     ∷ one h.soc.error_status_changed ∷ []
 
 -- the register, cycle and tolerance, the four counters; then the queue's capacity
 abbrev pub dictionary_shown : Head → List ℕ
 dictionary_shown h =
-    h.od.error_register ∷ number_of h.od.cycle_time ∷ number_of h.od.tolerance ∷ h.od.counter_1 ∷ h.od.counter_2
+    h.od.error_register ∷ said_of h.od.cycle_time ∷ said_of h.od.tolerance ∷ h.od.counter_1 ∷ h.od.counter_2
     ∷ h.od.counter_3 ∷ h.od.counter_5 ∷ h.queue.capacity ∷ []
 
 -- the lines of a head up to its queue
@@ -64,7 +59,7 @@ parts_shown h = machines_shown h ++ counters_shown h ++ soc_shown h ++ dictionar
 
 -- the earliest moment at which a watched node would be late, and the crossings
 abbrev pub crossings_shown : Head → List ℕ
-crossings_shown h = number_of h.earliest ∷ of_each (λ (c : ThresholdCounter). c.crossings_cnt) h.errors
+crossings_shown h = said_of h.earliest ∷ of_each (λ (c : ThresholdCounter). c.crossings_cnt) h.errors
 
 abbrev pub thresholds_shown : Head → List ℕ
 thresholds_shown h = of_each (λ (c : ThresholdCounter). c.threshold) h.errors

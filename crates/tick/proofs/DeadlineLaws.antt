@@ -21,15 +21,13 @@ use Rattle.entries.specs.History.{history}
 use Rattle.types.specs.declared.frame.cs_state_machine.DllCsEvent.TheVariants.{SocTimeout}
 use Rattle.std.specs.declared.option.Option.TheVariants.{Some, None}
 use Rattle.head.specs.Head.{Head, head_with_dll}
+use Rattle.watched.specs.Watched.{latest}
 use Rattle.node.specs.Plain.{Plain}
 use Rattle.node.specs.Steps.{plain_of, with_soc, with_dll, cycle_of, tolerance_of, limit_of}
 use Rattle.node.specs.Tick.{Ticked, goes_on, behind, check_off, with_deadline, next_deadline, rescheduled, within_limit, is_loss, soc_timeout, deal_all, lost, soc_check, at_not_active, sets_basic, times_out, timed_out, event_in_tick, used_up, by_deadline}
 use Rattle.node.specs.Refines.{plain, Becomes, rings, joins_all}
 use Rattle.heartbeats.specs.Parts.{PartLeft, Ticks, is_quiet}
 use Rattle.tick.specs.Ticks.{Loses}
-
-abbrev latest : ℕ
-latest = 4611686018427387903
 
 module _ (h : Head) (t : ℕ) where
   pub next_is :

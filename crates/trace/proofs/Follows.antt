@@ -10,17 +10,15 @@ use Rattle.counters.specs.Counters.{thresholds_fit}
 use Rattle.std.specs.declared.option.Option.TheVariants.{None}
 use Rattle.head.specs.Head.{Head}
 use Rattle.watched.specs.Watched.{unheard, Run, watching, changing}
-use Rattle.node.specs.Plain.{Plain, Call, Answer, Start, begins, declined, FirstStep}
+use Rattle.node.specs.Plain.{Plain, Call, Start, begins, declined, FirstStep}
 use Rattle.node.specs.Steps.{Test, tried, earliest, fresh, start_tests, started}
 use Rattle.node.specs.Run.{step_all, Said, said_all}
 use Rattle.node.specs.Refines.{plain, Left, Refines}
 use Rattle.trace.specs.Claim.{Claim}
+use Rattle.trace.specs.Driven as driven
 use Rattle.trace.proofs.Shares.{tried_by_lem}
 use Rattle.trace.proofs.Earliest.{start_moment}
 use Rattle.trace.proofs.Keeps.{claimed}
-
-abbrev pub saying : Answer → Run → Said
-saying a l = record { answer = a; lent = l }
 
 -- the head, its queue's bytes and its history's bytes before the calls; the calls; what they said; the three after them
 pub data Follows : Head → List ℕ → List ℕ → List Call → List Said → Head → List ℕ → List ℕ → Type 0 where
@@ -29,7 +27,7 @@ pub data Follows : Head → List ℕ → List ℕ → List Call → List Said �
       {h h' : Head} {q m q₁ m₁ q' m' : List ℕ} {c : Call} {o : Left} {l : Run} {cs : List Call} {says : List Said} →
       Refines h q m c o q₁ m₁ l →
       Follows o.head q₁ m₁ cs says h' q' m' →
-      Follows h q m (c ∷ cs) (saying o.answer l ∷ says) h' q' m'
+      Follows h q m (c ∷ cs) (driven.says o.answer l ∷ says) h' q' m'
 
 pub follows_run :
     {h h' : Head} {q m q' m' : List ℕ} {cs : List Call} {says : List Said} →
@@ -46,7 +44,7 @@ pub follows_said :
 unfolding said_all
 follows_said finished = refl
 follows_said (next {cs = cs} r f) =
-    ap₂ (λ (s : Said) (l : List Said). s ∷ l) (ap₂ saying r.answer r.lent)
+    ap₂ (λ (s : Said) (l : List Said). s ∷ l) (ap₂ driven.says r.answer r.lent)
     (follows_said f ∙ ap (λ (p : Plain). said_all p cs) r.head)
 
 -- a plain start that begins, begins with a fresh plain head

@@ -25,7 +25,7 @@ use Rattle.head.proofs.Laws.{state_is}
 use Rattle.node.specs.Plain.{Plain, Call, nmt_event, dll_event, error, cycle_complete, withdraw, heard, hand_out, load, arm, tick, range, margin, add, remove, Start, taken, EventMade}
 use Rattle.node.specs.Steps.{no_run, answers, declines, with_nmt, withdrawn, fresh}
 use Rattle.node.specs.Run.{step, step_all}
-use Rattle.trace.specs.Tally.{Told, told, asks}
+use Rattle.trace.specs.Tally.{Told, told, asks, in_pre_operational2}
 use Rattle.trace.specs.Visits.{nmt_state, Stays, InVisit, Asking, Asked, visiting, Enabled, at_once, later, is_withdraw, is_taken, NoneWithdrawn, resets, NoReset, after_reset, ReadyWord, since}
 use Rattle.trace.proofs.Modes.{implies, always, every, always_at, every_at, follows}
 use Rattle.trace.proofs.Ticking.{InTick}
@@ -58,22 +58,19 @@ unfolding step_all
 run_on p [] ys = refl
 run_on p (x ∷ xs) ys = run_on (step p x).head xs ys
 
--- the machine: in PreOperational2, at ReadyToOperate, enabled in PreOperational2; and outside of both, not enabled
-abbrev pre2 : CnNmtStateMachine → Bool
-pre2 m = same_state m.current_state NmtPreOperational2
-
+-- the machine: at ReadyToOperate, enabled in PreOperational2; and outside of both, not enabled
 abbrev ready : CnNmtStateMachine → Bool
 ready m = same_state m.current_state NmtReadyToOperate
 
 abbrev enabling : CnNmtStateMachine → Bool
-enabling m = both (pre2 m) m.ready_to_operate_enabled
+enabling m = both (in_pre_operational2 m) m.ready_to_operate_enabled
 
 abbrev calm : CnNmtStateMachine → Bool
-calm m = either (pre2 m) (either (ready m) (not m.ready_to_operate_enabled))
+calm m = either (in_pre_operational2 m) (either (ready m) (not m.ready_to_operate_enabled))
 
 -- an NMT event: enabled comes of an enable or StartNode in the same visit, and ReadyToOperate of that or of enabled
 abbrev asked_now : CnNmtStateMachine → NmtEvent → Bool
-asked_now m e = both (pre2 m) (asks e)
+asked_now m e = both (in_pre_operational2 m) (asks e)
 
 abbrev comes : CnNmtStateMachine → NmtEvent → CnNmtStateMachine → Bool
 comes m e m' =
@@ -127,7 +124,7 @@ module _ (p : Plain) (c : Call) (h : calm p.nmt ≡ true) where
   stays = record { calms = h; opens = λ o. inl o; readies = λ r. inl r }
 
   unasked : (e : NmtEvent) → asks e ≡ false → asked_now p.nmt e ≡ true → Asking p c
-  unasked e a x = absurd (true≢false (sym (both_second (pre2 p.nmt) (asks e) x) ∙ a))
+  unasked e a x = absurd (true≢false (sym (both_second (in_pre_operational2 p.nmt) (asks e) x) ∙ a))
 
   in_tick : {e : EventMade} {m : CnNmtStateMachine} → InTick p.nmt e m → Came p c m
   in_tick InTick.still = stays
@@ -144,8 +141,8 @@ module _ (p : Plain) (c : Call) (h : calm p.nmt ≡ true) where
         event = e;
         call = x;
         read = r;
-        passes = both_second (pre2 p.nmt) (asks e) a;
-        visit = state_is (nmt_state p) NmtPreOperational2 (both_first (pre2 p.nmt) (asks e) a);
+        passes = both_second (in_pre_operational2 p.nmt) (asks e) a;
+        visit = state_is (nmt_state p) NmtPreOperational2 (both_first (in_pre_operational2 p.nmt) (asks e) a);
       })
   came (Moves.ticks t) = in_tick t
 
@@ -190,8 +187,8 @@ known_then p cs c k =
     g₀ = step_all p cs
 
     visits : enabling (step g₀ c).head.nmt ≡ true → (enabling g₀.nmt ≡ true) ⊎ Asking g₀ c → Asked p (cs ++ (c ∷ []))
-    visits o (inl x) = asked_then p (k.asked x) c (state_is _ NmtPreOperational2 (both_first (pre2 (step g₀ c).head.nmt) _ o))
-    visits o (inr x) = visiting cs c [] x (state_is _ NmtPreOperational2 (both_first (pre2 (step g₀ c).head.nmt) _ o), tt)
+    visits o (inl x) = asked_then p (k.asked x) c (state_is _ NmtPreOperational2 (both_first (in_pre_operational2 (step g₀ c).head.nmt) _ o))
+    visits o (inr x) = visiting cs c [] x (state_is _ NmtPreOperational2 (both_first (in_pre_operational2 (step g₀ c).head.nmt) _ o), tt)
 
     enters : ready (step g₀ c).head.nmt ≡ true → (ready g₀.nmt ≡ true) ⊎ ((enabling g₀.nmt ≡ true) ⊎ Asking g₀ c) → Enabled p (cs ++ (c ∷ []))
     enters r (inl x) = enabled_then p (k.entered x) c (state_is _ NmtReadyToOperate r)
@@ -216,7 +213,7 @@ abbrev Wording : Plain → Call → Type 0
 Wording p c = InVisit (λ (e : NmtEvent). e ≡ CnConfigurationComplete) p c
 
 abbrev worded_now : CnNmtStateMachine → NmtEvent → Bool
-worded_now m e = both (pre2 m) (same_event e CnConfigurationComplete)
+worded_now m e = both (in_pre_operational2 m) (same_event e CnConfigurationComplete)
 
 abbrev event_words_lem : NmtEvent → CnNmtStateMachine → Told → Bool
 event_words_lem e m w = implies (processed m e).machine.app_ready (either m.app_ready (worded_now m e))
@@ -243,7 +240,7 @@ module _ (p : Plain) (c : Call) where
       by (inr x) = inr (f x)
 
   unworded : (e : NmtEvent) → same_event e CnConfigurationComplete ≡ false → worded_now p.nmt e ≡ true → Wording p c
-  unworded e a x = absurd (true≢false (sym (both_second (pre2 p.nmt) (same_event e CnConfigurationComplete) x) ∙ a))
+  unworded e a x = absurd (true≢false (sym (both_second (in_pre_operational2 p.nmt) (same_event e CnConfigurationComplete) x) ∙ a))
 
   word_in_tick : {e : EventMade} {m : CnNmtStateMachine} → InTick p.nmt e m → m.app_ready ≡ true → (p.nmt.app_ready ≡ true) ⊎ Wording p c
   word_in_tick InTick.still h = inl h
@@ -260,8 +257,8 @@ module _ (p : Plain) (c : Call) where
         event = e;
         call = x;
         read = r;
-        passes = event_is e CnConfigurationComplete (both_second (pre2 p.nmt) (same_event e CnConfigurationComplete) a);
-        visit = state_is (nmt_state p) NmtPreOperational2 (both_first (pre2 p.nmt) (same_event e CnConfigurationComplete) a);
+        passes = event_is e CnConfigurationComplete (both_second (in_pre_operational2 p.nmt) (same_event e CnConfigurationComplete) a);
+        visit = state_is (nmt_state p) NmtPreOperational2 (both_first (in_pre_operational2 p.nmt) (same_event e CnConfigurationComplete) a);
       }) h
   word_came (Moves.ticks t) h = word_in_tick t h
 

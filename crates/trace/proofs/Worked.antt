@@ -21,7 +21,8 @@ use Rattle.entries.specs.Ring.{listed, nth}
 use Rattle.entries.specs.History.{error_history, joined}
 use Rattle.entries.specs.declared.status_response.ErrorEntry.{ErrorEntry}
 use Rattle.std.specs.declared.option.Option.TheVariants.{Some, None}
-use Rattle.watched.specs.Watched.{well_formed, watched_node, Run, holding}
+use Rattle.watched.specs.Watched.{well_formed, holding}
+use Rattle.node.specs.Examples.{watching_one}
 use Rattle.node.specs.Plain.{Plain, Call, nmt_event, dll_event, withdraw, heard, hand_out, arm, tick, add, remove, Start}
 use Rattle.node.specs.Steps.{earliest, fresh, started, armed}
 use Rattle.node.specs.Tick.{beat, beat_all, queued, deal, deal_all, soc_check, tick_taken}
@@ -139,7 +140,7 @@ written_at_lem = (refl, refl, refl)
 -- a node with timeout 50, heard at 100, is late at two ticks: a crossing of its kind, without an entry
 abbrev late_twice : List Call
 late_twice =
-    let r = holding (watched_node 5 50 100 ∷ []) in booted (nmt_event 3 ∷ nmt_event 0 ∷ tick 151 r ∷ tick 251 r ∷ [])
+    let r = watching_one 100 in booted (nmt_event 3 ∷ nmt_event 0 ∷ tick 151 r ∷ tick 251 r ∷ [])
 
 beats :
     ((step_all (fresh (begun 1 0)) late_twice).nmt.current_state ≡ NmtPreOperational1)
@@ -151,16 +152,13 @@ beats = (refl, refl, refl, refl)
 
 -- a partner with timeout 50 is added, and heard at 100: it would be late at 151, behind a reset too; of a removal that is declined nothing comes; removed, no
 -- node would be late
-abbrev partner : ℕ → Run
-partner h = holding (watched_node 5 50 h ∷ [])
-
 abbrev arrives : List Call → List Call
-arrives cs = add 5 50 (holding []) ∷ heard 5 100 (partner 0) ∷ nmt_event 5 ∷ remove 6 (partner 0) ∷ cs
+arrives cs = add 5 50 (holding []) ∷ heard 5 100 (watching_one 0) ∷ nmt_event 5 ∷ remove 6 (watching_one 0) ∷ cs
 
 partners :
     ((step_all (fresh (begun 1 0)) (arrives [])).earliest ≡ Some 151)
-    × (run_after (begun 1 0) (arrives []) ≡ partner 100)
-    × ((step_all (fresh (begun 1 0)) (arrives (remove 5 (partner 100) ∷ []))).earliest ≡ None)
-    × (run_after (begun 1 0) (arrives (remove 5 (partner 100) ∷ [])) ≡ holding [])
+    × (run_after (begun 1 0) (arrives []) ≡ watching_one 100)
+    × ((step_all (fresh (begun 1 0)) (arrives (remove 5 (watching_one 100) ∷ []))).earliest ≡ None)
+    × (run_after (begun 1 0) (arrives (remove 5 (watching_one 100) ∷ [])) ≡ holding [])
 unfolding step_all last_left earliest fresh started read_event processed reset_by applied enter row_of is_reset states_entered listed well_formed
 partners = (refl, refl, refl, refl)
