@@ -40,10 +40,7 @@ fn beaten(head: &mut Head, beats: Beats) -> Dealt
             true,
         );
     }
-    Dealt {
-        logged: DllErrors::None,
-        ended: false,
-    }
+    Dealt::GOES_ON
 }
 
 // The heartbeats, and what follows where no crossing ended the tick.
