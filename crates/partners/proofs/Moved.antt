@@ -7,11 +7,12 @@ use mathlib.Core.List.{List, [], ◌∷◌, ◌++◌}
 use native.Mathlib.Omega.{arith}
 use native.Mathlib.Numerals.{add-one}
 use lib.Dec.{ltb, leb}
-use lib.ListN.{length, get_or, set, take, drop, replicate, length-append, length-drop}
-use lib.Seq.{take_at, take_all, take-suc-set, length-take-le, append_snoc, drop-cons}
+use lib.ListN.{length, get_or, set, take, drop, replicate, length-append, length-drop, length-replicate}
+use lib.Seq.{take_at, length-take-le, append_snoc, drop-cons}
 use borrow.Author.Tests.{lt-ltb, le-ltb}
+use borrow.Rule.Slice.PartMut.{mid_of, put_mid}
 use Rattle.std.specs.List.{copy_within, prefix_len, range_with_len}
-use Rattle.std.proofs.lemmas.List.{set-append_left, append_assoc, append-nil}
+use Rattle.std.proofs.lemmas.List.{set-append_left, append_assoc, append-nil, drop_all}
 use Rattle.std.proofs.lemmas.List.Folds.{length-prefix_len}
 use Rattle.std.proofs.lemmas.Bool.{leb-true, leb-false}
 use Rattle.types.specs.Pick.{pick}
@@ -97,25 +98,42 @@ module _ (ns : List ℕ) (long : length ns ≡ 96) (a b c : ℕ) (up : a ≤ b) 
   pub nodes_moved : nodes_of (copy_within ns (3 * a) (3 * b) (3 * c)) ≡ moved
   nodes_moved = ap nodes_of words_moved ∙ nodes_of_words moved moved_long
 
--- x is written at a place
-turn_set :
-    (ps : List WatchedNode) (i : ℕ) → i < length ps → (x : WatchedNode) (l : List WatchedNode) → take (suc i) (set ps i x) ++ l ≡ take i ps ++ (x ∷ l)
-turn_set ps i inside x l = ap (λ (z : List WatchedNode). z ++ l) (take-suc-set ps i x inside) ∙ append_snoc (take i ps) x l
+-- the words of cleared nodes are zeros
+words_none : (n : ℕ) → replicate (3 * n) 0 ≡ words_of (replicate n no_node)
+words_none zero = refl
+words_none (suc n) = ap (λ (j : ℕ). replicate j 0) (three_more n) ∙ ap (λ (l : List ℕ). 0 ∷ 0 ∷ 0 ∷ l) (words_none n)
 
--- the places from one on, cleared: what is ahead gives what the whole gives
-module _ (ns : List ℕ) (i : ℕ) (goal : List WatchedNode) (e : goal ≡ take i (nodes_of ns) ++ replicate (32 - i) no_node) where
-  pub cleared_next : i < 32 → (ns' : List ℕ) → nodes_of ns' ≡ set (nodes_of ns) i no_node → goal ≡ take (i + 1) (nodes_of ns') ++ replicate (32 - (i + 1)) no_node
-  cleared_next inside ns' s =
-      let z : 32 - i ≡ suc (32 - suc i) = omega arith in
-      e ∙ ap (λ (n : ℕ). take i (nodes_of ns) ++ replicate n no_node) z
-      ∙ sym (turn_set (nodes_of ns) i (rw (places ns) inside) no_node (replicate (32 - suc i) no_node))
-      ∙ ap (λ (l : List WatchedNode). take (suc i) l ++ replicate (32 - suc i) no_node) (sym s)
-      ∙ ap (λ (j : ℕ). take j (nodes_of ns') ++ replicate (32 - j) no_node) (sym (add-one i))
+-- the places from one on, cleared
+module _ (ns : List ℕ) (long : length ns ≡ 96) (i : ℕ) (few : i ≤ 32) where
+  abbrev kept : List WatchedNode
+  kept = take i (nodes_of ns)
 
-  pub cleared_ends : i ≡ 32 → nodes_of ns ≡ goal
-  cleared_ends h =
-      let n : length (nodes_of ns) ≤ i = omega (arith, places ns, h) in
-      sym (e ∙ ap₂ (λ (l : List WatchedNode) (j : ℕ). l ++ replicate (32 - j) no_node) (take_all i (nodes_of ns) n) h ∙ append-nil (nodes_of ns))
+  abbrev none : List WatchedNode
+  none = replicate (32 - i) no_node
+
+  rest : length (drop (3 * i) ns) ≡ 96 - 3 * i
+  rest = length-drop (3 * i) ns ∙ ap (λ (n : ℕ). n - 3 * i) long
+
+  kept_long : length kept ≡ i
+  kept_long = length-take-le i (nodes_of ns) (omega (arith, places ns, few))
+
+  cleared_long : length (kept ++ none) ≡ 32
+  cleared_long =
+      let z : length none ≡ 32 - i = length-replicate (32 - i) no_node in
+      length-append kept none ∙ omega (arith, kept_long, z, few)
+
+  pub nodes_cleared :
+      (zs : List ℕ) → zs ≡ replicate (length (mid_of (3 * i) (96 - 3 * i) ns)) 0 →
+      nodes_of (put_mid (3 * i) (96 - 3 * i) ns zs) ≡ take i (nodes_of ns) ++ replicate (32 - i) no_node
+  nodes_cleared zs e =
+      let m : length (mid_of (3 * i) (96 - 3 * i) ns) ≡ 96 - 3 * i = length-take-le (96 - 3 * i) (drop (3 * i) ns) (omega (arith, rest)) in
+      let n : length (mid_of (3 * i) (96 - 3 * i) ns) ≡ 3 * (32 - i) = omega (arith, m, few) in
+      let t : take (3 * i) ns ≡ words_of kept = ap (take (3 * i)) (words_of_lem ns long) ∙ words_take i (nodes_of ns) (omega (arith, places ns, few)) in
+      let z : zs ≡ words_of none = e ∙ ap (λ (j : ℕ). replicate j 0) n ∙ words_none (32 - i) in
+      let r : drop (96 - 3 * i) (drop (3 * i) ns) ≡ [] = drop_all (96 - 3 * i) (drop (3 * i) ns) (omega (arith, rest)) in
+      let l : zs ++ drop (96 - 3 * i) (drop (3 * i) ns) ≡ words_of none = (λ j. z j ++ r j) ∙ append-nil (words_of none) in
+      let w : put_mid (3 * i) (96 - 3 * i) ns zs ≡ words_of (kept ++ none) = (λ j. t j ++ l j) ∙ sym (words_append kept none) in
+      ap nodes_of w ∙ nodes_of_words (kept ++ none) cleared_long
 
 -- where a node is to stand: what is left gives what the whole gives
 module _ (ns : List ℕ) (k : ℕ) (below : k ≤ 32) (n : ℕ) where

@@ -32,9 +32,7 @@ fn clear(nodes: &mut NodeWords, from: usize)
     requires { from ≤ 32 }
     ensures { nodes_of nodes.new ≡ take from (nodes_of nodes.old) ++ replicate (32 - from) no_node }
 {
-    for i in from..32 {
-        NodeRecord::NONE.put(nodes, i);
-    }
+    nodes[3 * from..].fill(0);
 }
 
 // A node takes its place: those above it move up by one, and the places past them are cleared.
