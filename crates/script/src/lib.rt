@@ -81,10 +81,7 @@ fn read_desk<'a>(line: &'a [u8], given: &mut Given) -> Option<&'a [u8]>
     if let [b'-'] = line {
         return Some(&[]);
     }
-    if 100 < count {
-        return None;
-    }
-    Some(line)
+    (count <= 100).then_some(line)
 }
 
 // The digits of an entry, of 20 bytes.
