@@ -134,9 +134,6 @@ impl NodeRecord {
             return None;
         }
         let end = self.last_heard + self.timeout + 1;
-        if end <= time {
-            return None;
-        }
-        Some(soonest.min(end))
+        (time < end).then_some(soonest.min(end))
     }
 }
