@@ -2,7 +2,6 @@
 -- Assumes nothing.
 use Prim.Native.Nat.{ℕ}
 use mathlib.Core.Path.{refl, sym, ap, ◌∙◌}
-use mathlib.Core.Bool.{true, false}
 use lib.ListN.{set}
 use Rattle.counters.specs.Counters.{add_top, counts, loses_link, is_logged, nothing, effect_of}
 use Rattle.head.specs.Places as at
