@@ -164,7 +164,7 @@ pub fn walk(nodes: &[WatchedNode], first: Findings) -> Findings
     fold(nodes, first, |found, w| see(found, w))
 }
 
-// The watched places, in order, where number 3 does not stand: 32 places, the number within them, and its nodes well formed. Those past the number are not tried.
+// The watched places, in order, where the nodes pass number 3: 32 places, the number within them, and its nodes well formed. Those past the number are not tried.
 pub fn survey(nodes: &[WatchedNode], number: usize, first: Findings) -> Option<Findings>
     ensures { result ≡ surveyed number first nodes.now }
 {
