@@ -40,7 +40,7 @@ test:
 	@cmp docs/TRANSITIONS.md crates/chart/stdout
 	@echo "Checking the script that replay is run on."
 	@compare/joined.sh --check
-	@echo "Proving every crate, trying the must-fail edits, running the programs (14 to 24 minutes on four cores, the first time); behind it, silent where all is"
+	@echo "Proving every crate, trying the must-fail edits, running the programs (14 to 26 minutes on four cores, the first time); behind it, silent where all is"
 	@echo "as expected, the program of shift totals on stored and generated inputs, and the page on the watch beside what replay prints."
 	@scripts/gate.sh
 	@scripts/build.sh --built replay shiftreport
