@@ -23,6 +23,13 @@ for script in "$here"/scripts/generated-*.txt; do
     fi
 done
 
+if "$oracle" restore <"$here/scripts/resets.txt" | cmp -s - <(tail -n +2 "$here/scripts/restored.txt"); then
+    echo "restored.txt: it is resets.txt with a load of what each reset restored."
+else
+    echo "restored.txt is not what 'oracle restore' makes of resets.txt." >&2
+    exit 1
+fi
+
 for seed in 1 2; do
     echo "Generating a script of $calls calls with seed $seed."
     "$oracle" generate "$seed" "$calls" >"$work/$seed.txt"

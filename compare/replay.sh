@@ -123,6 +123,12 @@ for job in "${running[@]}"; do
     wait "$job" || failed=1
 done
 [ -z "${failed:-}" ] || exit 1
+# The script of the first seed once more, with a load of what each reset restored behind it.
+file="$work/${seeds%% *}-restored"
+"$oracle" generate "${seeds%% *}" "$calls" 2>/dev/null | "$oracle" restore >"$file.txt"
+compare "$file"
+echo "Seed ${seeds%% *}, restored: $(grep -c '^load ' "$file.txt") loads in $(wc -l <"$file.txt") lines of script; the $(wc -l <"$file.oracle") lines of replay are the Rust's."
+rm "$file".*
 # The calls on the desk's buffer, which no call on a head looks at, have a script of their own.
 compare_generated "${seeds%% *}" desk
 echo "Compared $(sum 'Calls in all') generated calls, $(sum tick) of them ticks, and $(sum show) shows of the head: replay and the Rust print the same $(sum 'Lines of output') lines."

@@ -35,7 +35,8 @@ kind_place PdoMapVersion = 19
 kind_place PdoPayloadShort = 20
 kind_place HeartbeatTimeout = 21
 
--- the code that an entry of such an error has; five kinds have none of their own in DS 301, and share 0x8000
+-- the code that an entry of such an error has: that of its threshold, where it has one. Five kinds share 0x8000, as in the Rust; where Wireshark's dissector names
+-- another code, or none, docs/DIFFERENCES.md has a row
 abbrev pub kind_code : DllErrorKind → ℕ
 kind_code LossOfLink = 0x8165
 kind_code BadPhysicalMode = 0x8161
