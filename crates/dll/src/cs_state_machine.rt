@@ -1,5 +1,6 @@
 // The order of frames that a controlled node expects within one cycle, one function for each state.
 ghost use Rattle.std.specs.Prelude.{◌≡◌};
+ghost use Rattle.types.specs.Listing.{AllInOrder};
 ghost use Rattle.dll.specs.Dll.{cs_state_number, read_cs_state, non_cyclic, wait_soc, wait_preq, wait_soa, cyclic, fresh_machine, cs_outcome, cs_processed};
 
 use types::frame::cs_state_machine::DllCsEvent;
@@ -17,13 +18,19 @@ pub enum DllCsState {
 }
 
 impl DllCsState {
-    // In the order of the enum.
+    /// All states, each once, in the order of the enum.
     pub const ALL: [DllCsState; 4] = [
         DllCsState::NonCyclic,
         DllCsState::WaitSoc,
         DllCsState::WaitPreq,
         DllCsState::WaitSoa,
     ];
+
+    /// Law of `ALL`: each state stands in it once, in the order of the enum.
+    pub fn all_in_order()
+        ensures { AllInOrder cs_state_number Self.ALL }
+    {
+    }
 
     // The state's place in the enum, from 0.
     pub fn as_u8(self) -> u8

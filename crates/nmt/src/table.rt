@@ -1,6 +1,7 @@
 // The NMT choice as a table: an entry for each state, event, enabled and ready, and how an entry is packed.
 ghost use Rattle.std.specs.Prelude.{◌≡◌};
-ghost use Rattle.nmt.specs.Table.{place, state_at, unpacked, ruled};
+ghost use Rattle.types.specs.States.{state_place};
+ghost use Rattle.nmt.specs.Table.{state_at, unpacked, ruled};
 
 use crate::cn_state_machine::Position;
 use types::nmt::events::NmtEvent;
@@ -40,7 +41,7 @@ pub fn chosen(state: NmtState, event: NmtEvent, enabled: bool, ready: bool) -> E
 
 // A state's place in the table.
 fn place(state: NmtState) -> usize
-    ensures { result ≡ place state }
+    ensures { result ≡ state_place state }
 {
     match state {
         NmtState::NmtGsOff => 0x0,

@@ -1,4 +1,5 @@
 pub mod Pick
+pub mod Listing
 pub mod Refusals
 pub mod Types
 pub mod Common

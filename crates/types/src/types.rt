@@ -1,18 +1,27 @@
 // Node numbers and message types (EPSG DS 301, Appendix 3).
 ghost use Rattle.std.specs.Prelude.{◌≡◌};
 ghost use Rattle.types.specs.Frames.{message_number, read_message};
-ghost use Rattle.types.specs.Types.{read_node};
+ghost use Rattle.types.specs.Types.{managing_node, diagnostic_node, router_node, broadcast_node, read_node};
 
 use crate::refusals::Refusal;
 
-// POWERLINK default Node ID of the Managing Node.
+/// POWERLINK default Node ID of the Managing Node.
 pub const C_ADR_MN_DEF_NODE_ID: u8 = 240;
-// POWERLINK Node ID for diagnostic device.
+/// POWERLINK Node ID for diagnostic device.
 pub const C_ADR_DIAG_DEF_NODE_ID: u8 = 253;
-// POWERLINK Node ID for router.
+/// POWERLINK Node ID for router.
 pub const C_ADR_RT1_DEF_NODE_ID: u8 = 254;
-// POWERLINK Node ID for broadcast messages.
+/// POWERLINK Node ID for broadcast messages.
 pub const C_ADR_BROADCAST_NODE_ID: u8 = 255;
+
+/// Law of the named node numbers: each is that of DS 301.
+pub fn named_nodes()
+    ensures managing { C_ADR_MN_DEF_NODE_ID ≡ managing_node }
+    ensures diagnostic { C_ADR_DIAG_DEF_NODE_ID ≡ diagnostic_node }
+    ensures router { C_ADR_RT1_DEF_NODE_ID ≡ router_node }
+    ensures broadcast { C_ADR_BROADCAST_NODE_ID ≡ broadcast_node }
+{
+}
 
 #[derive(Clone, Copy, Debug, PartialEq, Eq)]
 pub struct NodeId(pub u8);

@@ -1,6 +1,7 @@
 // The events that drive the DLL cycle of a controlled node (EPSG DS 301, Section 4.2.4.5.3).
 ghost use Rattle.std.specs.Prelude.{◌≡◌};
 ghost use Rattle.types.specs.CsEvents.{cs_event_number, read_cs_event};
+ghost use Rattle.types.specs.Listing.{AllInOrder};
 
 use crate::refusals::Refusal;
 
@@ -15,7 +16,7 @@ pub enum DllCsEvent {
 }
 
 impl DllCsEvent {
-    // In the order of the enum.
+    /// All events, each once, in the order of the enum.
     pub const ALL: [DllCsEvent; 6] = [
         DllCsEvent::Soc,
         DllCsEvent::Preq,
@@ -24,6 +25,12 @@ impl DllCsEvent {
         DllCsEvent::Asnd,
         DllCsEvent::SocTimeout,
     ];
+
+    /// Law of `ALL`: each event stands in it once, in the order of the enum.
+    pub fn all_in_order()
+        ensures { AllInOrder cs_event_number Self.ALL }
+    {
+    }
 
     // The event's place in the enum, from 0.
     pub fn as_u8(self) -> u8

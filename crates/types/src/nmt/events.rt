@@ -1,6 +1,7 @@
 // The NMT commands (EPSG DS 301, Appendix 3.7) and the events of the NMT state machine (Table 107).
 ghost use Rattle.std.specs.Prelude.{◌≡◌};
 ghost use Rattle.types.specs.Events.{command_number, managing_number, event_number, read_command, read_managing, read_event, command_event};
+ghost use Rattle.types.specs.Listing.{AllInOrder};
 
 use crate::refusals::Refusal;
 
@@ -121,7 +122,7 @@ impl TryFrom<u64> for NmtManagingCommand {
 }
 
 impl NmtEvent {
-    // In the order of the enum.
+    /// All events, each once, in the order of the enum.
     pub const ALL: [NmtEvent; 19] = [
         NmtEvent::StartNode,
         NmtEvent::StopNode,
@@ -143,6 +144,12 @@ impl NmtEvent {
         NmtEvent::ConfigurationCompleteCnsReady,
         NmtEvent::AllMandatoryCnsOperational,
     ];
+
+    /// Law of `ALL`: each event stands in it once, in the order of the enum.
+    pub fn all_in_order()
+        ensures { AllInOrder event_number Self.ALL }
+    {
+    }
 
     // The event's place in the enum, from 0.
     pub fn as_u8(self) -> u8

@@ -1,6 +1,7 @@
 // The NMT states of a controlled node (EPSG DS 301, Section 7.1 and Appendix 3.6).
 ghost use Rattle.std.specs.Prelude.{◌≡◌};
-ghost use Rattle.types.specs.States.{state_number, read_state};
+ghost use Rattle.types.specs.Listing.{AllInOrder};
+ghost use Rattle.types.specs.States.{state_number, state_place, read_state};
 
 use crate::refusals::Refusal;
 
@@ -21,7 +22,7 @@ pub enum NmtState {
 }
 
 impl NmtState {
-    // In the order of the enum.
+    /// All states, each once, in the order of the enum.
     pub const ALL: [NmtState; 12] = [
         NmtState::NmtGsOff,
         NmtState::NmtGsInitialising,
@@ -36,6 +37,12 @@ impl NmtState {
         NmtState::NmtCsStopped,
         NmtState::NmtBasicEthernet,
     ];
+
+    /// Law of `ALL`: each state stands in it once, in the order of the enum.
+    pub fn all_in_order()
+        ensures { AllInOrder state_place Self.ALL }
+    {
+    }
 
     pub fn as_u8(self) -> u8
         ensures { result ≡ state_number self }

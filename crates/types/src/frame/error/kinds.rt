@@ -2,6 +2,7 @@
 ghost use Rattle.std.specs.Prelude.{◌≡◌};
 ghost use Rattle.types.specs.Errors.{kind_of};
 ghost use Rattle.types.specs.Kinds.{kind_place, kind_code, read_kind, kind_behind, kind_said};
+ghost use Rattle.types.specs.Listing.{AllInOrder};
 
 use crate::frame::error::types::DllError;
 use crate::refusals::Refusal;
@@ -101,7 +102,7 @@ impl TryFrom<u64> for DllErrorKind {
 }
 
 impl DllErrorKind {
-    // In the order of the enum.
+    /// All kinds, each once, in the order of the enum.
     pub const ALL: [DllErrorKind; 22] = [
         DllErrorKind::LossOfLink,
         DllErrorKind::BadPhysicalMode,
@@ -126,6 +127,12 @@ impl DllErrorKind {
         DllErrorKind::PdoPayloadShort,
         DllErrorKind::HeartbeatTimeout,
     ];
+
+    /// Law of `ALL`: each kind stands in it once, in the order of the enum.
+    pub fn all_in_order()
+        ensures { AllInOrder kind_place Self.ALL }
+    {
+    }
 
     // The kind's place in the enum, from 0.
     pub fn place(self) -> u8
