@@ -1,4 +1,4 @@
-// The errors of the data link layer (EPSG DS 301, Section 4.7), and what they ask of NMT.
+//! The errors of the data link layer (EPSG DS 301, Section 4.7), and what they ask of NMT.
 ghost use Rattle.std.specs.Prelude.{◌≡◌};
 ghost use Rattle.types.specs.Errors.{action_number, error_kind_of, error_code, read_error};
 ghost use Rattle.types.specs.Kinds.{kind_place};
@@ -7,7 +7,7 @@ use crate::frame::error::kinds::DllErrorKind;
 use crate::refusals::Refusal;
 use crate::types::NodeId;
 
-// What NMT is asked for after an error.
+/// What NMT is asked for after an error.
 #[derive(Clone, Copy, Debug, PartialEq, Eq)]
 pub enum NmtAction {
     None,
@@ -16,7 +16,7 @@ pub enum NmtAction {
 }
 
 impl NmtAction {
-    // The action's place in the enum, from 0; the node that it carries is not in it.
+    /// The action's place in the enum, from 0; the node that it carries is not in it.
     pub fn number(self) -> u8
         ensures { result ≡ action_number self }
     {
@@ -28,6 +28,7 @@ impl NmtAction {
     }
 }
 
+/// An error of the data link layer, with its node, or with its state and event.
 #[derive(Clone, Copy, Debug, PartialEq, Eq)]
 pub enum DllError {
     LossOfLink,
@@ -54,7 +55,7 @@ pub enum DllError {
     HeartbeatTimeout { node_id: NodeId },
 }
 
-// The errors that one event reports: at most two, in order.
+/// The errors that one event reports: at most two, in order.
 #[derive(Clone, Copy, Debug, PartialEq, Eq)]
 pub enum DllErrors {
     None,
@@ -63,20 +64,23 @@ pub enum DllErrors {
 }
 
 impl DllError {
-    // The kind: the error's place in the enum, from 0.
+    /// The number of its kind: the error's place in the enum, from 0.
     pub fn kind(self) -> u8
         ensures { result ≡ error_kind_of self }
     {
         DllErrorKind::from(self).place()
     }
 
+    /// The code of its kind.
     pub fn to_error_code(self) -> u16
         ensures { result ≡ error_code self }
     {
         DllErrorKind::from(self).to_error_code()
     }
 
-    // An error from its kind; a is its node, or a and b are its state and event. What a kind does not carry is not looked at.
+    /// An error from its kind's number; `a` is its node, or `a` and `b` are its state and event. What
+    /// a kind does not carry is not looked at. Refused with 4 where no kind has the number, then with
+    /// 1 where it carries a node and `a` is none.
     pub fn try_from(kind: u64, a: u8, b: u8) -> Result<DllError, Refusal>
         ensures { result ≡ read_error kind a b }
     {
