@@ -20,7 +20,7 @@ use head::parts::{
     clear, set_capacity, set_counter, set_dll, set_earliest, set_history, set_identity, set_nmt,
     set_od, set_queue, set_soc, set_thresholds,
 };
-use head::state::{Dictionary, Head, SocWatch};
+use head::state::{Deadline, Dictionary, Head, SocWatch};
 use nmt::cn_state_machine::{CnNmtStateMachine, Position};
 use types::nmt::flags::FeatureFlags;
 use types::nmt::states::NmtState;
@@ -116,7 +116,7 @@ pub fn awaiting(head: &mut Head, earliest: u64, beats: u32, beat: u32)
 }
 
 // WaitSoc, with the last SoC at 10,000.
-fn write_cycle(head: &mut Head, check: bool, next_tick_us: Option<u64>, changed: bool)
+fn write_cycle(head: &mut Head, check: bool, next_tick_us: Deadline, changed: bool)
     ensures { head.new ≡ soc_written (set head.old at.dll 1) (soc_watch 10000 check next_tick_us changed) }
 {
     set_dll(
@@ -142,7 +142,7 @@ pub fn cycling(head: &mut Head, deadline: u64, level: u32, lost: u32)
 {
     let od = values(0, lost, 0, 0, 0);
     write(head, OPERATIONAL, od);
-    write_cycle(head, true, Some(deadline), false);
+    write_cycle(head, true, Deadline::At(deadline), false);
     set_counter(head, CounterKind::LossOfSoc, counter(lost, 0, level));
 }
 
@@ -156,7 +156,7 @@ pub fn crossed(head: &mut Head)
         ..OPERATIONAL
     };
     write(head, position, od);
-    write_cycle(head, false, None, true);
+    write_cycle(head, false, Deadline::Nothing, true);
     set_counter(head, CounterKind::LossOfSoc, counter(2, 1, 0));
     set_queue(
         head,

@@ -16,6 +16,7 @@ use Rattle.types.specs.declared.types.NodeId.{NodeId}
 use Rattle.std.specs.declared.result.Result.{Result}
 use Rattle.std.specs.declared.result.Result.TheVariants.{Ok, Err}
 use Rattle.std.specs.declared.option.Option.TheVariants.{None}
+use Rattle.head.specs.declared.state.Deadline.TheVariants.{Nothing}
 use Rattle.nmt.specs.Nmt as Nmt
 use Rattle.dll.specs.declared.cs_state_machine.DllCsState.TheVariants.{NonCyclic}
 use Rattle.counters.specs.Counters.{new_counters, thresholds_fit, Thresholds}
@@ -44,7 +45,7 @@ module _ (ws : List ℕ) (run : Run) (s : Setup) where
   given = start_of s run
 
   abbrev fresh_with : NodeId → Plain
-  fresh_with x = plain_of (Nmt.new_machine x s.feature_flags s.basic_ethernet_timeout) NonCyclic (new_counters s.thresholds) (soc_watch 0 false None false) s.od s.queue_capacity [] [] None
+  fresh_with x = plain_of (Nmt.new_machine x s.feature_flags s.basic_ethernet_timeout) NonCyclic (new_counters s.thresholds) (soc_watch 0 false Nothing false) s.od s.queue_capacity [] [] None
 
   abbrev no : Refusal → FirstStep
   no r = record { begun = declined (refusal_number r); lent = run }

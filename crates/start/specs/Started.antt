@@ -14,6 +14,7 @@ use Rattle.std.specs.Result.{IfOk}
 use Rattle.std.specs.declared.result.Result.{Result}
 use Rattle.std.specs.declared.result.Result.TheVariants.{Ok, Err}
 use Rattle.std.specs.declared.option.Option.TheVariants.{None}
+use Rattle.head.specs.declared.state.Deadline.TheVariants.{Nothing}
 use Rattle.types.specs.declared.refusals.Refusal.{Refusal}
 use Rattle.head.specs.Head.{Head, soc_watch}
 use Rattle.head.specs.Places as at
@@ -56,7 +57,7 @@ fresh_head n c s =
       nmt = Nmt.new_machine n s.feature_flags s.basic_ethernet_timeout;
       dll = fresh_machine;
       errors = new_counters s.thresholds;
-      soc = soc_watch 0 false None false;
+      soc = soc_watch 0 false Nothing false;
       od = s.od;
       queue = queue 0 0 c;
       history = error_history 0 0;

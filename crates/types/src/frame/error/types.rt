@@ -1,6 +1,7 @@
 //! The errors of the data link layer (EPSG DS 301, Section 4.7), and what they ask of NMT.
 ghost use Rattle.std.specs.Prelude.{◌≡◌};
-ghost use Rattle.types.specs.Errors.{action_number, error_kind_of, error_code, read_error};
+ghost use Rattle.std.specs.Iterator.{YieldsFirst, item_count};
+ghost use Rattle.types.specs.Errors.{action_number, error_kind_of, error_code, read_error, reported};
 ghost use Rattle.types.specs.Kinds.{kind_place};
 
 use crate::frame::error::kinds::DllErrorKind;
@@ -61,6 +62,43 @@ pub enum DllErrors {
     None,
     One(DllError),
     Two(DllError, DllError),
+}
+
+/// The errors that are left of those of one event, in their order.
+#[derive(Clone, Drop)]
+pub struct Reported(DllErrors);
+
+impl Iterator for Reported {
+    type Item = DllError;
+
+    ghost next_gives = { YieldsFirst (λ s. reported s.0) };
+
+    ghost remaining = { item_count (λ s. reported s.0) };
+
+    fn next(&mut self) -> Option<DllError> {
+        match self.0 {
+            DllErrors::None => None,
+            DllErrors::One(last) => {
+                self.0 = DllErrors::None;
+                Some(last)
+            }
+            DllErrors::Two(first, last) => {
+                self.0 = DllErrors::One(last);
+                Some(first)
+            }
+        }
+    }
+}
+
+impl IntoIterator for DllErrors {
+    type Item = DllError;
+    type IntoIter = Reported;
+
+    fn into_iter(self) -> Reported
+        ensures { result.0 ≡ self }
+    {
+        Reported(self)
+    }
 }
 
 impl DllError {
