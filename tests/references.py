@@ -5,8 +5,9 @@
   - a file that a document or a comment names, by its path or by the end of it, is there; of `file:name` the file has the name
   - another name between backquotes stands in the code, and that of a comment not in comments alone
 
-A name is looked up whole: one that is cut short is not there. docs/CHANGES.md tells of each step by the names of its time, so names alone are not looked up there; docs/PORT.md,
-docs/DESIGN-PASS.md and docs/DESIGN-PLACES.md tell of the files of other commits too, so of them links alone are."""
+A name is looked up whole: one that is cut short is not there. docs/CHANGES.md tells of each landing by
+the names of its time, so names alone are not looked up there. docs/history is passed over, and nothing
+else may name a file of it."""
 import os
 import re
 import sys
@@ -14,7 +15,7 @@ import sys
 os.chdir(os.path.dirname(os.path.dirname(os.path.abspath(__file__))))
 FILES = []
 for folder, inside, names in os.walk('.'):
-    inside[:] = [d for d in inside if d not in ('.git', 'target', 'out')]
+    inside[:] = [d for d in inside if d not in ('.git', 'target', 'out') and (folder, d) != ('./docs', 'history')]
     FILES += [os.path.relpath(os.path.join(folder, n)) for n in names]
 FILES.sort()
 TOP = ('crates', 'compare', 'tests', 'docs', 'scripts')
@@ -24,7 +25,6 @@ FILE = r'(?<![\w/.·*$-])((?:[\w.-]+/)*[\w-]+\.(?:rt\.txt|antt|rt|edit|sh|py|md|
 NAME = r"[\w·′-]+(::[\w·′-]+)*"
 # what the Rust has and we leave out, what is gone, and a file of the kit
 ELSEWHERE = {'from_od', 'TimeOfDay', 'TimeDifference', 'dll_mn_event', 'startup', 'scripts/lent_laws.py', 'Denote/Struct/Field.antt'}
-OTHER_COMMITS = ('docs/PORT.md', 'docs/DESIGN-PASS.md', 'docs/DESIGN-PLACES.md')
 TEXT = {}
 wrong = []
 
@@ -112,8 +112,6 @@ for file in FILES:
                 found += 1
                 if not re.match(r'[a-z]+:', target) and not os.path.exists(os.path.join(os.path.dirname(file), target)):
                     wrong.append(f'{file}:{number}: the link to {target} leads nowhere')
-            if file in OTHER_COMMITS:
-                continue
             found += look(f'{file}:{number}', re.sub(r'\]\([^)]*\)', ']', line), file != 'docs/CHANGES.md', True)
         else:
             found += look(f'{file}:{number}', comment(file, line), is_code(file), False)
