@@ -23,8 +23,8 @@ MARKS = {'.rt': '//', '.antt': '--', '.rs': '//', '.sh': '#', '.py': '#'}
 # a file's name with its folders; of the original Rust only what is in compare/ is here
 FILE = r'(?<![\w/.·*$-])((?:[\w.-]+/)*[\w-]+\.(?:rt\.txt|antt|rt|edit|sh|py|md|txt|out)|(?:%s)/[\w./-]*\.rs)\b' % '|'.join(TOP)
 NAME = r"[\w·′-]+(::[\w·′-]+)*"
-# what the Rust has and we leave out, what is gone, and a file of the kit
-ELSEWHERE = {'from_od', 'TimeOfDay', 'TimeDifference', 'dll_mn_event', 'startup', 'scripts/lent_laws.py', 'Denote/Struct/Field.antt'}
+# what the Rust has and we leave out
+ELSEWHERE = {'from_od', 'TimeOfDay', 'TimeDifference', 'dll_mn_event'}
 TEXT = {}
 wrong = []
 
