@@ -1,7 +1,8 @@
 #!/bin/sh
-# What the prover does not look at: no public function asks anything of its caller but those that docs/DECISIONS.md names, all public for crates of ours alone: one of
-# `heartbeats` (43) and five of `watched` (94), whose callers know what they ask, and seven that are given closures, which ask that these can be called:
-# six of `lentlaws` (97) and one of `counters` (99). Each says what it ensures, in libraries and programs alike; and what documents and comments refer to is there
+# What the prover does not look at: no public function asks anything of its caller but those that docs/DECISIONS.md names, all public
+# for crates of ours alone: one of `heartbeats` (43) and five of `watched` (94), whose callers know what they ask, and seven that are given
+# closures, which ask that these can be called: six of `lentlaws` (97) and one of `counters` (99). Each says what it ensures, in
+# libraries and programs alike, and says it of every argument (tests/premises.py). What documents and comments refer to is there
 # (tests/references.py).
 set -eu
 cd "$(dirname "$0")/.."
@@ -35,6 +36,8 @@ if [ -n "$silent" ]; then
 fi
 
 python3 tests/references.py || failed=1
+
+python3 tests/premises.py || failed=1
 
 if [ "$failed" -eq 0 ]; then
     echo "ok: each of $(echo "$public" | wc -l) public functions has an ensures, and none but those that docs/DECISIONS.md names has a requires"
