@@ -91,6 +91,7 @@ impl Iterator for Reported {
 
 impl IntoIterator for DllErrors {
     type Item = DllError;
+
     type IntoIter = Reported;
 
     fn into_iter(self) -> Reported
