@@ -209,16 +209,24 @@ def cited(term, module, modules, seen, way):
 
 def clauses(text, at):
     """The ensures behind the name of a function at a place, up to its body."""
-    i = text.index('(', at)
+    i, depth = at, 0
+    # what is generic, with the bounds of closures in it; an arrow is no bracket
+    while text[i] != '(' or depth:
+        depth += (text[i] == '<') - (text[i] == '>' and text[i - 1] != '-')
+        i += 1
     i = closing(text, i) + 1
     found = []
     while True:
-        m = re.compile(r'[{;]|\b(requires|ensures|ghost)\b').search(text, i)
-        if not m or not m[1]:
+        # a result may be an array, `[u8; 20]`
+        m = re.compile(r'[\[{;]|\b(?:requires|ensures|ghost)\b').search(text, i)
+        if m and m[0] == '[':
+            i = closing(text, m.start()) + 1
+            continue
+        if not m or m[0] in '{;':
             return found
         begin = text.index('{', m.end())
         i = closing(text, begin) + 1
-        if m[1] == 'ensures':
+        if m[0] == 'ensures':
             found.append(text[begin + 1:i - 1])
 
 
