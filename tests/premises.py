@@ -3,8 +3,8 @@
 
 Read are the ensures of each public function (`pub fn`, the methods of a trait and of its impls) and the ghost members of an impl that say what a method
 gives, with the facts of specs/ that they cite: the fields of a record and the body of an abbreviation, and what those cite in turn. Found is a fact before
-an arrow, also one that has a name, `(h : a ≡ b) →`; a binder of a value, `(q m : List ℕ) →`, is not. A word of the library that says something of one case
-alone, as IfSome, is found too. Each function that has a premise, or the definition that the premise stands in, is in tests/premises.txt with the reason why
+an arrow, also one that has a name, `(h : a ≡ b) →`; a binder of a value, `(q m : List ℕ) →`, is not. A word of the library that says something of one
+case alone, as IfSome, is found too. Each function that has a premise, or the definition that the premise stands in, is in tests/premises.txt with the reason why
 every argument is covered; a row that nothing needs is an error too."""
 import os
 import re
@@ -17,9 +17,13 @@ LIBRARY_FACTS = ONE_CASE | {'IsTrue', 'IsFalse', 'All', 'Contains', 'EachIndex',
 OPENS, CLOSES = '({[', ')}]'
 
 
-def bare(text, mark):
-    """The text without its comments."""
-    return '\n'.join(re.sub(mark + r'.*', '', line) for line in text.split('\n'))
+def without_comments(text):
+    return re.sub(r'(?:^|(?<=\s))--.*', '', text, flags=re.M)
+
+
+def without_texts(text):
+    """A .rt file without comments, and with nothing in its texts and characters, where a bracket may stand alone."""
+    return re.sub(r'//.*|"(?:\\.|[^"\\])*"|\'(?:\\.|[^\'\\])\'', lambda m: '' if m[0][0] == '/' else m[0][0] * 2, text)
 
 
 def closing(text, at):
@@ -77,7 +81,7 @@ def statements(text):
 
 def read_specs(crate, path, modules):
     with open(path, encoding='utf-8') as f:
-        text = bare(f.read(), r'(?:^|(?<=\s))--')
+        text = without_comments(f.read())
     name = crate + '.' + path.split(crate + '/', 1)[1][:-len('.antt')].replace('/', '.')
     module = modules[name] = Module()
     uses(module, text, r'^')
@@ -270,7 +274,7 @@ def main():
             for name in sorted(n for n in names if n.endswith('.rt')):
                 path = os.path.join(folder, name)
                 with open(path, encoding='utf-8') as f:
-                    text = bare(f.read(), '//')
+                    text = without_texts(f.read())
                 module = Module()
                 uses(module, text, r'^\s*(?:pub )?ghost ')
                 for function, clause in public(text):
