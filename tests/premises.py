@@ -3,8 +3,8 @@
 
 Read are the ensures of each public function (`pub fn`, the methods of a trait and of its impls) and the ghost members of an impl that say what a method
 gives, with the facts of specs/ that they cite: the fields of a record and the body of an abbreviation, and what those cite in turn. Found is a fact before
-an arrow, also one that has a name, `(h : a ≡ b) →`; a binder of a value, `(q m : List ℕ) →`, is not. A word of the library that says something of one case
-alone, as IfSome, is found too. Each function that has a premise, or the definition that the premise stands in, is in tests/premises.txt with the reason why
+an arrow, also one that has a name, `(h : a ≡ b) →`; a binder of a value, `(q m : List ℕ) →`, is not. A word of the library that says something of one
+case alone, as IfSome, is found too. Each function that has a premise, or the definition that the premise stands in, is in tests/premises.txt with the reason why
 every argument is covered; a row that nothing needs is an error too."""
 import os
 import re
@@ -17,9 +17,13 @@ LIBRARY_FACTS = ONE_CASE | {'IsTrue', 'IsFalse', 'All', 'Contains', 'EachIndex',
 OPENS, CLOSES = '({[', ')}]'
 
 
-def bare(text, mark):
-    """The text without its comments."""
-    return '\n'.join(re.sub(mark + r'.*', '', line) for line in text.split('\n'))
+def without_comments(text):
+    return re.sub(r'(?:^|(?<=\s))--.*', '', text, flags=re.M)
+
+
+def without_texts(text):
+    """A .rt file without comments, and with nothing in its texts and characters, where a bracket may stand alone."""
+    return re.sub(r'//.*|"(?:\\.|[^"\\])*"|\'(?:\\.|[^\'\\])\'', lambda m: '' if m[0][0] == '/' else m[0][0] * 2, text)
 
 
 def closing(text, at):
@@ -77,7 +81,7 @@ def statements(text):
 
 def read_specs(crate, path, modules):
     with open(path, encoding='utf-8') as f:
-        text = bare(f.read(), r'(?:^|(?<=\s))--')
+        text = without_comments(f.read())
     name = crate + '.' + path.split(crate + '/', 1)[1][:-len('.antt')].replace('/', '.')
     module = modules[name] = Module()
     uses(module, text, r'^')
@@ -209,16 +213,24 @@ def cited(term, module, modules, seen, way):
 
 def clauses(text, at):
     """The ensures behind the name of a function at a place, up to its body."""
-    i = text.index('(', at)
+    i, depth = at, 0
+    # what is generic, with the bounds of closures in it; an arrow is no bracket
+    while text[i] != '(' or depth:
+        depth += (text[i] == '<') - (text[i] == '>' and text[i - 1] != '-')
+        i += 1
     i = closing(text, i) + 1
     found = []
     while True:
-        m = re.compile(r'[{;]|\b(requires|ensures|ghost)\b').search(text, i)
-        if not m or not m[1]:
+        # a result may be an array, `[u8; 20]`
+        m = re.compile(r'[\[{;]|\b(?:requires|ensures|ghost)\b').search(text, i)
+        if m and m[0] == '[':
+            i = closing(text, m.start()) + 1
+            continue
+        if not m or m[0] in '{;':
             return found
         begin = text.index('{', m.end())
         i = closing(text, begin) + 1
-        if m[1] == 'ensures':
+        if m[0] == 'ensures':
             found.append(text[begin + 1:i - 1])
 
 
@@ -262,7 +274,7 @@ def main():
             for name in sorted(n for n in names if n.endswith('.rt')):
                 path = os.path.join(folder, name)
                 with open(path, encoding='utf-8') as f:
-                    text = bare(f.read(), '//')
+                    text = without_texts(f.read())
                 module = Module()
                 uses(module, text, r'^\s*(?:pub )?ghost ')
                 for function, clause in public(text):

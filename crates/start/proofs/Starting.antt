@@ -161,6 +161,7 @@ module _ (ws : List ℕ) (s : Setup) (formed : Bool) (i : Result NodeId Refusal)
   declines x a k =
       record {
         answer = a;
+        words = refl;
         on = λ run g l y. subst (StartedOn ws run s (Err x) ws) (sym y) (k run g);
       }
 
@@ -196,5 +197,6 @@ module _ (ws : List ℕ) (s : Setup) (formed : Bool) (i : Result NodeId Refusal)
       begins_taken a u ws' r =
           record {
             answer = behind true true a u;
+            words = r.1 ∙ ap (λ (x : NodeId). fresh_words x s.queue_capacity s) (sym (read_is s.node x (sym e ∙ g)));
             on = λ run h l y. start_taken ws run s i e x g z (sym h ∙ a) u ws' r l y;
           }

@@ -101,7 +101,9 @@ pub record StartedIn (ws ns : List ℕ) (k : ℕ) (s : Setup) (a : Result (Unit 
   pub on : StartedOn ws (run (nodes_of ns) k) s a ws' (run (nodes_of ns') k)
   pub nodes : ns' ≡ unless_refused a ns (unheard_words k ns)
 
--- Of start without the run, whose form it need not know: what it answers, and what start leaves of any run that passes number 3 or doesn't, as was said.
+-- Of start without the run, whose form it need not know: what it answers, every word of the head, and what start leaves of any run that passes number 3
+-- or doesn't, as was said.
 pub record BeginsBy (ws : List ℕ) (s : Setup) (formed : Bool) (a : Result (Unit {0}) Refusal) (ws' : List ℕ) : Type 0 where
   pub answer : a ≡ start_answer s.node s.queue_capacity formed s.thresholds
+  pub words : ws' ≡ unless_refused a ws (fresh_words (node s.node) s.queue_capacity s)
   pub on : (r : Run) → formed ≡ well_lent r → (l : Run) → l ≡ start_left a r → StartedOn ws r s a ws' l

@@ -45,7 +45,6 @@ use Rattle.heartbeats.specs.PartsIn.{dealt_of, TicksIn}
 use Rattle.node.specs.InPlace.{unless_refused}
 use Rattle.tick.specs.TickIn.{is_still, roused_of, TickedOn, TickedIn, still_answered, still_step, StillTicks}
 use Rattle.heartbeats.proofs.Beatings.{all_looked_fit, rest_before, rest_late, rest_words_lem, rest_run}
-use Rattle.tick.proofs.Passings.{on}
 
 -- what a first look that saw something says, and one that saw nothing
 module _ (a : Option Seen) (y : Result Seen Refusal) (e : y ≡ ok_or a WatchedNodes) where
