@@ -8,11 +8,12 @@
 # make compare-oracle  replays and generates call scripts on the original Rust (the same needs)
 # make watch    plays the example of docs/WATCH.md and holds that page to what replay prints
 # make shift    proves the program of shift totals, runs it on stored and generated inputs and measures it on a gigabyte of entries
+# make twins    tries the twins of the wrong programs that change the code's shape: each has to be proved, a check each, some minutes (docs/DECISIONS.md, 'Two wrong programs')
 # make wireshark  compares the bytes of entries, and the numbers of NMT states and commands, with what Wireshark reads (needs tshark)
 
 SHELL := bash
 .SHELLFLAGS := -euo pipefail -c
-.PHONY: run incident replay watch shift test compare compare-oracle wireshark
+.PHONY: run incident replay watch shift test twins compare compare-oracle wireshark
 
 replay:
 	@mkdir -p target/bin
@@ -46,6 +47,9 @@ test:
 	@scripts/build.sh --built replay shiftreport
 	@tests/shiftreport.py >target/shift.log || { cat target/shift.log; exit 1; }
 	@tests/watch.py --quiet
+
+twins:
+	@tests/twins.py
 
 compare:
 	@compare/lent.sh

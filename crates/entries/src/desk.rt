@@ -17,6 +17,7 @@ fn has_room(length: usize, place: u64) -> bool
 }
 
 // Writes an entry at a place: the part from there on is lent on to the writer. What is refused changes no byte.
+#[tactic(auto, unfolding(crate::specs::Desk::write_reply, crate::specs::Desk::desk_after))]
 pub fn write_at(buffer: &mut [u8], place: u64, entry: ErrorEntry) -> Result<(), Refusal>
     ensures { (write_said result ≡ write_reply buffer.old place entry) × (buffer.new ≡ desk_after buffer.old place entry) }
 {
