@@ -2,7 +2,7 @@
 // watched.
 ghost use Rattle.std.specs.Prelude.{◌≡◌, ◌≤◌, ◌<◌, ◌+◌, ◌*◌, set, true, MatchOption};
 ghost use Rattle.types.specs.Pick.{all_of};
-ghost use Rattle.watched.specs.Watched.{well_formed, watched_of};
+ghost use Rattle.watched.specs.Watched.{well_formed, no_node, watched_of};
 ghost use Rattle.watched.specs.Climb.{climbed, over, climb_of, climbed_of, heard_climbed, nodes_from};
 ghost use Rattle.watched.specs.Nodes.{never, moment_of, climbing, numbered, roused_from, nodes_tried, found_of, seen_of, node_of, nodes_of};
 
@@ -22,12 +22,18 @@ pub struct WatchedNode {
 }
 
 impl WatchedNode {
-    // What a place past the watched nodes holds.
+    /// What a place past the watched nodes holds.
     pub const NONE: Self = Self {
         node: 0,
         timeout: 0,
         last_heard: 0,
     };
+
+    /// Law of `NONE`: it is no node.
+    pub fn none_is_no_node()
+        ensures { Self.NONE ≡ no_node }
+    {
+    }
 }
 
 // No moment, as long as a walk goes on: it carries the earliest one as a number, since a least number takes no test.

@@ -1,7 +1,7 @@
 // What three words of a node stand for, as they lie in the words of 32 places.
 ghost use Rattle.std.specs.Prelude.{◌≡◌, ◌<◌, ◌+◌, ◌*◌, ltb, set, true};
 ghost use Rattle.types.specs.Pick.{both};
-ghost use Rattle.watched.specs.Watched.{timed, fits};
+ghost use Rattle.watched.specs.Watched.{timed, fits, no_node};
 ghost use Rattle.watched.specs.Climb.{one_less, three_before};
 ghost use Rattle.watched.specs.Nodes.{not_before, numbered, sooner_by, rest_until, node_of, node_at, nodes_of};
 
@@ -38,12 +38,18 @@ fn one_less(time: u64) -> u64
 }
 
 impl NodeRecord {
-    // What a place past the watched nodes holds.
+    /// What a place past the watched nodes holds.
     pub const NONE: Self = Self {
         node: 0,
         timeout: 0,
         last_heard: 0,
     };
+
+    /// Law of `NONE`: it stands for no node.
+    pub fn none_is_no_node()
+        ensures { node_of Self.NONE ≡ no_node }
+    {
+    }
 
     // The node at a place.
     pub fn at(nodes: &NodeWords, place: usize) -> Self
