@@ -4,6 +4,7 @@
   - a link of a document leads to a file
   - a file that a document or a comment names, by its path or by the end of it, is there; of `file:name` the file has the name
   - another name between backquotes stands in the code, and that of a comment not in comments alone
+  - in docs/CLAIMS.md a file is named by enough of its path, and a name alone in a cell is of the file before it there
 
 A name is looked up whole: one that is cut short is not there. docs/CHANGES.md tells of each step by the names of its time, so names alone are not looked up there; docs/PORT.md,
 docs/DESIGN-PASS.md and docs/DESIGN-PLACES.md tell of the files of other commits too, so of them links alone are."""
@@ -104,6 +105,20 @@ def look(place, words, names, everywhere):
     return count
 
 
+def look_at_cell(place, cell):
+    """What a cell of docs/CLAIMS.md refers to, beside what each line does."""
+    before = []
+    for word in re.findall(r'`([^`]+)`', cell):
+        path, _, name = word.partition(':')
+        files = named(path)
+        if len(files) > 1:
+            wrong.append(f'{place}: {path} is any of {", ".join(files)}')
+        if files:
+            before = files if name else []
+        elif before and not re.fullmatch(FILE, path) and not any(has(text(f), word) for f in before):
+            wrong.append(f"{place}: {before[0]} does not have '{word}'")
+
+
 found = 0
 for file in FILES:
     for number, line in enumerate(text(file).split('\n') if file.endswith(('.md', *MARKS)) or file == 'Makefile' else [], 1):
@@ -115,6 +130,9 @@ for file in FILES:
             if file in OTHER_COMMITS:
                 continue
             found += look(f'{file}:{number}', re.sub(r'\]\([^)]*\)', ']', line), file != 'docs/CHANGES.md', True)
+            if file == 'docs/CLAIMS.md':
+                for cell in line.split('|'):
+                    look_at_cell(f'{file}:{number}', cell)
         else:
             found += look(f'{file}:{number}', comment(file, line), is_code(file), False)
 if wrong:
