@@ -1,7 +1,7 @@
 #!/bin/sh
 # What the prover does not look at: each public function says what it ensures, and none asks anything of its caller but those of tests/requires.txt, each by the
 # text there (tests/contracts.py): functions that are public for crates of ours alone, whose callers know what they ask, and those that are given a closure,
-# which ask that it can be called (docs/DECISIONS.md 43, 94, 97 and 99). And what documents and comments refer to is there (tests/references.py).
+# which ask that it can be called (docs/DECISIONS.md, 'Who may ask something'). And what documents and comments refer to is there (tests/references.py).
 set -u
 cd "$(dirname "$0")/.."
 failed=0

@@ -6,8 +6,9 @@
   - another name between backquotes stands in the code, and that of a comment not in comments alone
   - in docs/CLAIMS.md a file is named by enough of its path, and a name alone in a cell is of the file before it there
 
-A name is looked up whole: one that is cut short is not there. docs/CHANGES.md tells of each step by the names of its time, so names alone are not looked up there; docs/PORT.md,
-docs/DESIGN-PASS.md and docs/DESIGN-PLACES.md tell of the files of other commits too, so of them links alone are."""
+A name is looked up whole: one that is cut short is not there. docs/CHANGES.md tells of each landing by
+the names of its time, so names alone are not looked up there. docs/history is passed over, and nothing
+else may name a file of it."""
 import os
 import re
 import sys
@@ -15,7 +16,7 @@ import sys
 os.chdir(os.path.dirname(os.path.dirname(os.path.abspath(__file__))))
 FILES = []
 for folder, inside, names in os.walk('.'):
-    inside[:] = [d for d in inside if d not in ('.git', 'target', 'out')]
+    inside[:] = [d for d in inside if d not in ('.git', 'target', 'out') and (folder, d) != ('./docs', 'history')]
     FILES += [os.path.relpath(os.path.join(folder, n)) for n in names]
 FILES.sort()
 TOP = ('crates', 'compare', 'tests', 'docs', 'scripts')
@@ -23,9 +24,8 @@ MARKS = {'.rt': '//', '.antt': '--', '.rs': '//', '.sh': '#', '.py': '#'}
 # a file's name with its folders; of the original Rust only what is in compare/ is here
 FILE = r'(?<![\w/.·*$-])((?:[\w.-]+/)*[\w-]+\.(?:rt\.txt|antt|rt|edit|sh|py|md|txt|out)|(?:%s)/[\w./-]*\.rs)\b' % '|'.join(TOP)
 NAME = r"[\w·′-]+(::[\w·′-]+)*"
-# what the Rust has and we leave out, what is gone, and a file of the kit
-ELSEWHERE = {'from_od', 'TimeOfDay', 'TimeDifference', 'dll_mn_event', 'startup', 'scripts/lent_laws.py', 'Denote/Struct/Field.antt'}
-OTHER_COMMITS = ('docs/PORT.md', 'docs/DESIGN-PASS.md', 'docs/DESIGN-PLACES.md')
+# what the Rust has and we leave out
+ELSEWHERE = {'from_od', 'TimeOfDay', 'TimeDifference', 'dll_mn_event'}
 TEXT = {}
 wrong = []
 
@@ -127,8 +127,6 @@ for file in FILES:
                 found += 1
                 if not re.match(r'[a-z]+:', target) and not os.path.exists(os.path.join(os.path.dirname(file), target)):
                     wrong.append(f'{file}:{number}: the link to {target} leads nowhere')
-            if file in OTHER_COMMITS:
-                continue
             found += look(f'{file}:{number}', re.sub(r'\]\([^)]*\)', ']', line), file != 'docs/CHANGES.md', True)
             if file == 'docs/CLAIMS.md':
                 for cell in line.split('|'):
