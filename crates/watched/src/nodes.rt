@@ -274,7 +274,8 @@ pub fn find(nodes: &NodeWords, count: usize, node: u64, time: u64) -> Option<(us
 #[derive(Clone, Copy)]
 pub enum Seen {
     /// Some node does not rest, so that the tick has to go over all. True where the time is before
-    /// no last-heard time of a node with a timeout; where it is false, BeforeHeard refuses the tick.
+    /// no last-heard time of a node with a timeout; where it is false, BeforeHeard refuses the
+    /// tick.
     Roused(bool),
     /// All nodes rest; the soonest moment, in µs, at which one would be late.
     Resting(Option<u64>),
