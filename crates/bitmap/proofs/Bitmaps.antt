@@ -49,7 +49,7 @@ module _ (ws : List WatchedNode) where
         let e : 8 * (n / 8) + n % 8 ≡ n = omega arith in
         listed_at (λ (j : ℕ). is_watched (8 * (n / 8) + j) ws) 8 (n % 8) false (omega arith) ∙ ap (λ (m : ℕ). is_watched m ws) e
 
-    -- "node n being bit n mod 8 of byte n div 8"
+    -- node n is bit n mod 8 of byte n / 8
     pub bit_told : is_set (get_or (bytes_of ws) (n / 8) 0) (n % 8) ≡ is_watched n ws
     bit_told =
         let long : length (bits_at ws (n / 8)) ≡ 8 = listed_long (λ (j : ℕ). is_watched (8 * (n / 8) + j) ws) 8 in
@@ -152,7 +152,7 @@ rising_counted n (w ∷ ws) r =
     (absent w.node w.node ws rest (omega arith))
     ∙ ap suc (rising_counted w.node ws rest)
 
--- "the number of nodes counted from those bits" is the number of nodes
+-- the number of bits that are set is the number of nodes
 pub counted : (ws : List WatchedNode) → well_formed ws ≡ true → ones_of (bytes_of ws) ≡ length ws
 unfolding well_formed
 counted ws h =
@@ -168,7 +168,7 @@ few_ones (b ∷ s) bytes = omega (arith, sum_by-cons ones b s, ones-le 8 b (byte
 pub ones_fit : (s : List ℕ) → length s ≡ 32 → ((i : ℕ) → get_or s i 0 < 256) → sum_by ones s < 2 ^ 32
 ones_fit s long bytes = omega (arith, few_ones s bytes)
 
--- the call, by number 3
+-- the call, by whether the run is well formed
 module _ (r : Run) (s : List ℕ) where
   pub turned_away_lem : well_lent r ≡ false → BitsWritten r s (Err WatchedNodes) s
   unfolding bitmap_reply bytes_after

@@ -58,11 +58,11 @@ module _ (r : Run) (s s' : List ℕ) where
     number_counted = (
       taken_means.1 ∙ ap ones_of (sym left_written),
       taken_means.1
-      ∙ counted (watching r) (both_second (eqb (length r.places) 32) (well_formed (watching r)) taken_means.0)
-      ∙ listed_long (λ (i : ℕ). get_or r.places i no_node) r.number,
+          ∙ counted (watching r) (both_second (eqb (length r.places) 32) (well_formed (watching r)) taken_means.0)
+          ∙ listed_long (λ (i : ℕ). get_or r.places i no_node) r.number,
     )
 
-  -- A call that is refused changes no byte, and is refused by number 3.
+  -- A call that is refused changes no byte, and is refused by 3, WatchedNodes.
   pub refused_keeps : (e : Refusal) → BitsWritten r s (Err e) s' → (refusal_number e ≡ 3) × (s' ≡ s)
   unfolding bitmap_reply bytes_after
   refused_keeps e l =

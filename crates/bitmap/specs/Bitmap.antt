@@ -1,4 +1,4 @@
--- The watched nodes as 32 bytes.
+-- The watched nodes as 32 bytes (RULES 8.7).
 -- Assumes nothing.
 use Rattle.std.specs.Prelude.{ℕ, ◌≡◌, ◌+◌, ◌*◌, ◌/◌, ◌%◌, ◌^◌, Bool, List, [], ◌∷◌, eqb, get_or, set, bit_or, sum_by}
 use Rattle.std.specs.Int.Count.{ones}
@@ -12,7 +12,7 @@ use Rattle.std.specs.declared.result.Result.{Result}
 use Rattle.std.specs.declared.result.Result.TheVariants.{Ok, Err}
 use Rattle.types.specs.declared.refusals.Refusal.{Refusal}
 
--- the number that bits stand for, "lowest bit first"
+-- the number that bits stand for, the lowest bit first
 abbrev pub lowest_first : List Bool → ℕ
 lowest_first [] = 0
 lowest_first (b ∷ bs) = pick b 1 0 + 2 * lowest_first bs
@@ -21,11 +21,11 @@ lowest_first (b ∷ bs) = pick b 1 0 + 2 * lowest_first bs
 abbrev pub is_set : ℕ → ℕ → Bool
 is_set byte j = eqb (byte / 2 ^ j % 2) 1
 
--- "node n being bit n mod 8 of byte n div 8": bit j of byte i is the node 8 i + j
+-- byte i: its bit j is set where the node 8 i + j is watched
 abbrev pub byte_of : List WatchedNode → ℕ → ℕ
 byte_of ws i = lowest_first (listed (λ j. is_watched (8 * i + j) ws) 8)
 
--- "The watched nodes are also written as 32 bytes"
+-- the 32 bytes
 unfoldable pub bytes_of : List WatchedNode → List ℕ
 bytes_of ws = listed (byte_of ws) 32
 
@@ -33,19 +33,21 @@ bytes_of ws = listed (byte_of ws) 32
 abbrev pub with_bit : ℕ → List ℕ → List ℕ
 with_bit n s = set s (n / 8) (bit_or (get_or s (n / 8) 0) (2 ^ (n % 8)))
 
--- "the number of nodes counted from those bits": the ones of all bytes together
+-- how many bits of some bytes are set
 abbrev pub ones_of : List ℕ → ℕ
 ones_of bytes = sum_by ones bytes
 
+-- the answer of `bitmap`
 abbrev pub bitmap_said : Result ℕ Refusal → Reply ℕ
 bitmap_said (Ok n) = Reply.gives n
 bitmap_said (Err r) = Reply.turned_away (refusal_number r)
 
--- what is answered of a run: number 3, as at every call that is lent one, or how many bits are set
+-- what is answered for a run: turned away by 3, WatchedNodes, where it is not well formed; else how
+-- many bits are set
 unfoldable pub bitmap_reply : Run → Reply ℕ
 bitmap_reply r = pick (well_lent r) (Reply.gives (ones_of (bytes_of (watching r)))) (Reply.turned_away 3)
 
--- what becomes of the 32 bytes s
+-- what the call leaves of the 32 bytes s
 unfoldable pub bytes_after : Run → List ℕ → List ℕ
 bytes_after r s = unless_turned_away (bitmap_reply r) s (bytes_of (watching r))
 

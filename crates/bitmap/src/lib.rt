@@ -1,4 +1,5 @@
-// The watched nodes as 32 bytes: node n is bit n mod 8 of byte n div 8, lowest bit first. Here from words; crate `lent` has the form over a run of records.
+//! The watched nodes as 32 bytes (RULES 8.7): node n is bit n mod 8 of byte n / 8, lowest bit
+//! first. Here from words; the crate `lent` has the form over a run of records.
 #![tactic(auto)]
 
 ghost use Rattle.std.specs.Prelude.{◌≡◌};
@@ -10,7 +11,7 @@ use types::refusals::Refusal;
 use watched::nodes::{Formed, NodeWords, well_formed};
 use watched::record::NodeRecord;
 
-/// Sets the bit of a node; all other bits stay.
+/// Sets the bit of a node, any byte; all other bits stay.
 pub fn set_bit(bytes: &mut [u8; 32], node: u8)
     ensures { bytes.new ≡ with_bit node bytes.old }
 {
@@ -26,7 +27,8 @@ pub fn count_bits(bytes: &[u8; 32]) -> u32
 
 // All bits cleared, then one set for each node.
 fn set_bits(formed: Formed, bytes: &mut [u8; 32])
-    ensures { bytes.new ≡ bytes_of (watched_of (nodes_of formed.entry.nodes.now) formed.entry.count) }
+    ensures { bytes.new ≡
+        bytes_of (watched_of (nodes_of formed.entry.nodes.now) formed.entry.count) }
 {
     *bytes = [0; 32];
     for i in 0..formed.count {
@@ -34,9 +36,10 @@ fn set_bits(formed: Formed, bytes: &mut [u8; 32])
     }
 }
 
-/// Writes the watched nodes as bits, whatever the bytes held before, and answers how many bits are set.
+/// Writes the watched nodes as bits, whatever the bytes held before, and answers how many bits are
+/// set, which is how many nodes are watched.
 ///
-/// Refused by number 3 where the nodes are more than 32, do not ascend, or one is not within its limits; then no byte changes.
+/// Refused by WatchedNodes where the run is not well formed (RULES 8.2); then no byte changes.
 pub fn bitmap(nodes: &NodeWords, count: usize, bytes: &mut [u8; 32]) -> Result<u32, Refusal>
     ensures { BitsWritten (run (nodes_of nodes.now) count) bytes.old result bytes.new }
 {

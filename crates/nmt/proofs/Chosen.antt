@@ -1,5 +1,6 @@
--- What `chosen` needs of the table that the rule asks for: the entry of every state, event, enabled and ready is the rule's, and reading the entry is what
--- the rule makes of the event. That the table is this one antt computes, in the proof of `chosen`.
+-- What `chosen` needs of the table: the entry of every state, event, enabled and ready is that of
+-- the rules, and reading the entry gives what the rules make of the event. That the table in src/
+-- is this one is computed in the proof of `chosen`.
 -- Assumes nothing.
 use Prim.Native.Nat.{ℕ}
 use mathlib.Core.Path.{◌≡◌, refl, ap, ◌∙◌}
@@ -84,7 +85,7 @@ module _ (m : CnNmtStateMachine) (e : NmtEvent) where
   unfolding ruled processed
   ruled_read = by_reset_lem (is_reset e) refl
 
--- a machine that follows the entry of the rule meets the rule
+-- a machine that goes by the entry of the rules goes by the rules
 pub follows :
     (m : CnNmtStateMachine) (e : NmtEvent) (x : Entry) (es : List DllError) (p : Passed) →
     x ≡ ruled m.current_state e m.ready_to_operate_enabled m.app_ready →
@@ -93,7 +94,7 @@ pub follows :
     ◌≡◌ {A = Outcome} (record { machine = with m x.position.state x.position.enabled x.position.ready; errors = es; reset = p }) (processed m e)
 follows m e x es p asked reported passed = rw (reported, passed) (ap (read m e) asked) ∙ ruled_read m e
 
--- the table that the rule asks for
+-- the table of the rules
 abbrev flags : List Bool
 flags = false ∷ true ∷ []
 

@@ -37,8 +37,8 @@ impl NetTime {
         (self.seconds as u64) * 1_000_000_000 + (self.nanoseconds as u64)
     }
 
-    /// The time later by so many nanoseconds, the seconds modulo 2^32. The sum of the nanoseconds is
-    /// made in 64 bits: with nanoseconds far above a second it would overflow 32.
+    /// The time later by so many nanoseconds, the seconds modulo 2^32. The sum of the nanoseconds
+    /// is made in 64 bits: with nanoseconds far above a second it would overflow 32.
     #[tactic(auto, unfolding(crate::specs::Common::add_nanos))]
     pub fn add_nanos(self, nanos: u64) -> Self
         ensures { result ≡ add_nanos self nanos }

@@ -31,7 +31,8 @@ impl MessageType {
         match self {
             MessageType::SoC => Some(NmtEvent::SocReceived),
             MessageType::SoA => Some(NmtEvent::SoAReceived),
-            // PReq and PRes are part of the cycle; the command that an ASnd may carry is in its payload.
+            // PReq and PRes are part of the cycle; the command that an ASnd may carry is in its
+            // payload.
             _ => None,
         }
     }

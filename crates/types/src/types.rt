@@ -1,7 +1,8 @@
 //! Node numbers and message types (EPSG DS 301, Appendix 3).
 ghost use Rattle.std.specs.Prelude.{◌≡◌};
 ghost use Rattle.types.specs.Frames.{message_number, read_message};
-ghost use Rattle.types.specs.Types.{managing_node, diagnostic_node, router_node, broadcast_node, read_node};
+ghost use Rattle.types.specs.Types.{managing_node, diagnostic_node, router_node, broadcast_node};
+ghost use Rattle.types.specs.Types.{read_node};
 
 use crate::refusals::Refusal;
 
@@ -26,7 +27,7 @@ pub fn named_nodes()
 #[derive(Clone, Copy, Debug, PartialEq, Eq)]
 pub struct NodeId(pub u8);
 
-/// The node of a number: 1 to 240, 253, 254 or 255; refusal 1 for any other.
+/// The node of a number: 1 to 240, 253, 254 or 255; refused by NodeNumber for any other.
 #[tactic(auto, unfolding(crate::specs::Types::read_node))]
 impl TryFrom<u8> for NodeId {
     type Error = Refusal;

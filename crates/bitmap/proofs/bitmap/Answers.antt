@@ -1,4 +1,4 @@
--- `bitmap::bitmap` meets its contract: number 3 first, then the bytes, then the count of their bits.
+-- `bitmap::bitmap` meets its contract: WatchedNodes first, then the bytes, then the count of their bits.
 -- Assumes nothing.
 use mathlib.Core.Path.{sym, ◌∙◌}
 use Rattle.watched.specs.Watched.{run}

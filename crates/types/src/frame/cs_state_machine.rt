@@ -8,7 +8,8 @@ use crate::refusals::Refusal;
 use std::fmt;
 use std::fmt::Display;
 
-/// What the DLL machine takes: a frame of the cycle that came, or that the SoC did not come in time.
+/// What the DLL machine takes: a frame of the cycle that came, or that the SoC did not come in
+/// time.
 #[derive(Clone, Copy, Debug, PartialEq, Eq)]
 pub enum DllCsEvent {
     Soc,
@@ -66,7 +67,7 @@ impl Display for DllCsEvent {
     }
 }
 
-/// The event at a place; refusal 4 where there is none.
+/// The event at a place; refused by UnknownNumber where there is none.
 #[tactic(auto, unfolding(crate::specs::CsEvents::read_cs_event))]
 impl TryFrom<u64> for DllCsEvent {
     type Error = Refusal;

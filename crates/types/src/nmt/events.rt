@@ -1,6 +1,8 @@
-//! The NMT commands (EPSG DS 301, Appendix 3.7) and the events of the NMT state machine (Table 107).
+//! The NMT commands (EPSG DS 301, Appendix 3.7) and the events of the NMT state machine (Table
+//! 107).
 ghost use Rattle.std.specs.Prelude.{◌≡◌, Some};
-ghost use Rattle.types.specs.Events.{command_number, managing_number, event_number, read_command, read_managing, read_event, command_event};
+ghost use Rattle.types.specs.Events.{command_number, managing_number, event_number, command_event};
+ghost use Rattle.types.specs.Events.{read_command, read_managing, read_event};
 ghost use Rattle.types.specs.Listing.{AllInOrder};
 ghost use Rattle.types.specs.Names.{command_name, managing_name, event_name};
 
@@ -91,7 +93,8 @@ impl Display for NmtStateCommand {
     }
 }
 
-/// The state command that has the number; refusal 4 where none has it, as 0x62 and 0x63.
+/// The state command that has the number; refused by UnknownNumber where none has it, as for 0x62
+/// and 0x63.
 #[tactic(auto, unfolding(crate::specs::Events::read_command))]
 impl TryFrom<u64> for NmtStateCommand {
     type Error = Refusal;
@@ -159,7 +162,7 @@ impl Display for NmtManagingCommand {
     }
 }
 
-/// The managing command that has the number; refusal 4 where none has it.
+/// The managing command that has the number; refused by UnknownNumber where none has it.
 #[tactic(auto, unfolding(crate::specs::Events::read_managing))]
 impl TryFrom<u64> for NmtManagingCommand {
     type Error = Refusal;
@@ -248,7 +251,7 @@ impl Display for NmtEvent {
     }
 }
 
-/// The event at a place; refusal 4 where there is none.
+/// The event at a place; refused by UnknownNumber where there is none.
 #[tactic(auto, unfolding(crate::specs::Events::read_event))]
 impl TryFrom<u64> for NmtEvent {
     type Error = Refusal;

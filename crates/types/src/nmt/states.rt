@@ -116,7 +116,7 @@ impl Display for NmtState {
     }
 }
 
-/// The state that has the number; refusal 4 where none has it.
+/// The state that has the number; refused by UnknownNumber where none has it.
 #[tactic(auto, unfolding(crate::specs::States::read_state))]
 impl TryFrom<u64> for NmtState {
     type Error = Refusal;

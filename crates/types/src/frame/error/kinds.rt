@@ -81,7 +81,7 @@ impl Display for DllErrorKind {
     }
 }
 
-/// The kind at a place; refusal 4 where there is none.
+/// The kind at a place; refused by UnknownNumber where there is none.
 #[tactic(auto, unfolding(crate::specs::Kinds::read_kind))]
 impl TryFrom<u64> for DllErrorKind {
     type Error = Refusal;
@@ -213,7 +213,8 @@ impl DllErrorKind {
         }
     }
 
-    /// The one kind that has the code. Refused with 13 where no kind has it, or more than one.
+    /// The one kind that has the code. Refused by NoSingleKind where no kind has it, or more than
+    /// one.
     pub fn from_error_code(code: u64) -> Result<DllErrorKind, Refusal>
         ensures { kind_said result ≡ kind_behind code }
     {

@@ -1,7 +1,8 @@
 //! The errors of the data link layer (EPSG DS 301, Section 4.7), and what they ask of NMT.
 ghost use Rattle.std.specs.Prelude.{◌≡◌};
 ghost use Rattle.std.specs.Iterator.{YieldsFirst, item_count};
-ghost use Rattle.types.specs.Errors.{action_number, error_kind_of, error_code, read_error, reported};
+ghost use Rattle.types.specs.Errors.{action_number, error_kind_of, error_code, read_error};
+ghost use Rattle.types.specs.Errors.{reported};
 ghost use Rattle.types.specs.Kinds.{kind_place};
 
 use crate::frame::error::kinds::DllErrorKind;
@@ -117,9 +118,9 @@ impl DllError {
         DllErrorKind::from(self).to_error_code()
     }
 
-    /// An error from its kind's number; `a` is its node, or `a` and `b` are its state and event. What
-    /// a kind does not carry is not looked at. Refused with 4 where no kind has the number, then with
-    /// 1 where it carries a node and `a` is none.
+    /// An error from its kind's number; `a` is its node, or `a` and `b` are its state and event.
+    /// What a kind does not carry is not looked at. Refused by UnknownNumber where no kind has the
+    /// number, then by NodeNumber where it carries a node and `a` is none.
     pub fn try_from(kind: u64, a: u8, b: u8) -> Result<DllError, Refusal>
         ensures { result ≡ read_error kind a b }
     {
