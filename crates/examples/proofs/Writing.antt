@@ -13,7 +13,7 @@ use Rattle.counters.specs.declared.counters.CounterKind.TheVariants.{LossOfSoc, 
 use Rattle.entries.specs.Ring.{listed}
 use Rattle.entries.specs.Queue.{queue, waiting}
 use Rattle.entries.specs.History.{error_history, history}
-use Rattle.std.specs.declared.option.Option.TheVariants.{Some, None}
+use Rattle.std.specs.declared.option.Option.TheVariants.{Some}
 use Rattle.head.specs.declared.state.Deadline.TheVariants.{At, Nothing}
 use Rattle.head.specs.Head.{Head, soc_watch, head_with_earliest}
 use Rattle.head.specs.Places as at
