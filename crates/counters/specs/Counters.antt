@@ -161,7 +161,7 @@ counted_error k s e = pick (after_error (counter k s)).reached (crossed_answer (
 abbrev pub decremented : ThresholdCounter → ThresholdCounter
 decremented c = counter_of c.cumulative_cnt (c.threshold_cnt - 1) c.threshold c.crossings_cnt
 
--- the same for all counters
+-- the counters after a completed cycle, which takes 1 from each level above 0
 unfoldable pub lowered : CnErrorCounters → CnErrorCounters
 lowered s = by_kind (λ (k : CounterKind). decremented (counter k s)) s.loss_of_link_cumulative
 
@@ -169,7 +169,7 @@ lowered s = by_kind (λ (k : CounterKind). decremented (counter k s)) s.loss_of_
 abbrev pub active : ThresholdCounter → Bool
 active c = ltb 0 c.threshold_cnt
 
--- that of some kind is
+-- the level of some kind is above 0
 unfoldable pub any_active : CnErrorCounters → Bool
 any_active s = any_of (λ (k : CounterKind). active (counter k s)) counter_kinds
 
@@ -223,20 +223,20 @@ effect (error.PdoMapVersion n) = is_logged
 effect (error.PdoPayloadShort n) = is_logged
 effect (error.HeartbeatTimeout n) = counts HeartbeatTimeout
 
--- the same as the function `effect_of` answers it
+-- the effect that the function `effect_of` answers
 abbrev pub effect_of : ErrorEffect → Effect
 effect_of (an-effect.Counts k) = counts k
 effect_of an-effect.LosesLink = loses_link
 effect_of an-effect.IsLogged = is_logged
 effect_of an-effect.Nothing = nothing
 
--- an error with this effect
+-- what an error with an effect leaves and answers
 abbrev pub handled_as : Effect → CnErrorCounters → DllError → HandledError
 handled_as (counts k) s e = counted_error k s e
 handled_as loses_link s e = signalled_answer (link_lost s) e
 handled_as is_logged s e = signalled_answer s e
 handled_as nothing s e = unsignalled s
 
--- an error given to the counters
+-- the counters after an error was given to them, and its answer
 unfoldable pub handled : CnErrorCounters → DllError → HandledError
 handled s e = handled_as (effect e) s e

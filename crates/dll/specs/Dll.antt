@@ -48,7 +48,7 @@ goes s es = record { state = s; errors = es }
 abbrev pub unexpected : DllCsState → DllCsEvent → CsOutcome
 unexpected s e = goes s (UnexpectedEventInState (cs_state_number s) (cs_event_number e) ∷ [])
 
--- in NonCyclic
+-- an event in NonCyclic
 abbrev pub non_cyclic : DllCsEvent → CsOutcome
 non_cyclic Soc = goes WaitPreq []  -- DLL_CT01
 non_cyclic Preq = unexpected NonCyclic Preq
@@ -57,7 +57,7 @@ non_cyclic Soa = unexpected NonCyclic Soa
 non_cyclic Asnd = unexpected NonCyclic Asnd
 non_cyclic SocTimeout = unexpected NonCyclic SocTimeout
 
--- in WaitSoc
+-- an event in WaitSoc
 abbrev pub wait_soc : DllCsEvent → CsOutcome
 wait_soc Soc = goes WaitPreq []  -- DLL_CT01
 wait_soc Preq = goes WaitSoc (LossOfSoc ∷ [])  -- DLL_CT04
@@ -66,7 +66,7 @@ wait_soc Soa = goes WaitSoc (LossOfSoc ∷ [])  -- DLL_CT04
 wait_soc Asnd = goes WaitSoc []  -- DLL_CT04
 wait_soc SocTimeout = goes WaitSoc (LossOfSoc ∷ [])  -- DLL_CT04
 
--- in WaitPreq; at Soa a LossOfPreq is reported only where a PReq was expected
+-- an event in WaitPreq; at Soa a LossOfPreq is reported only where a PReq was expected
 abbrev pub wait_preq : DllCsEvent → Bool → CsOutcome
 wait_preq Soc expected = goes WaitPreq (LossOfSoa ∷ [])  -- DLL_CT07
 wait_preq Preq expected = goes WaitSoa []  -- DLL_CT02
@@ -75,7 +75,7 @@ wait_preq Soa expected = goes WaitSoc (pick expected (LossOfPreq ∷ []) [])  --
 wait_preq Asnd expected = goes WaitPreq (LossOfSoa ∷ [])  -- DLL_CT07
 wait_preq SocTimeout expected = goes WaitSoc (LossOfSoc ∷ LossOfSoa ∷ [])  -- DLL_CT08
 
--- in WaitSoa
+-- an event in WaitSoa
 abbrev pub wait_soa : DllCsEvent → CsOutcome
 wait_soa Soc = goes WaitPreq (LossOfSoa ∷ [])  -- DLL_CT09
 wait_soa Preq = goes WaitSoc (LossOfSoc ∷ LossOfSoa ∷ [])  -- DLL_CT03
@@ -84,7 +84,7 @@ wait_soa Soa = goes WaitSoc []  -- DLL_CT03
 wait_soa Asnd = goes WaitSoa (LossOfSoa ∷ [])  -- DLL_CT10
 wait_soa SocTimeout = goes WaitSoc (LossOfSoc ∷ LossOfSoa ∷ [])  -- DLL_CT03
 
--- in any of the four states
+-- an event in any of the four states
 abbrev pub cyclic : DllCsState → DllCsEvent → Bool → CsOutcome
 cyclic NonCyclic e expected = non_cyclic e
 cyclic WaitSoc e expected = wait_soc e

@@ -22,7 +22,7 @@ place_before h = (h.newest + 253) % 254
 unfoldable pub joined : ErrorHistory → ErrorHistory
 joined h = error_history (place_before h) (min (h.count + 1) 254)
 
--- the memory then
+-- the memory after an entry joined
 unfoldable pub joined_bytes : List ℕ → ErrorHistory → ErrorEntry → List ℕ
 joined_bytes m h e = put_at m (place_before h) e
 

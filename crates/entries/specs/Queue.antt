@@ -45,7 +45,7 @@ pushed q =
     (record { queue = queue q.oldest (length_of q + 1) q.capacity; kept = true })
     (record { queue = q; kept = false })
 
--- the memory after it
+-- the memory after a push
 unfoldable pub pushed_bytes : List ℕ → EmergencyQueue → ErrorEntry → List ℕ
 pushed_bytes m q e = pick (has_room q) (put_at m ((q.oldest + length_of q) % 32) e) m
 

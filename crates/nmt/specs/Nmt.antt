@@ -84,7 +84,7 @@ cyclic_rows =
     row NmtCsStopped Error (Goes NmtPreOperational1) ∷
     []
 
--- the move of the pair's row among some rows; Unexpected where there is none
+-- the move of a state and an event by their row among some; Unexpected where they have none
 abbrev pub look : List Row → NmtState → NmtEvent → Move
 look [] s e = Unexpected
 look (r ∷ rs) s e = pick (both (same_state s r.state) (same_event e r.event)) r.does (look rs s e)

@@ -67,7 +67,7 @@ restored_after s =
     pick (same_state s NmtGsResetApplication) (range 0x2000 0x5FFF ∷ range 0x6000 0x9FFF ∷ [])
     (pick (same_state s NmtGsResetCommunication) (range 0x1000 0x1FFF ∷ []) [])
 
--- those of some states, in order
+-- the ranges to restore after some states were entered, in order
 abbrev pub ranges_restored : List NmtState → List IndexRange
 ranges_restored [] = []
 ranges_restored (s ∷ ss) = restored_after s ++ ranges_restored ss

@@ -32,7 +32,7 @@ three_before w = sum_of (one_less w.timeout) (one_less w.last_heard)
 abbrev pub climbed : ℕ → ℕ → ℕ → ℕ → Climbed
 climbed p n t s = record { place = p; last = n; times = t; soonest = s }
 
--- the same behind one more node
+-- what it knows behind one more node
 abbrev pub over : Climbed → WatchedNode → Climbed
 over c w = climbed (c.place + 1) w.node (bit_or (bit_or c.times w.timeout) w.last_heard) (min c.soonest (three_before w))
 
@@ -51,6 +51,6 @@ abbrev pub first_heard : ℕ → List WatchedNode → List WatchedNode
 first_heard t [] = []
 first_heard t (w ∷ ws) = heard_now t w ∷ ws
 
--- the soonest moment of those
+-- the soonest moment of nodes that climb behind the number n, with the first of them heard at t
 abbrev pub heard_climbed : ℕ → ℕ → ℕ → List WatchedNode → Option ℕ
 heard_climbed n s t ws = pick (climbing n ws) (Some (soonest s (first_heard t ws))) None

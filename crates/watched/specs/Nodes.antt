@@ -42,12 +42,13 @@ abbrev pub rising : ℕ → List WatchedNode → Bool
 rising n [] = true
 rising n (w ∷ ws) = both (both (ltb n w.node) (fits w)) (rising w.node ws)
 
--- the same without the test whether a number is a node's
+-- the nodes climb behind the number n: each number is above the one before, and all times are
+-- within their limits; whether a number is a node's is not tried
 abbrev pub climbing : ℕ → List WatchedNode → Bool
 climbing n [] = true
 climbing n (w ∷ ws) = both (both (ltb n w.node) (timed w)) (climbing w.node ws)
 
--- that test
+-- the number is a node's
 abbrev pub numbered : WatchedNode → Bool
 numbered w = is_node w.node
 
@@ -65,7 +66,7 @@ moment_of n = pick (eqb n never) None (Some n)
 abbrev pub sooner_by : ℕ → WatchedNode → ℕ
 sooner_by s w = pick (both (ltb 0 w.timeout) (ltb 0 w.last_heard)) (min s (w.last_heard + w.timeout + 1)) s
 
--- the same for a node that rests at t; none for one that does not
+-- the smaller of s and the moment of a node that rests at t; none for a node that does not rest
 abbrev pub rest_until : ℕ → ℕ → WatchedNode → Option ℕ
 rest_until t s w = pick (rests t w) (Some (sooner_by s w)) None
 

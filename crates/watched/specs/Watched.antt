@@ -20,10 +20,11 @@ ascending [] = true
 ascending (v ∷ []) = true
 ascending (v ∷ w ∷ ws) = both (ltb v.node w.node) (ascending (w ∷ ws))
 
--- a node's times are within their limits; and its number is a node's too
+-- a node's times are within their limits
 abbrev pub timed : WatchedNode → Bool
 timed w = both (in_time w.timeout) (in_time w.last_heard)
 
+-- a node's number is one, and its times are within their limits
 abbrev pub fits : WatchedNode → Bool
 fits w = both (is_node w.node) (timed w)
 
