@@ -58,8 +58,8 @@ module _ (r : Run) (s s' : List ℕ) where
     number_counted = (
       taken_means.1 ∙ ap ones_of (sym left_written),
       taken_means.1
-      ∙ counted (watching r) (both_second (eqb (length r.places) 32) (well_formed (watching r)) taken_means.0)
-      ∙ listed_long (λ (i : ℕ). get_or r.places i no_node) r.number,
+          ∙ counted (watching r) (both_second (eqb (length r.places) 32) (well_formed (watching r)) taken_means.0)
+          ∙ listed_long (λ (i : ℕ). get_or r.places i no_node) r.number,
     )
 
   -- A call that is refused changes no byte, and is refused by number 3.

@@ -29,8 +29,7 @@ impl DllCsState {
     /// Law of `ALL`: each state stands in it once, in the order of the enum.
     pub fn all_in_order()
         ensures { AllInOrder cs_state_number Self.ALL }
-    {
-    }
+    {}
 
     // The state's place in the enum, from 0.
     pub fn as_u8(self) -> u8

@@ -20,8 +20,7 @@ pub fn named_nodes()
     ensures diagnostic { C_ADR_DIAG_DEF_NODE_ID ≡ diagnostic_node }
     ensures router { C_ADR_RT1_DEF_NODE_ID ≡ router_node }
     ensures broadcast { C_ADR_BROADCAST_NODE_ID ≡ broadcast_node }
-{
-}
+{}
 
 #[derive(Clone, Copy, Debug, PartialEq, Eq)]
 pub struct NodeId(pub u8);

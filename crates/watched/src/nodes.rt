@@ -32,8 +32,7 @@ impl WatchedNode {
     /// Law of `NONE`: it is no node.
     pub fn none_is_no_node()
         ensures { Self.NONE ≡ no_node }
-    {
-    }
+    {}
 }
 
 // No moment, as long as a walk goes on: it carries the earliest one as a number, since a least number takes no test.

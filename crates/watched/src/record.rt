@@ -48,8 +48,7 @@ impl NodeRecord {
     /// Law of `NONE`: it stands for no node.
     pub fn none_is_no_node()
         ensures { node_of Self.NONE ≡ no_node }
-    {
-    }
+    {}
 
     // The node at a place.
     pub fn at(nodes: &NodeWords, place: usize) -> Self

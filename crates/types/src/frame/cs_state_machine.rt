@@ -29,8 +29,7 @@ impl DllCsEvent {
     /// Law of `ALL`: each event stands in it once, in the order of the enum.
     pub fn all_in_order()
         ensures { AllInOrder cs_event_number Self.ALL }
-    {
-    }
+    {}
 
     // The event's place in the enum, from 0.
     pub fn as_u8(self) -> u8

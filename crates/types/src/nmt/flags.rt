@@ -56,8 +56,7 @@ impl FeatureFlags {
         ensures routing_type_2 { Self.ROUTING_TYPE_2 ≡ flag 13 }
         ensures sdo_rw_all_by_index { Self.SDO_RW_ALL_BY_INDEX ≡ flag 14 }
         ensures sdo_rw_multiple_by_index { Self.SDO_RW_MULTIPLE_BY_INDEX ≡ flag 15 }
-    {
-    }
+    {}
 
     pub fn from_bits_truncate(bits: u32) -> Self
         ensures { result ≡ flags bits }

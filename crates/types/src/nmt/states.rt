@@ -41,8 +41,7 @@ impl NmtState {
     /// Law of `ALL`: each state stands in it once, in the order of the enum.
     pub fn all_in_order()
         ensures { AllInOrder state_place Self.ALL }
-    {
-    }
+    {}
 
     pub fn as_u8(self) -> u8
         ensures { result ≡ state_number self }

@@ -131,8 +131,7 @@ impl DllErrorKind {
     /// Law of `ALL`: each kind stands in it once, in the order of the enum.
     pub fn all_in_order()
         ensures { AllInOrder kind_place Self.ALL }
-    {
-    }
+    {}
 
     // The kind's place in the enum, from 0.
     pub fn place(self) -> u8
