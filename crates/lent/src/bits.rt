@@ -12,11 +12,7 @@ use watched::nodes::WatchedNode;
 ///
 /// Refused by number 3 where the run has other than 32 places or more nodes than places, or its nodes do not ascend or one is not within its limits; then
 /// no byte changes. The places past the number are not read.
-pub fn bitmap(
-    nodes: &[WatchedNode],
-    number: usize,
-    bytes: &mut [u8; 32],
-) -> Result<u32, Refusal>
+pub fn bitmap(nodes: &[WatchedNode], number: usize, bytes: &mut [u8; 32]) -> Result<u32, Refusal>
     ensures { BitsWritten (run nodes.now number) bytes.old result bytes.new }
 {
     survey(nodes, number, for_nodes(Setting::Nothing)).ok_or(Refusal::WatchedNodes)?;

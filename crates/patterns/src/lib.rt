@@ -19,8 +19,7 @@ pub fn kept_is_apart()
     ensures number { KEPT ≡ kept }
     ensures wide { 4294967295 < KEPT }
     ensures missing { KEPT ≢ NOTHING }
-{
-}
+{}
 
 // A number and the rest of the line behind its digits. Of one that can't be read whole there is no rest, and the number is what was read of it.
 #[derive(Clone, Copy)]

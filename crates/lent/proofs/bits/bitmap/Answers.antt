@@ -24,7 +24,7 @@ pub loop-w-preserved : goal.loop-w-preserved
 loop-w-preserved c =
     let l = c.loop-w in
     let a = c.args in
-    c.set_bit.ensures ∙ turn (take a.number a.nodes.now) l.w-index _ l.bytes l.invariant refl (omega arith)
+    c.set_bit.ensures ∙ turn (take a.number a.nodes.now) l.w-index _ l.bytes l.invariant (omega arith) (omega arith)
 
 pub returns : goal.returns
 returns c =
