@@ -56,6 +56,10 @@ row_of (margin t) = row (5 ∷ []) None false nothing none
 row_of (add n o r) = row (1 ∷ 3 ∷ 10 ∷ 9 ∷ []) (Some r) true nothing none
 row_of (remove n r) = row (3 ∷ 7 ∷ []) (Some r) true nothing none
 
+abbrev pub lent_in : Option Run → Run
+lent_in None = no_run
+lent_in (Some r) = r
+
 -- the first of a call that is lent no run, the second of one that is lent one
 abbrev pub if_lent : {A : Type 0} → Option Run → A → A → A
 if_lent None x y = x

@@ -11,7 +11,7 @@ use Rattle.node.specs.Plain.{Plain, HistoryUpdate, set, keep, Call, nmt_event, d
 use Rattle.node.specs.Run.{step, step_all}
 use Rattle.node.specs.Refines.{plain}
 use Rattle.trace.specs.Tally.{is_full}
-use Rattle.trace.specs.Declined.{is_among}
+use Rattle.calling.specs.Declined.{is_among}
 
 -- The entries that a call brings into the history: a load's, which take the place of all, or those of its kept crossings.
 pub data Brought : Type 0 where
