@@ -125,7 +125,7 @@ tried_declines ns p l (t ∷ ts) accept f x r h = by t.holds (tried_declines ns 
 
 -- the run that a call is lent
 abbrev pub lent_to : Call → Run
-lent_to c = lent_in (row_of c).lent
+lent_to c = lent_in (row_of c).lends
 
 pub plain_declines :
     (p : Plain) (c : Call) (r : ℕ) → (step p c).answer ≡ refused r →

@@ -34,7 +34,7 @@ module _ (x : Held) where
 
   -- the first of a call that is lent no run, the second of one that is
   abbrev pub by_lent : {A : Type 0} → Call → A → A → A
-  by_lent c y z = if_lent (row_of (call_of c x.lent)).lent y z
+  by_lent c y z = if_lent (row_of (call_of c x.lent)).lends y z
 
   -- the run that is left: a call that is not lent it leaves it
   abbrev pub lent_after : Call → Run

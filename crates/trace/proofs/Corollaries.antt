@@ -35,11 +35,11 @@ use Rattle.trace.specs.Claim.{Claim}
 use Rattle.start.specs.declared.start.Setup.{Setup}
 use Rattle.start.specs.Started.{start_of, StartedOn}
 use Rattle.calling.specs.declared.Call as made
-use Rattle.calling.specs.declared.Call.TheVariants as of
 use Rattle.calling.specs.declared.play.Action.{Action}
 use Rattle.calling.specs.Held.{Held, held}
 use Rattle.calling.specs.Values.{Reply, call_of, said}
-use Rattle.calling.specs.Made.{Made, by_lent}
+use Rattle.calling.specs.Table.{Lends, no_nodes, nodes, row_of, if_lent, renews}
+use Rattle.calling.specs.Made.{Made}
 use Rattle.calling.specs.Played as played
 use Rattle.calling.specs.Played.{Played}
 use Rattle.trace.specs.Driven.{Driven, stop, call, calls_of, said_by}
@@ -89,21 +89,9 @@ start_afresh {s} {l} {r} {ws = ws} b =
     )
 
 -- a call that works it out is lent the run
-works_lent : (x : Held) (c : made.Call) (y z : Run) → works_out (call_of c x.lent) ≡ true → by_lent x c y z ≡ z
-works_lent x (of.Heard n t) y z h = refl
-works_lent x (of.Tick t) y z h = refl
-works_lent x (of.Add n o) y z h = refl
-works_lent x (of.Remove n) y z h = refl
-works_lent x (of.NmtEvent n) y z h = absurd (true≢false (sym h))
-works_lent x (of.DllEvent n b) y z h = absurd (true≢false (sym h))
-works_lent x (of.Error n a b) y z h = absurd (true≢false (sym h))
-works_lent x of.CycleComplete y z h = absurd (true≢false (sym h))
-works_lent x of.Withdraw y z h = absurd (true≢false (sym h))
-works_lent x of.HandOut y z h = absurd (true≢false (sym h))
-works_lent x (of.Load u k) y z h = absurd (true≢false (sym h))
-works_lent x (of.Arm t) y z h = absurd (true≢false (sym h))
-works_lent x (of.Range a b) y z h = absurd (true≢false (sym h))
-works_lent x (of.Margin t) y z h = absurd (true≢false (sym h))
+renews_lent : (l : Lends) (y z : Run) → renews l ≡ true → if_lent l y z ≡ z
+renews_lent no_nodes y z h = absurd (true≢false (sym h))
+renews_lent (nodes r) y z h = refl
 
 -- a list that ends with one of the others: by the run that it left
 pub ends_afresh :
@@ -120,7 +108,7 @@ ends_afresh {s} {x₁} {x'} {l} {c = c} {o = o} b d t w a =
     (ap (λ (cs : List Call). run_after (start_of s l) cs) (calls_joined d (call t stop))
     ∙ ends_with p₀ (calls_of d) e (started (start_of s l)).lent w (ap accepted (ap (λ (p : Plain). (step p e).answer) (sym k.alike) ∙ sym t.refines.answer) ∙ a)
     ∙ ap (λ (p : Plain). (step p e).lent) (sym k.alike)
-    ∙ sym (t.lent ∙ works_lent x₁ c _ _ w))
+    ∙ sym (t.lent ∙ renews_lent (row_of e).lends _ _ w))
   where
     p₀ : Plain
     p₀ = fresh (start_of s l)
