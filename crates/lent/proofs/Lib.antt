@@ -3,4 +3,3 @@ pub mod SettleLaws
 pub mod BeatLaws
 pub mod JudgedLaws
 pub mod ArrivalLaws
-pub mod Links

@@ -1,13 +1,15 @@
 -- What a reader expects besides: the claim after each of the calls, the earliest moment after those that work it out, and the last SoC time of a head.
 -- Assumes nothing.
 use Prim.Native.Nat.{ℕ, ◌≤◌}
-use mathlib.Core.Path.{◌≡◌, refl, sym, ap, subst, ◌∙◌}
+use mathlib.Core.Path.{◌≡◌, refl, sym, ap, ap₂, subst, ◌∙◌}
 use mathlib.Core.Bool.{Bool, true, false, not, true≢false}
 use mathlib.Core.List.{List, [], ◌∷◌, ◌++◌}
 use native.Mathlib.Omega.{arith}
+use lib.ListN.{length}
 use lib.Dec.{ltb, lit≤}
 use borrow.Author.Tests.{leb-true}
 use Rattle.types.specs.Pick.{pick}
+use Rattle.types.proofs.Cases.{first_same, rest_same}
 use Rattle.types.specs.Events.{read_event}
 use Rattle.types.specs.CsEvents.{read_cs_event}
 use Rattle.types.specs.Errors.{read_error}
@@ -29,20 +31,17 @@ use Rattle.node.specs.Plain.{Plain, Call, nmt_event, dll_event, error, cycle_com
 use Rattle.node.specs.Steps.{no_run, forgets, answers, declines, with_nmt, with_soc, nmt_step, dll_step, error_step, withdrawn, heard_tests, add_tests, remove_tests, added, removed, armed, cycle_of, earliest, fresh, started}
 use Rattle.node.specs.Tick.{tick_tests, tick_taken, tick_answered, looked_at, last_soc}
 use Rattle.node.specs.Range.{range_tests, margin_tests, verdict_of, margin_of}
-use Rattle.node.specs.Run.{step, step_all}
+use Rattle.node.specs.Run.{step, step_all, Said}
 use Rattle.trace.specs.Earliest.{works_out, accepted, last_left, run_after}
 use Rattle.trace.specs.Claim.{Claim}
 use Rattle.start.specs.declared.start.Setup.{Setup}
 use Rattle.start.specs.Started.{start_of, StartedOn}
 use Rattle.calling.specs.declared.Call as made
-use Rattle.calling.specs.declared.play.Action.{Action}
 use Rattle.calling.specs.Held.{Held, held}
 use Rattle.calling.specs.Values.{Reply, call_of, said}
 use Rattle.calling.specs.Table.{Lends, no_nodes, nodes, row_of, if_lent, renews}
-use Rattle.calling.specs.Made.{Made}
-use Rattle.calling.specs.Played as played
-use Rattle.calling.specs.Played.{Played}
-use Rattle.trace.specs.Driven.{Driven, stop, call, calls_of, said_by}
+use Rattle.calling.specs.Made.{by_lent, Made}
+use Rattle.trace.specs.Driven.{Driven, stop, call, lend, calls_of, says, said_by}
 use Rattle.trace.proofs.Ticking.{picked, tick_part}
 use Rattle.node.proofs.Refining.{tried_by_lem}
 use Rattle.trace.proofs.Shares.{Leaves, stays, goes, run_call}
@@ -50,33 +49,54 @@ use Rattle.trace.proofs.Earliest.{ends_with}
 use Rattle.trace.proofs.Follows.{begins_unheard}
 use Rattle.trace.proofs.Driven.{joined, calls_joined, driven_of, claim_holds}
 
--- AFTER EACH. Of the steps ss and then ts, which were played, answered os and left x': what ss answered and left; from there on ts was played, to the same end,
--- and what both answered is os.
-pub record Stopped (x : Held) (ss ts : List Action) (os : List Reply) (x' : Held) : Type 0 where
-  pub said : List Reply
+-- AFTER EACH. Of a list whose calls are cs and then ds: the list of cs alone and where it ends, the
+-- list of ds from there, to the same end, and what both said is what was said.
+pub record Stopped {x x' : Held} (d : Driven x x') (cs ds : List Call) : Type 0 where
   pub at : Held
-  pub played : Played x ss said at
-  pub later : List Reply
-  pub on : Played at ts later x'
-  pub all : os ≡ said ++ later
+  pub before : Driven x at
+  pub on : Driven at x'
+  pub first : calls_of before ≡ cs
+  pub later : calls_of on ≡ ds
+  pub all : said_by d ≡ said_by before ++ said_by on
 
-stopped : {x x' : Held} {os : List Reply} (ss ts : List Action) → Played x (ss ++ ts) os x' → Stopped x ss ts os x'
-stopped {x} {os = os} [] ts d = record { said = []; at = x; played = played.stop; later = os; on = d; all = refl }
-stopped (s ∷ ss) ts (played.next {o = o} t d) =
-    let k = stopped ss ts d in
-    record { said = o ∷ k.said; at = k.at; played = played.next t k.played; later = k.later; on = k.on; all = ap (λ (l : List Reply). o ∷ l) k.all }
+stopped : {x x' : Held} (d : Driven x x') (cs ds : List Call) → calls_of d ≡ cs ++ ds → Stopped d cs ds
+stopped {x} d [] ds e = record { at = x; before = stop; on = d; first = refl; later = e; all = refl }
+stopped stop (c ∷ cs) ds e = absurd (let n = ap length e in let f : ⊥ = omega (arith, n) in f)
+stopped (call {x} {x₁ = x₁} {c = b} {o = o} t d) (c ∷ cs) ds e =
+    let k = stopped d cs ds (rest_same e) in
+    record {
+      at = k.at;
+      before = call t k.before;
+      on = k.on;
+      first = ap₂ (λ (c : Call) (cs : List Call). c ∷ cs) (first_same e) k.first;
+      later = k.later;
+      all = ap (λ (l : List Said). says (said o) (by_lent x b no_run x₁.lent) ∷ l) k.all;
+    }
+stopped (lend e d) (c ∷ cs) ds f =
+    let k = stopped d (c ∷ cs) ds f in
+    record { at = k.at; before = lend e k.before; on = k.on; first = k.first; later = k.later; all = k.all }
 
--- and the claim of ss there
-pub record Until (s : Start) (x : Held) (ss ts : List Action) (os : List Reply) (x' : Held) : Type 0 where
-  pub after : Stopped x ss ts os x'
-  pub claim : Claim s (calls_of (driven_of after.played)) (said_by (driven_of after.played)) (head_of after.at.head) after.at.queue after.at.history
+-- and the claim of cs there
+pub record Until (s : Start) {x x' : Held} (d : Driven x x') (cs ds : List Call) : Type 0 where
+  pub after : Stopped d cs ds
+  pub claim :
+      Claim s cs (said_by after.before) (head_of after.at.head) after.at.queue after.at.history
 
 pub claim_holds_after_each :
-    {s : Setup} {x' : Held} {l r : Run} {ws₀ ws q m : List ℕ} {os : List Reply} (ss ts : List Action) →
+    {s : Setup} {x' : Held} {l r : Run} {ws₀ ws q m : List ℕ} (cs ds : List Call) →
     StartedOn ws₀ l s (Ok tt) ws r →
-    Played (held ws q m r) (ss ++ ts) os x' →
-    Until (start_of s l) (held ws q m r) ss ts os x'
-claim_holds_after_each ss ts b d = let k = stopped ss ts d in record { after = k; claim = claim_holds b (driven_of k.played) }
+    (d : Driven (held ws q m r) x') →
+    calls_of d ≡ cs ++ ds →
+    Until (start_of s l) d cs ds
+claim_holds_after_each {s} {l = l} cs ds b d e =
+    let k = stopped d cs ds e in
+    record {
+      after = k;
+      claim =
+          subst
+          (λ (cs : List Call). Claim (start_of s l) cs (said_by k.before) (head_of k.at.head) k.at.queue k.at.history)
+          k.first (claim_holds b k.before);
+    }
 
 -- THE EARLIEST MOMENT, "after each accepted start, tick, heard, add or removal, equals the value worked out afresh from the run": start's is none
 pub start_afresh :
