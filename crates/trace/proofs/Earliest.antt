@@ -35,7 +35,8 @@ use Rattle.node.specs.Range.{range_tests, margin_tests, verdict_of, margin_of}
 use Rattle.node.specs.Run.{step, step_all}
 use Rattle.trace.specs.Earliest.{works_out, accepted, left_by, last_left}
 use Rattle.trace.proofs.Ticking.{picked}
-use Rattle.trace.proofs.Shares.{tried_by_lem, Leaves, stays, goes, run_call}
+use Rattle.node.proofs.Refining.{tried_by_lem}
+use Rattle.trace.proofs.Shares.{Leaves, stays, goes, run_call}
 
 -- START: no node was heard, so none would be late
 none_late : (ws : List WatchedNode) → earliest (unheard ws) ≡ None

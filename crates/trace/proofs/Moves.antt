@@ -25,7 +25,8 @@ use Rattle.node.specs.Tick.{tick_tests, tick_taken, tick_answered, looked_at}
 use Rattle.node.specs.Range.{range_tests, margin_tests, verdict_of, margin_of}
 use Rattle.node.specs.Run.{step}
 use Rattle.trace.proofs.Ticking.{InTick, tick_part}
-use Rattle.trace.proofs.Shares.{tried_by_lem, Leaves, stays, goes, run_call}
+use Rattle.node.proofs.Refining.{tried_by_lem}
+use Rattle.trace.proofs.Shares.{Leaves, stays, goes, run_call}
 
 -- of a call c on the head p, the event that it made and the machine after it
 pub data Moves (p : Plain) (c : Call) : EventMade → CnNmtStateMachine → Type 0 where

@@ -37,6 +37,7 @@ use Rattle.node.specs.Range.{range_tests, margin_tests, verdict_of, margin_of}
 use Rattle.node.specs.Run.{step}
 use Rattle.trace.specs.Tally.{Told, told_at, handed_by, dropped_by, is_full, is_set, loads_counter3}
 use Rattle.trace.specs.Claim.{Queued, still, kept, dropped, handed, Rule}
+use Rattle.node.proofs.Refining.{tried_by_lem}
 use Rattle.trace.proofs.Modes.{mode, mode_event, mode_withdraw}
 use Rattle.counters.proofs.Counts.{Counting, counting_none, counting_handled, counting_completed}
 use Rattle.trace.proofs.Ticking.{seen, Enters, none, one, PartOf, picked, tells, tick_part}
@@ -138,13 +139,6 @@ untouched p c t h m w e n =
 declined : (p : Plain) (c : Call) (l : Run) (r : ℕ) → ((w : Told) → told_at p c (declines p l r) w ≡ w) → Shares p c (declines p l r)
 declined p c l r w =
     untouched p c (declines p l r) (record { queue = refl; crossings = refl; crossed = refl; handed = refl; lost = λ h. refl }) refl w refl refl
-
--- what a call declines, and what it takes
-pub tried_by_lem :
-    {A : Type 0} (P : A → Type 0) (ts : List (Test ℕ)) (refuse : ℕ → A) (accept : A) →
-    ((r : ℕ) → P (refuse r)) → P accept → P (tried ts refuse accept)
-tried_by_lem P [] refuse accept d a = a
-tried_by_lem P (t ∷ ts) refuse accept d a = picked P t.holds (tried_by_lem P ts refuse accept d a) (d t.otherwise)
 
 nmt_shares : (p : Plain) (n : ℕ) (r : Result NmtEvent Refusal) → read_event n ≡ r → Shares p (nmt_event n) (nmt_step p r)
 nmt_shares p n (Ok e) h = by (is_reset e)

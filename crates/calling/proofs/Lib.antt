@@ -1,0 +1,5 @@
+mod Places
+pub mod Playing
+pub mod Starting
+pub mod Declines
+pub mod Asked
