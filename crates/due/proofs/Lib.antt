@@ -1,2 +1,3 @@
 pub mod Walking
-pub mod Idles
+pub mod Waits
+pub mod Links

@@ -1,3 +1,3 @@
 pub mod Walk
 pub mod Moment
-pub mod Idle
+pub mod Waits

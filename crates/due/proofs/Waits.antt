@@ -1,4 +1,4 @@
--- WHO TICKS AT EACH MOMENT OF `next_due`, AND NOT IN BETWEEN, MISSES NOTHING: of any tick that is taken, on any words, from the tick's contract alone.
+-- WHO TICKS AT EACH MOMENT THAT `next_due` GIVES, AND NOT IN BETWEEN, MISSES NOTHING: of any tick that is taken, on any words, from the tick's contract alone.
 -- Assumes nothing.
 use Prim.Native.Nat.{ℕ, ◌+◌, ◌-◌, ◌/◌, ◌≤◌, ◌<◌, min}
 use mathlib.Core.Path.{◌≡◌, refl, sym, ap, ap₂, subst, ◌∙◌}
@@ -42,7 +42,7 @@ use Rattle.heartbeats.proofs.Beatings.{rest_late, rest_run, rest_words_lem}
 use Rattle.tick.specs.TickIn.{is_still, TickedOn, TickedIn}
 use Rattle.tick.specs.TickWords.{unlent, passed_words, rest_words, tick_words, deadline_words, basic_words}
 use Rattle.due.specs.Moment.{next_due}
-use Rattle.due.specs.Idle.{Idle, Unmoved}
+use Rattle.due.specs.Waits.{Idle, SameDeadlineAndRun, Waits, WaitsIn}
 
 -- before the sooner of two moments is before both
 before_both : (t : ℕ) (a b : Option ℕ) → IsBefore t (smaller a b) → IsBefore t a × IsBefore t b
@@ -328,7 +328,7 @@ module _ (ws q m : List ℕ) (r : Run) (t : ℕ) (es : DllErrors) (ws' q' m' : L
     same_rings : rings (head_of ws') q' m' ≡ rings (head_of ws) q m
     same_rings = f.rings ∙ ap (joins_all (rings (head_of ws) q m)) no_crossing
 
-    pub idle : Idle ws q m r es ws' q' m' r'
+    idle : Idle ws q m r es ws' q' m' r'
     idle =
         record {
           logged =
@@ -339,11 +339,11 @@ module _ (ws q m : List ℕ) (r : Run) (t : ℕ) (es : DllErrors) (ws' q' m' : L
               ∙ (λ i. earliest_written ((still_words ws q m t vs still ∙ deadline_words_idle ws q m t (soc_of ws).next_tick_us parts.0) i) (earliest (watching (stays i))));
           queue = ap (λ (g : Rings). g.queue_bytes) same_rings;
           history = ap (λ (g : Rings). g.history_bytes) same_rings;
-          nodes = stays;
+          run = stays;
         }
 
     -- so the moment of the next tick is the same
-    pub idle_waits : next_due ws' r' ≡ Ok d
+    idle_waits : next_due ws' r' ≡ Ok d
     unfolding due head_of
     idle_waits =
         let same : plain (head_of ws') q' m' ≡ up_to_date p (looked_at p t r) =
@@ -353,9 +353,9 @@ module _ (ws q m : List ℕ) (r : Run) (t : ℕ) (es : DllErrors) (ws' q' m' : L
         ∙ ap Ok (due_same ws' q' m' vs ∙ ap (λ (p : Plain). due p vs) same ∙ sym (due_same ws q m vs) ∙ sym (told ws r d e k.well))
 
   -- at a time above 0, one that leaves the deadline and the run is before its moment
-  module _ (up : 0 < t) (u : Unmoved ws r ws' r') where
+  module _ (up : 0 < t) (u : SameDeadlineAndRun ws r ws' r') where
     run_same : looked_at p t r ≡ r
-    run_same = sym (f.refines.lent ∙ ap (λ (x : Step). x.lent) k.steps) ∙ u.nodes
+    run_same = sym (f.refines.lent ∙ ap (λ (x : Step). x.lent) k.steps) ∙ u.run
 
     -- where heartbeats are checked, each node is as it was
     nodes_before : (c : Bool) → pick c (changing (map (looked t)) r) r ≡ r → IsBefore t (pick c (nodes_due vs) None)
@@ -380,34 +380,37 @@ module _ (ws q m : List ℕ) (r : Run) (t : ℕ) (es : DllErrors) (ws' q' m' : L
         ∙ ap (λ (x : Ticked). x.head.soc.next_tick_us) (still_tick p t vs still_left))
         ∙ u.deadline
 
-    pub left_before : IsBefore t d
+    left_before : IsBefore t d
     unfolding due
     left_before =
         subst (IsBefore t) (sym (told ws r d e k.well ∙ due_same ws q m vs))
         (before_sooner t (deadline_due p p.soc.next_tick_us) (pick (checks_heartbeats p.nmt.current_state) (nodes_due vs) None)
         (deadline_left t p p.soc.next_tick_us deadline_same refl) nodes_wait)
 
--- of nodes in words, a tick before its moment leaves them as well
-pub idle_in :
-    (ws q m ns : List ℕ) (k t : ℕ) (es : DllErrors) (ws' q' m' ns' : List ℕ) → TickedIn ws q m ns k t (Ok es) ws' q' m' ns' →
-    (d : Option ℕ) → next_due ws (run (nodes_of ns) k) ≡ Ok d → IsBefore t d →
-    Idle ws q m (run (nodes_of ns) k) es ws' q' m' (run (nodes_of ns') k) × (ns' ≡ ns)
-idle_in ws q m ns k t es ws' q' m' ns' f d e b = (idle ws q m r t es ws' q' m' r' f.on d e b, f.nodes ∙ by C (still ws q m r t es ws' q' m' r' f.on d e b))
-  where
-    r : Run
-    r = run (nodes_of ns) k
+  pub waits : Waits d ws q m r t es ws' q' m' r'
+  waits = record { before = idle; stays = idle_waits; from = left_before }
 
-    r' : Run
-    r' = run (nodes_of ns') k
+-- the same with the nodes in words, which a tick before its moment leaves too
+module _ (ws q m ns : List ℕ) (k t : ℕ) (es : DllErrors) (ws' q' m' ns' : List ℕ) (f : TickedIn ws q m ns k t (Ok es) ws' q' m' ns') (d : Option ℕ) (e : next_due ws (run (nodes_of ns) k) ≡ Ok d) where
+  abbrev lent_run : Run
+  lent_run = run (nodes_of ns) k
 
-    C : Bool
-    C = checks_heartbeats (nmt_of ws).current_state
+  below : k ≤ 32
+  below =
+      few (nodes_of ns) k true
+      (sym (both_second (eqb (length (nodes_of ns)) 32) _ (taken (plain (head_of ws) q m) t lent_run (reported es) f.on.refines.answer).well)) refl
 
-    below : k ≤ 32
-    below =
-        few (nodes_of ns) k true
-        (sym (both_second (eqb (length (nodes_of ns)) 32) _ (taken (plain (head_of ws) q m) t r (reported es) f.on.refines.answer).well)) refl
+  words_stay : (c : Bool) → is_still c t (watching lent_run) ≡ true → pick c (looked_words t k ns) ns ≡ ns
+  words_stay true h = rest_words_lem t ns k below h
+  words_stay false h = refl
 
-    by : (c : Bool) → is_still c t (watching r) ≡ true → pick c (looked_words t k ns) ns ≡ ns
-    by true h = rest_words_lem t ns k below h
-    by false h = refl
+  pub waits_in : WaitsIn d ws q m ns k t es ws' q' m' ns'
+  waits_in =
+      record {
+        on = waits ws q m lent_run t es ws' q' m' (run (nodes_of ns') k) f.on d e;
+        nodes =
+            λ b.
+            f.nodes
+            ∙ words_stay (checks_heartbeats (nmt_of ws).current_state)
+            (still ws q m lent_run t es ws' q' m' (run (nodes_of ns') k) f.on d e b);
+      }
