@@ -42,6 +42,7 @@ use Rattle.heartbeats.proofs.Beatings.{rest_late, rest_run, rest_words_lem}
 use Rattle.tick.specs.TickIn.{is_still, TickedOn, TickedIn}
 use Rattle.tick.specs.TickWords.{unlent, passed_words, rest_words, tick_words, deadline_words, basic_words}
 use Rattle.due.specs.Moment.{next_due}
+use Rattle.due.proofs.Steps.{due_same}
 use Rattle.due.specs.Waits.{Idle, SameDeadlineAndRun, Waits, WaitsIn}
 
 -- before the sooner of two moments is before both
@@ -254,20 +255,6 @@ taken p t r es e = let x = by (well_lent r) (in_time t) (pick (checks_heartbeats
 
 ok_same : {A : Type 0} {x y : A} → ◌≡◌ {A = Result A Refusal} (Ok x) (Ok y) → x ≡ y
 ok_same e = cc
-
--- the moment is that of the head, whatever lies in its memory
-due_same : (ws q m : List ℕ) (vs : List WatchedNode) → due (unlent ws) vs ≡ due (plain (head_of ws) q m) vs
-unfolding due head_of
-due_same ws q m vs = by (soc_of ws).next_tick_us
-  where
-    c : Bool
-    c = checks_heartbeats (nmt_of ws).current_state
-
-    by :
-        (d : Option ℕ) →
-        smaller (deadline_due (unlent ws) d) (pick c (nodes_due vs) None) ≡ smaller (deadline_due (plain (head_of ws) q m) d) (pick c (nodes_due vs) None)
-    by (Some d) = refl
-    by None = refl
 
 -- a moment that was told of a run which passes number 3 is that moment
 told : (ws : List ℕ) (r : Run) (d : Option ℕ) → next_due ws r ≡ Ok d → well_lent r ≡ true → d ≡ due (unlent ws) (watching r)
