@@ -14,7 +14,7 @@ use Rattle.types.specs.declared.refusals.Refusal.TheVariants.{WatchedNodes}
 use Rattle.head.specs.Words.{nmt_of, soc_of, head_of}
 use Rattle.watched.specs.declared.nodes.WatchedNode.{WatchedNode}
 use Rattle.watched.specs.Watched.{Run, watching, well_lent}
-use Rattle.node.specs.Plain.{Plain, Answer, Step}
+use Rattle.node.specs.Plain.{Plain, Answer}
 use Rattle.node.specs.Steps.{smaller, answers, declines}
 use Rattle.node.specs.Tick.{checks_heartbeats}
 use Rattle.node.specs.Due.{deadline_due, nodes_due, due, due_step}

@@ -1,13 +1,13 @@
 -- WHO TICKS AT EACH MOMENT THAT `next_due` GIVES, AND NOT IN BETWEEN, MISSES NOTHING: of any tick that is taken, on any words, from the tick's contract alone.
 -- Assumes nothing.
-use Prim.Native.Nat.{ℕ, ◌+◌, ◌-◌, ◌/◌, ◌≤◌, ◌<◌, min}
+use Prim.Native.Nat.{ℕ, ◌+◌, ◌-◌, ◌/◌, ◌≤◌, ◌<◌}
 use mathlib.Core.Path.{◌≡◌, refl, sym, ap, ap₂, subst, ◌∙◌}
 use mathlib.Core.Bool.{Bool, true, false, true≢false, not}
 use mathlib.Core.List.{List, [], ◌∷◌, map}
 use native.Mathlib.Omega.{arith}
 use lib.Dec.{eqb, leb, ltb}
 use lib.ListN.{length}
-use borrow.Author.Tests.{eqb-true, eqb-false, leb-true, leb-false, le-leb, lt-leb, lt-ltb, ltb-true, ltb-false, le-ltb}
+use borrow.Author.Tests.{eqb-true, eqb-false, leb-false, le-leb, lt-leb, lt-ltb, ltb-true}
 use Rattle.std.specs.declared.option.Option.{Option}
 use Rattle.std.specs.declared.option.Option.TheVariants.{Some, None}
 use Rattle.std.specs.declared.result.Result.{Result}
@@ -19,11 +19,10 @@ use Rattle.types.specs.declared.frame.error.types.DllErrors.{DllErrors}
 use Rattle.types.specs.declared.refusals.Refusal.{Refusal}
 use Rattle.types.specs.declared.refusals.Refusal.TheVariants.{WatchedNodes}
 use Rattle.types.proofs.Tests.{both_first, both_second}
-use Rattle.entries.specs.declared.status_response.ErrorEntry.{ErrorEntry}
 use Rattle.head.specs.Words.{nmt_of, soc_of, head_of}
 use Rattle.head.specs.Written.{earliest_written}
 use Rattle.watched.specs.declared.nodes.WatchedNode.{WatchedNode}
-use Rattle.watched.specs.Watched.{in_time, heard_now, well_formed, Run, run, watching, watched_of, well_lent, changing}
+use Rattle.watched.specs.Watched.{in_time, heard_now, Run, run, watching, well_lent, changing}
 use Rattle.watched.specs.Nodes.{nodes_of, rests, not_before}
 use Rattle.watched.proofs.Lists.{each_nodes, few}
 use Rattle.watched.proofs.Watching.{lent_inside}
@@ -31,7 +30,7 @@ use Rattle.node.specs.Plain.{Plain, Call, tick_answer, Step}
 use Rattle.node.specs.Steps.{declines, up_to_date, with_dll, cycle_of, tolerance_of, limit_of, late_from, smaller, earliest}
 use lib.ListN.{set}
 use Rattle.head.specs.Places as at
-use Rattle.node.specs.Tick.{Ticked, used_up, with_deadline, rescheduled, within_limit, last_soc, soc_timeout, lost, is_loss, soc_check, deal_all, goes_on, behind, checks_heartbeats, is_late, looked, late_ones, beat_all, heartbeats, at_not_active, basic_timeout, sets_basic, by_deadline, tick_taken, tick_answered, looked_at}
+use Rattle.node.specs.Tick.{Ticked, used_up, with_deadline, rescheduled, within_limit, last_soc, soc_timeout, lost, is_loss, soc_check, deal_all, goes_on, behind, checks_heartbeats, is_late, looked, late_ones, beat_all, heartbeats, at_not_active, basic_timeout, by_deadline, tick_taken, tick_answered, looked_at}
 use Rattle.node.specs.Run.{step}
 use Rattle.node.specs.Refines.{plain, Rings, rings, joins_all}
 use Rattle.node.specs.Due.{deadline_due, was_heard, nodes_due, due, IsBefore}

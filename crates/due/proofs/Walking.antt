@@ -4,30 +4,29 @@ use Prim.Native.Nat.{ℕ, ◌+◌, ◌≤◌, ◌<◌}
 use mathlib.Core.Path.{◌≡◌, refl, sym, ap, ap₂, ◌∙◌}
 use mathlib.Core.Bool.{Bool, true, false}
 use mathlib.Core.List.{List, [], ◌∷◌}
-use native.Mathlib.Omega.{arith}
 use lib.Dec.{eqb, leb, ltb}
 use native.Mathlib.Numerals.{add-one}
 use lib.ListN.{length, get_or, take, drop}
 use lib.Seq.{drop-cons}
-use borrow.Author.Tests.{eqb-true, ne_eqb, eq-eqb, leb-true, leb-false, le-leb, lt-leb}
+use borrow.Author.Tests.{eqb-true, eq-eqb, leb-true, leb-false, le-leb}
 use Rattle.std.specs.declared.option.Option.{Option}
 use Rattle.std.specs.declared.option.Option.TheVariants.{Some, None}
 use Rattle.std.specs.declared.result.Result.{Result}
 use Rattle.std.specs.declared.result.Result.TheVariants.{Ok, Err}
 use Rattle.types.specs.Pick.{pick, both, all_of}
-use Rattle.types.proofs.Tests.{both_true, both_second}
+use Rattle.types.proofs.Tests.{both_true}
 use Rattle.types.specs.declared.refusals.Refusal.{Refusal}
 use Rattle.types.specs.declared.refusals.Refusal.TheVariants.{WatchedNodes}
 use Rattle.head.specs.Words.{nmt_of, soc_of, head_of}
 use Rattle.watched.specs.declared.nodes.WatchedNode.{WatchedNode}
-use Rattle.watched.specs.Watched.{fits, well_formed, Run, run, watching, watched_of, well_lent}
+use Rattle.watched.specs.Watched.{fits, well_formed, run, watched_of}
 use Rattle.watched.specs.Nodes.{rising, never, soonest, moment_of}
 use Rattle.watched.proofs.Lists.{tests_begin, too_many, whole}
 use Rattle.watched.proofs.Watching.{tried_unformed, tried_formed}
 use Rattle.node.proofs.Moments.{moment_of_lem, all_fit}
-use Rattle.node.specs.Steps.{smaller, earliest}
+use Rattle.node.specs.Steps.{smaller}
 use Rattle.node.specs.Tick.{checks_heartbeats}
-use Rattle.node.specs.Due.{deadline_due, was_heard, nodes_due, due}
+use Rattle.node.specs.Due.{deadline_due, was_heard, due}
 use Rattle.tick.specs.TickWords.{unlent}
 use Rattle.due.specs.declared.moment.Walk.{Walk}
 use Rattle.due.specs.Walk.{start, with_node, over, walked, walked_run, walk_due, due_found}
@@ -35,9 +34,6 @@ use Rattle.due.specs.Moment.{next_due}
 
 -- a turn at the node w, with the others behind it
 module _ (a : Walk) (w : WatchedNode) (ws rest : List WatchedNode) (e : ws ≡ w ∷ rest) (o : Option Walk) (f : o ≡ over a w) where
-  test : Bool
-  test = both (ltb a.last w.node) (fits w)
-
   turned : walked a ws ≡ pick (both (ltb a.last w.node) (fits w)) (walked (with_node a w) rest) None
   unfolding walked
   turned = ap (walked a) e
@@ -61,20 +57,10 @@ pub walk_ends : (a : Walk) (ws : List WatchedNode) → ws ≡ [] → walked a ws
 unfolding walked
 walk_ends a ws e = ap (walked a) e
 
--- a run of 32 places, at most as many of them watched; and any other
+-- a run of 32 places, at most as many of them watched
 pub run_begins : (vs : List WatchedNode) (k : ℕ) → length vs ≡ 32 → k ≤ 32 → walked_run (run vs k) ≡ walked start (take k vs)
 run_begins vs k long few =
     ap₂ (λ (a b : Bool). pick (both a b) (walked start (take k vs)) None) (eq-eqb (length vs) 32 long) (le-leb k 32 few)
-
-pub run_many : (vs : List WatchedNode) (k : ℕ) → 32 < k → walked_run (run vs k) ≡ None
-run_many vs k h = by (eqb (length vs) 32)
-  where
-    by : (a : Bool) → pick (both a (leb k 32)) (walked start (take k vs)) None ≡ None
-    by true = ap (λ (b : Bool). pick b (walked start (take k vs)) None) (lt-leb k 32 h)
-    by false = refl
-
-pub run_short : (vs : List WatchedNode) (k : ℕ) → (length vs ≡ 32 → ⊥) → walked_run (run vs k) ≡ None
-run_short vs k h = ap (λ (a : Bool). pick (both a (leb k 32)) (walked start (take k vs)) None) (ne_eqb (length vs) 32 h)
 
 -- what the walk gives
 abbrev dues : Option Walk → Option (Option ℕ)

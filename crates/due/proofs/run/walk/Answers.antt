@@ -9,7 +9,7 @@ use Rattle.std.proofs.Common.{rules, None}
 use Rattle.watched.specs.Watched.{no_node}
 use Rattle.watched.specs.Nodes.{node_of}
 use Rattle.watched.proofs.Lists.{at_end}
-use Rattle.due.proofs.Walking.{read_there, walk_stops, walk_next, walk_ends, run_begins, run_many, run_short}
+use Rattle.due.proofs.Walking.{read_there, walk_stops, walk_next, walk_ends}
 use Rattle.due.proofs.run.walk.Goals as goal
 
 pub returns-in_err-walk : goal.returns-in_err-walk

@@ -7,11 +7,8 @@ use Rattle.watched.specs.Nodes.{node_of, nodes_of}
 use Rattle.watched.specs.Climb.{nodes_from}
 use Rattle.watched.proofs.Lists.{at_end}
 use Rattle.watched.proofs.Watching.{places, turn_read}
-use Rattle.due.proofs.Walking.{walk_stops, walk_next, walk_ends, run_begins, run_many}
+use Rattle.due.proofs.Walking.{walk_stops, walk_next, walk_ends, run_begins}
 use Rattle.due.proofs.words.walk.Goals as goal
-
-pub returns-then-count-gt32 : goal.returns-then-count-gt32
-returns-then-count-gt32 c = sym (run_many (nodes_of c.args.nodes.now) c.args.count c.if-count-gt32.true)
 
 pub loop-i-init : goal.loop-i-init
 loop-i-init c = run_begins (nodes_of c.args.nodes.now) c.args.count (places c.args.nodes.now) c.if-count-gt32.false
