@@ -5,13 +5,15 @@ use mathlib.Core.Path.{◌≡◌, refl, sym, ap, ◌∙◌}
 use mathlib.Core.Bool.{Bool, true, false}
 use mathlib.Core.List.{List}
 use Rattle.std.specs.declared.option.Option.{Option}
-use Rattle.std.specs.declared.option.Option.TheVariants.{Some, None}
+use Rattle.std.specs.declared.option.Option.TheVariants.{None}
 use Rattle.std.specs.declared.result.Result.{Result}
 use Rattle.std.specs.declared.result.Result.TheVariants.{Ok, Err}
 use Rattle.types.specs.Pick.{pick}
 use Rattle.types.specs.declared.refusals.Refusal.{Refusal}
 use Rattle.types.specs.declared.refusals.Refusal.TheVariants.{WatchedNodes}
 use Rattle.head.specs.Words.{nmt_of, soc_of, head_of}
+use Rattle.head.specs.declared.state.Deadline.{Deadline}
+use Rattle.head.specs.declared.state.Deadline.TheVariants.{At, Nothing}
 use Rattle.watched.specs.declared.nodes.WatchedNode.{WatchedNode}
 use Rattle.watched.specs.Watched.{Run, watching, well_lent}
 use Rattle.node.specs.Plain.{Plain, Answer}
@@ -32,10 +34,10 @@ due_same ws q m vs = by (soc_of ws).next_tick_us
     c = checks_heartbeats (nmt_of ws).current_state
 
     by :
-        (d : Option ℕ) →
+        (d : Deadline) →
         smaller (deadline_due (unlent ws) d) (pick c (nodes_due vs) None) ≡ smaller (deadline_due (plain (head_of ws) q m) d) (pick c (nodes_due vs) None)
-    by (Some d) = refl
-    by None = refl
+    by (At d) = refl
+    by Nothing = refl
 
 pub next_due_steps :
     (ws : List ℕ) (r : Run) (a : Result (Option ℕ) Refusal) → a ≡ next_due ws r → (says : Option ℕ → Answer) (q m : List ℕ) →

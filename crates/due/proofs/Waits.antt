@@ -19,7 +19,10 @@ use Rattle.types.specs.declared.frame.error.types.DllErrors.{DllErrors}
 use Rattle.types.specs.declared.refusals.Refusal.{Refusal}
 use Rattle.types.specs.declared.refusals.Refusal.TheVariants.{WatchedNodes}
 use Rattle.types.proofs.Tests.{both_first, both_second}
+use Rattle.head.specs.Head.{moment_in}
 use Rattle.head.specs.Words.{nmt_of, soc_of, head_of}
+use Rattle.head.specs.declared.state.Deadline.{Deadline}
+use Rattle.head.specs.declared.state.Deadline.TheVariants.{At, Nothing}
 use Rattle.head.specs.Written.{earliest_written}
 use Rattle.watched.specs.declared.nodes.WatchedNode.{WatchedNode}
 use Rattle.watched.specs.Watched.{in_time, heard_now, Run, run, watching, well_lent, changing}
@@ -112,15 +115,15 @@ no_deadline t true true x y h = absurd (omega (arith, h))
 no_deadline t true false x y h = refl
 no_deadline t false b x y h = refl
 
-deadline_idle : (p : Plain) (t : ℕ) (d : Option ℕ) → IsBefore t (deadline_due p d) → by_deadline p t d ≡ goes_on p
-deadline_idle p t (Some d) h = ap (λ (b : Bool). pick b (used_up (with_deadline p None) t) (goes_on p)) (lt-leb d t h)
-deadline_idle p t None h = ap goes_on (no_deadline t (at_not_active p) (ltb 0 (basic_timeout p)) _ p h)
+deadline_idle : (p : Plain) (t : ℕ) (d : Deadline) → IsBefore t (deadline_due p d) → by_deadline p t d ≡ goes_on p
+deadline_idle p t (At d) h = ap (λ (b : Bool). pick b (used_up (with_deadline p Nothing) t) (goes_on p)) (lt-leb d t h)
+deadline_idle p t Nothing h = ap goes_on (no_deadline t (at_not_active p) (ltb 0 (basic_timeout p)) _ p h)
 
 -- the words then
-deadline_words_idle : (ws q m : List ℕ) (t : ℕ) (d : Option ℕ) → IsBefore t (deadline_due (unlent ws) d) → deadline_words ws q m t d ≡ ws
+deadline_words_idle : (ws q m : List ℕ) (t : ℕ) (d : Deadline) → IsBefore t (deadline_due (unlent ws) d) → deadline_words ws q m t d ≡ ws
 unfolding deadline_words basic_words head_of
-deadline_words_idle ws q m t (Some d) h = ap (λ (b : Bool). pick b (passed_words (set ws at.due 0) q m t) ws) (lt-leb d t h)
-deadline_words_idle ws q m t None h = no_deadline t (at_not_active (unlent ws)) (ltb 0 (basic_timeout (unlent ws))) _ ws h
+deadline_words_idle ws q m t (At d) h = ap (λ (b : Bool). pick b (passed_words (set ws at.due 0) q m t) ws) (lt-leb d t h)
+deadline_words_idle ws q m t Nothing h = no_deadline t (at_not_active (unlent ws)) (ltb 0 (basic_timeout (unlent ws))) _ ws h
 
 still_words :
     (ws q m : List ℕ) (t : ℕ) (vs : List WatchedNode) → is_still (checks_heartbeats (nmt_of ws).current_state) t vs ≡ true →
@@ -171,61 +174,61 @@ module _ (t : ℕ) (up : 0 < t) where
 
 -- a deadline that is reached is used up, and a new one is later
 abbrev Later : ℕ → Plain → Type 0
-Later t p = IsBefore t p.soc.next_tick_us
+Later t p = IsBefore t (moment_in p.soc.next_tick_us)
 
 module _ (t : ℕ) where
-  none_later : (p : Plain) → p.soc.next_tick_us ≡ None → Later t p
-  none_later p n = subst (IsBefore t) (sym n) tt
+  none_later : (p : Plain) → p.soc.next_tick_us ≡ Nothing → Later t p
+  none_later p n = subst (λ (d : Deadline). IsBefore t (moment_in d)) (sym n) tt
 
-  rescheduled_later : (p : Plain) → p.soc.next_tick_us ≡ None → Later t (rescheduled p t)
+  rescheduled_later : (p : Plain) → p.soc.next_tick_us ≡ Nothing → Later t (rescheduled p t)
   rescheduled_later p n =
       tested (Later t) (ltb 0 (cycle_of p.od))
       (λ c. next_later (last_soc p) t (cycle_of p.od) (tolerance_of p.od / 1000) (ltb-true 0 (cycle_of p.od) c))
       (λ c. none_later p n)
 
-  within_later : (p : Plain) → p.soc.next_tick_us ≡ None → Later t (within_limit p t)
+  within_later : (p : Plain) → p.soc.next_tick_us ≡ Nothing → Later t (within_limit p t)
   within_later p n =
       tested (Later t) (both (ltb 0 (cycle_of p.od)) (ltb t (last_soc p + limit_of p.od)))
       (λ c. ltb-true t (last_soc p + limit_of p.od) (both_second (ltb 0 (cycle_of p.od)) _ c))
       (λ c. rescheduled_later p n)
 
-  lost_later : (p : Plain) → p.soc.next_tick_us ≡ None → Later t (lost p t).head
+  lost_later : (p : Plain) → p.soc.next_tick_us ≡ Nothing → Later t (lost p t).head
   lost_later p n =
       let g : Plain = with_dll p (soc_timeout p).state in
       let k : Ticked = deal_all t g (soc_timeout p).errors in
-      let none : k.head.soc.next_tick_us ≡ None = deal_all_deadline t g (soc_timeout p).errors ∙ n in
+      let none : k.head.soc.next_tick_us ≡ Nothing = deal_all_deadline t g (soc_timeout p).errors ∙ n in
       tested (λ (k : Ticked). Later t k.head) k.ended (λ c. none_later k.head none) (λ c. rescheduled_later k.head none)
 
-  check_later : (p : Plain) → p.soc.next_tick_us ≡ None → Later t (soc_check p t).head
+  check_later : (p : Plain) → p.soc.next_tick_us ≡ Nothing → Later t (soc_check p t).head
   unfolding soc_check
   check_later p n =
       tested (λ (k : Ticked). Later t k.head) p.soc.soc_timeout_check_active
       (λ c. tested (λ (k : Ticked). Later t k.head) (is_loss p t) (λ l. lost_later p n) (λ l. within_later p n))
       (λ c. none_later p n)
 
-  used_up_later : (p : Plain) → p.soc.next_tick_us ≡ None → Later t (used_up p t).head
+  used_up_later : (p : Plain) → p.soc.next_tick_us ≡ Nothing → Later t (used_up p t).head
   used_up_later p n =
       tested (λ (k : Ticked). Later t k.head) (at_not_active p)
       (λ a. tested (Later t) (ltb 0 (basic_timeout p)) (λ b. none_later p n) (λ b. none_later p n))
       (λ a. check_later p n)
 
   -- so a deadline that is left was not reached
-  deadline_left : (p : Plain) (d : Option ℕ) → (by_deadline p t d).head.soc.next_tick_us ≡ d → p.soc.next_tick_us ≡ d → IsBefore t (deadline_due p d)
-  deadline_left p None e n = by (at_not_active p) (ltb 0 (basic_timeout p)) e
+  deadline_left : (p : Plain) (d : Deadline) → (by_deadline p t d).head.soc.next_tick_us ≡ d → p.soc.next_tick_us ≡ d → IsBefore t (deadline_due p d)
+  deadline_left p Nothing e n = by (at_not_active p) (ltb 0 (basic_timeout p)) e
     where
       by :
-          (a b : Bool) → (pick a (pick b (with_deadline p (Some (t + basic_timeout p))) p) p).soc.next_tick_us ≡ None →
+          (a b : Bool) → (pick a (pick b (with_deadline p (At (t + basic_timeout p))) p) p).soc.next_tick_us ≡ Nothing →
           IsBefore t (pick (both a b) (Some 0) None)
-      by true true e = absurd (some_none e)
+      by true true e = absurd (at_nothing e)
         where
-          some_none : ◌≡◌ {A = Option ℕ} (Some (t + basic_timeout p)) None → ⊥
-          some_none e = cc
+          at_nothing : At (t + basic_timeout p) ≡ Nothing → ⊥
+          at_nothing e = cc
       by true false e = tt
       by false b e = tt
-  deadline_left p (Some d) e n = by (leb d t) refl e
+  deadline_left p (At d) e n = by (leb d t) refl e
     where
-      by : (a : Bool) → leb d t ≡ a → (pick a (used_up (with_deadline p None) t) (goes_on p)).head.soc.next_tick_us ≡ Some d → t < d
-      by true h e = subst (IsBefore t) e (used_up_later (with_deadline p None) refl)
+      by : (a : Bool) → leb d t ≡ a → (pick a (used_up (with_deadline p Nothing) t) (goes_on p)).head.soc.next_tick_us ≡ At d → t < d
+      by true h e = subst (λ (d : Deadline). IsBefore t (moment_in d)) e (used_up_later (with_deadline p Nothing) refl)
       by false h e = leb-false d t h
 
 -- a tick that is taken: what it tested, and that it is what follows the tests
@@ -296,9 +299,9 @@ module _ (ws q m : List ℕ) (r : Run) (t : ℕ) (es : DllErrors) (ws' q' m' : L
     unfolding head_of
     before_deadline = by (soc_of ws).next_tick_us parts.0
       where
-        by : (d : Option ℕ) → IsBefore t (deadline_due (unlent ws) d) → IsBefore t (deadline_due p d)
-        by (Some d) h = h
-        by None h = h
+        by : (d : Deadline) → IsBefore t (deadline_due (unlent ws) d) → IsBefore t (deadline_due p d)
+        by (At d) h = h
+        by Nothing h = h
 
     nothing_taken : tick_taken p t vs ≡ goes_on p
     unfolding head_of

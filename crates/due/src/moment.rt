@@ -72,7 +72,7 @@ fn deadline_due(head: &Head) -> Option<u64>
     ensures { result ≡ deadline_due (unlent head.now) (soc_of head.now).next_tick_us }
 {
     let sets_one = at_not_active(head) && 0 < timeout_of(head);
-    deadline_at(head).or(sets_one.then_some(0))
+    deadline_at(head).moment().or(sets_one.then_some(0))
 }
 
 // By what a walk over the watched nodes found; none is number 3.

@@ -4,6 +4,8 @@ use Rattle.std.specs.Prelude.{ℕ, ◌<◌, Bool, not, List, [], ◌∷◌, eqb,
 use Rattle.std.specs.declared.option.Option.{Option}
 use Rattle.std.specs.declared.option.Option.TheVariants.{Some, None}
 use Rattle.types.specs.Pick.{pick, both, all_of}
+use Rattle.head.specs.declared.state.Deadline.{Deadline}
+use Rattle.head.specs.declared.state.Deadline.TheVariants.{At, Nothing}
 use Rattle.watched.specs.declared.nodes.WatchedNode.{WatchedNode}
 use Rattle.watched.specs.Watched.{Run, watching, well_lent}
 use Rattle.node.specs.Plain.{Plain, Answer, Step}
@@ -11,9 +13,9 @@ use Rattle.node.specs.Steps.{Test, must, tried, answers, declines, smaller, earl
 use Rattle.node.specs.Tick.{checks_heartbeats, at_not_active, basic_timeout}
 
 -- Of the head alone: the deadline, if one stands. Without one a tick at NotActive sets it, if the basic timeout is above 0: at once.
-abbrev pub deadline_due : Plain → Option ℕ → Option ℕ
-deadline_due p (Some d) = Some d
-deadline_due p None = pick (both (at_not_active p) (ltb 0 (basic_timeout p))) (Some 0) None
+abbrev pub deadline_due : Plain → Deadline → Option ℕ
+deadline_due p (At d) = Some d
+deadline_due p Nothing = pick (both (at_not_active p) (ltb 0 (basic_timeout p))) (Some 0) None
 
 -- Of the watched nodes: the earliest moment at which one would be late. One that was not heard yet is set to be heard: at once.
 abbrev pub was_heard : WatchedNode → Bool
