@@ -23,10 +23,11 @@ use Rattle.types.specs.declared.frame.error.types.DllError.{DllError}
 use Rattle.std.specs.List.{AllByRecursion}
 use Rattle.types.proofs.Reading.{reads_holds}
 use Rattle.watched.specs.Watched.{in_time, heard_at, unheard, Run, watching, changing}
-use Rattle.node.specs.Plain.{Plain, Call, nmt_event, dll_event, error, cycle_complete, withdraw, heard, hand_out, load, arm, tick, range, margin, add, remove, refused, taken, range_answer, margin_answer, Step, Start, Begun, begins, declined, FirstStep}
+use Rattle.node.specs.Plain.{Plain, Call, nmt_event, dll_event, error, cycle_complete, withdraw, heard, hand_out, load, arm, tick, range, margin, add, remove, next_due, refused, taken, range_answer, margin_answer, due_answer, Step, Start, Begun, begins, declined, FirstStep}
 use Rattle.node.specs.Steps.{Test, tried, no_run, answers, declines, leaves, with_nmt, with_soc, nmt_step, dll_step, error_step, withdrawn, withdraw_tests, heard_tests, add_tests, remove_tests, added, removed, arm_tests, armed, fresh, start_tests, started}
 use Rattle.node.specs.Tick.{tick_tests, tick_taken, tick_answered, looked_at}
 use Rattle.node.specs.Range.{range_tests, margin_tests, verdict_of, margin_of}
+use Rattle.node.specs.Due.{due, due_tests}
 use Rattle.node.specs.Run.{step}
 use Rattle.node.specs.Refines.{plain, joins_all}
 use Rattle.node.specs.InPlace.{withdraw_words, nmt_words, dll_words, error_words, arm_words}
@@ -153,6 +154,7 @@ plain_declines p (add n o l) r h =
     tried_declines (1 ∷ 3 ∷ 10 ∷ 9 ∷ []) p l (add_tests n o l) (leaves p (added n o l)) (refl, (refl, (refl, (refl, tt)))) refl r h
 plain_declines p (remove n l) r h =
     tried_declines (3 ∷ 7 ∷ []) p l (remove_tests n l) (leaves p (removed n l)) (refl, (refl, tt)) refl r h
+plain_declines p (next_due l) r h = tried_declines (3 ∷ []) p l (due_tests l) (answers p (due_answer (due p (watching l))) l) (refl, tt) refl r h
 
 -- the words that a declined call leaves
 pub nmt_words_lem : (ws : List ℕ) (p : Plain) (x : Result NmtEvent Refusal) (r : ℕ) → (nmt_step p x).answer ≡ refused r → nmt_words ws x ≡ ws
@@ -189,7 +191,7 @@ arm_words_lem ws p t r h = by (in_time t) h
     by false g = refl
 
 -- nothing that was lent has changed
-same_held : {x x' : Held} → x'.head ≡ x.head → x'.lent ≡ x.lent → rings_of x' ≡ rings_of x → x' ≡ x
+pub same_held : {x x' : Held} → x'.head ≡ x.head → x'.lent ≡ x.lent → rings_of x' ≡ rings_of x → x' ≡ x
 same_held ws l r = λ i. held (ws i) ((r i).queue_bytes) ((r i).history_bytes) (l i)
 
 module _ {x x' : Held} (r : Refusal) where
@@ -210,6 +212,7 @@ module _ {x x' : Held} (r : Refusal) where
   stays (call.Margin s) t = same_held t.words t.lent t.rings
   stays (call.Add i o) t = same_held t.words (t.lent ∙ (plain_declines (plain_at x) (add i o x.lent) (refusal_number r) (sym t.refines.answer)).1) t.rings
   stays (call.Remove i) t = same_held t.words (t.lent ∙ (plain_declines (plain_at x) (remove i x.lent) (refusal_number r) (sym t.refines.answer)).1) t.rings
+  stays call.NextDue t = same_held t.words (t.lent ∙ (plain_declines (plain_at x) (next_due x.lent) (refusal_number r) (sym t.refines.answer)).1) t.rings
 
   -- OF ANY CALL ON ANY HEAD
   pub refused_changes_nothing : (c : made.Call) → Made x c (Err r) x' → Declined x c (refusal_number r) x'

@@ -4,7 +4,7 @@
 use Rattle.std.specs.Prelude.{ℕ, Bool, true, false, List, [], ◌∷◌}
 use Rattle.watched.specs.Watched.{Run}
 use Rattle.node.specs.declared.load.DictionaryUpdate.{DictionaryUpdate}
-use Rattle.node.specs.Plain.{HistoryUpdate, Call, nmt_event, dll_event, error, cycle_complete, withdraw, heard, hand_out, load, arm, tick, range, margin, add, remove}
+use Rattle.node.specs.Plain.{HistoryUpdate, Call, nmt_event, dll_event, error, cycle_complete, withdraw, heard, hand_out, load, arm, tick, range, margin, add, remove, next_due}
 use Rattle.node.specs.Steps.{no_run}
 
 -- the watched nodes that a call is lent
@@ -12,6 +12,8 @@ pub data Lends : Type 0 where
   no_nodes : Lends
   -- this run, from which it works the earliest moment out afresh
   nodes : Run → Lends
+  -- this run, to read alone
+  read : Run → Lends
 
 -- what a call tells the node
 pub data Tells : Type 0 where
@@ -57,18 +59,22 @@ row_of (range a b) = row (5 ∷ 21 ∷ []) no_nodes nothing none
 row_of (margin t) = row (5 ∷ []) no_nodes nothing none
 row_of (add n o r) = row (1 ∷ 3 ∷ 10 ∷ 9 ∷ []) (nodes r) nothing none
 row_of (remove n r) = row (3 ∷ 7 ∷ []) (nodes r) nothing none
+row_of (next_due r) = row (3 ∷ []) (read r) nothing none
 
 -- the run that is lent
 abbrev pub lent_in : Lends → Run
 lent_in no_nodes = no_run
 lent_in (nodes r) = r
+lent_in (read r) = r
 
 -- the first where no run is lent, the second where one is
 abbrev pub if_lent : {A : Type 0} → Lends → A → A → A
 if_lent no_nodes x y = x
 if_lent (nodes r) x y = y
+if_lent (read r) x y = y
 
 -- whether the earliest moment is worked out afresh
 abbrev pub renews : Lends → Bool
 renews no_nodes = false
 renews (nodes r) = true
+renews (read r) = false

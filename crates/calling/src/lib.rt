@@ -92,6 +92,9 @@ pub enum Call<'a> {
     },
     /// A node is watched no more. Refused 3: the lent run; 7: it is not watched. Answers `Taken`.
     Remove(u8),
+    /// The moment of the next tick: one that is taken before it finds nothing to do. Head and
+    /// nodes are only read. Refused 3: the lent run. Answers `Due`.
+    NextDue,
 }
 
 /// What a call answers that is not refused.
@@ -116,6 +119,8 @@ pub enum Answer {
     Range(SocVerdict),
     /// In microseconds; below 0 the SoC is lost.
     Margin(i64),
+    /// In microseconds; 0 is at once, and without one no tick finds anything to do.
+    Due(Option<u64>),
 }
 
 /// Makes a call on a head with the memory of its queue and history and the watched nodes, of
@@ -163,6 +168,7 @@ pub fn make<N: Nodes>(
             .add(head, number, node, timeout)
             .map(|()| Answer::Taken),
         Call::Remove(node) => nodes.remove(head, number, node).map(|()| Answer::Taken),
+        Call::NextDue => nodes.next_due(head, *number).map(Answer::Due),
     }
 }
 

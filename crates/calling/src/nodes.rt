@@ -8,7 +8,9 @@ ghost use Rattle.node.specs.Heard.{HeardOn};
 ghost use Rattle.tick.specs.TickIn.{TickedOn};
 ghost use Rattle.partners.specs.Partners.{AddedOn, RemovedOn};
 ghost use Rattle.start.specs.Started.{StartedOn};
+ghost use Rattle.due.specs.Moment.{next_due};
 
+use due::{run as records, words};
 use head::state::Head;
 use lent::{arrivals, calls, ticks};
 use node::heard::heard;
@@ -79,6 +81,10 @@ pub trait Nodes {
         ensures on { RemovedOn head.old (run (places self.old) number.old) node result
             head.new (run (places self.new) number.new) }
         ensures same_reference { name self.new ≡ name self.old };
+
+    /// `Call::NextDue`.
+    fn next_due(&self, head: &Head, number: usize) -> Result<Option<u64>, Refusal>
+        ensures { result ≡ next_due head.now (run (places self.now) number) };
 }
 
 impl Nodes for NodeWords {
@@ -129,6 +135,10 @@ impl Nodes for NodeWords {
 
     fn remove(&mut self, head: &mut Head, number: &mut usize, node: u8) -> Result<(), Refusal> {
         remove(head, self, number, node)
+    }
+
+    fn next_due(&self, head: &Head, number: usize) -> Result<Option<u64>, Refusal> {
+        words::next_due(head, self, number)
     }
 }
 
@@ -187,5 +197,9 @@ impl Nodes for Records<'_> {
 
     fn remove(&mut self, head: &mut Head, number: &mut usize, node: u8) -> Result<(), Refusal> {
         arrivals::remove(head, number, self.run, node)
+    }
+
+    fn next_due(&self, head: &Head, number: usize) -> Result<Option<u64>, Refusal> {
+        records::next_due(head, self.run, number)
     }
 }

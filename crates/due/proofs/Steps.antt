@@ -1,4 +1,4 @@
--- The question as a step of the plain head, whatever lies in its memory: what a call that answers by `next_due`, and changes nothing, owes a list of calls.
+-- The question is the plain head's, whatever lies in its memory.
 -- Assumes nothing.
 use Prim.Native.Nat.{ℕ}
 use mathlib.Core.Path.{◌≡◌, refl, sym, ap, ◌∙◌}
@@ -16,10 +16,11 @@ use Rattle.head.specs.declared.state.Deadline.{Deadline}
 use Rattle.head.specs.declared.state.Deadline.TheVariants.{At, Nothing}
 use Rattle.watched.specs.declared.nodes.WatchedNode.{WatchedNode}
 use Rattle.watched.specs.Watched.{Run, watching, well_lent}
-use Rattle.node.specs.Plain.{Plain, Answer}
+use Rattle.node.specs.Plain.{Plain, Call, due_answer}
 use Rattle.node.specs.Steps.{smaller, answers, declines}
 use Rattle.node.specs.Tick.{checks_heartbeats}
-use Rattle.node.specs.Due.{deadline_due, nodes_due, due, due_step}
+use Rattle.node.specs.Due.{deadline_due, nodes_due, due}
+use Rattle.node.specs.Run.{step}
 use Rattle.node.specs.InPlace.{answered}
 use Rattle.node.specs.Refines.{plain}
 use Rattle.tick.specs.TickWords.{unlent}
@@ -40,10 +41,10 @@ due_same ws q m vs = by (soc_of ws).next_tick_us
     by Nothing = refl
 
 pub next_due_steps :
-    (ws : List ℕ) (r : Run) (a : Result (Option ℕ) Refusal) → a ≡ next_due ws r → (says : Option ℕ → Answer) (q m : List ℕ) →
-    due_step says (plain (head_of ws) q m) r ≡ answers (plain (head_of ws) q m) (answered says a) r
-next_due_steps ws r a e says q m =
-    by (well_lent r) ∙ ap (λ (a : Result (Option ℕ) Refusal). answers p (answered says a) r) (sym e)
+    (ws : List ℕ) (r : Run) (a : Result (Option ℕ) Refusal) → a ≡ next_due ws r → (q m : List ℕ) →
+    step (plain (head_of ws) q m) (Call.next_due r) ≡ answers (plain (head_of ws) q m) (answered due_answer a) r
+next_due_steps ws r a e q m =
+    by (well_lent r) ∙ ap (λ (a : Result (Option ℕ) Refusal). answers p (answered due_answer a) r) (sym e)
   where
     p : Plain
     p = plain (head_of ws) q m
@@ -53,6 +54,6 @@ next_due_steps ws r a e says q m =
 
     by :
         (b : Bool) →
-        pick b (answers p (says (due p vs)) r) (declines p r 3) ≡ answers p (answered says (pick b (Ok (due (unlent ws) vs)) (Err WatchedNodes))) r
-    by true = ap (λ (d : Option ℕ). answers p (says d) r) (sym (due_same ws q m vs))
+        pick b (answers p (due_answer (due p vs)) r) (declines p r 3) ≡ answers p (answered due_answer (pick b (Ok (due (unlent ws) vs)) (Err WatchedNodes))) r
+    by true = ap (λ (d : Option ℕ). answers p (due_answer d) r) (sym (due_same ws q m vs))
     by false = refl

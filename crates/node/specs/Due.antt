@@ -8,7 +8,7 @@ use Rattle.head.specs.declared.state.Deadline.{Deadline}
 use Rattle.head.specs.declared.state.Deadline.TheVariants.{At, Nothing}
 use Rattle.watched.specs.declared.nodes.WatchedNode.{WatchedNode}
 use Rattle.watched.specs.Watched.{Run, watching, well_lent}
-use Rattle.node.specs.Plain.{Plain, Answer, Step}
+use Rattle.node.specs.Plain.{Plain, due_answer, Step}
 use Rattle.node.specs.Steps.{Test, must, tried, answers, declines, smaller, earliest}
 use Rattle.node.specs.Tick.{checks_heartbeats, at_not_active, basic_timeout}
 
@@ -32,9 +32,9 @@ due p ws = smaller (deadline_due p p.soc.next_tick_us) (pick (checks_heartbeats 
 abbrev pub due_tests : Run → List (Test ℕ)
 due_tests r = must (well_lent r) 3 ∷ []
 
--- The question as a step of the plain head, which it leaves with the run; `says` is the answer with a moment.
-abbrev pub due_step : (Option ℕ → Answer) → Plain → Run → Step
-due_step says p r = tried (due_tests r) (declines p r) (answers p (says (due p (watching r))) r)
+-- the question leaves the head and the run
+abbrev pub due_step : Plain → Run → Step
+due_step p r = tried (due_tests r) (declines p r) (answers p (due_answer (due p (watching r))) r)
 
 -- a time before a moment; before none is any time
 abbrev pub IsBefore : ℕ → Option ℕ → Type 0

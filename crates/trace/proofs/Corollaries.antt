@@ -27,10 +27,11 @@ use Rattle.nmt.specs.Nmt.{processed}
 use Rattle.head.specs.declared.state.SocWatch.{SocWatch}
 use Rattle.head.specs.Words.{head_of}
 use Rattle.watched.specs.Watched.{latest, in_time, heard_at, Run, watching, changing}
-use Rattle.node.specs.Plain.{Plain, Call, nmt_event, dll_event, error, cycle_complete, withdraw, heard, hand_out, load, arm, tick, range, margin, add, remove, Start, taken, range_answer, margin_answer, Step}
+use Rattle.node.specs.Plain.{Plain, Call, nmt_event, dll_event, error, cycle_complete, withdraw, heard, hand_out, load, arm, tick, range, margin, add, remove, next_due, Start, taken, range_answer, margin_answer, due_answer, Step}
 use Rattle.node.specs.Steps.{no_run, forgets, answers, declines, with_nmt, with_soc, nmt_step, dll_step, error_step, withdrawn, heard_tests, add_tests, remove_tests, added, removed, armed, cycle_of, earliest, fresh, started}
 use Rattle.node.specs.Tick.{tick_tests, tick_taken, tick_answered, looked_at, last_soc}
 use Rattle.node.specs.Range.{range_tests, margin_tests, verdict_of, margin_of}
+use Rattle.node.specs.Due.{due, due_tests}
 use Rattle.node.specs.Run.{step, step_all, Said}
 use Rattle.trace.specs.Earliest.{works_out, accepted, last_left, run_after}
 use Rattle.trace.specs.Claim.{Claim}
@@ -39,7 +40,7 @@ use Rattle.start.specs.Started.{start_of, StartedOn}
 use Rattle.calling.specs.declared.Call as made
 use Rattle.calling.specs.Held.{Held, held}
 use Rattle.calling.specs.Values.{Reply, call_of, said}
-use Rattle.calling.specs.Table.{Lends, no_nodes, nodes, row_of, if_lent, renews}
+use Rattle.calling.specs.Table.{Lends, no_nodes, nodes, read, row_of, if_lent, renews}
 use Rattle.calling.specs.Made.{by_lent, Made}
 use Rattle.trace.specs.Driven.{Driven, stop, call, lend, calls_of, says, said_by}
 use Rattle.trace.proofs.Ticking.{picked, tick_part}
@@ -112,6 +113,7 @@ start_afresh {s} {l} {r} {ws = ws} b =
 renews_lent : (l : Lends) (y z : Run) → renews l ≡ true → if_lent l y z ≡ z
 renews_lent no_nodes y z h = absurd (true≢false (sym h))
 renews_lent (nodes r) y z h = refl
+renews_lent (read r) y z h = absurd (true≢false (sym h))
 
 -- a list that ends with one of the others: by the run that it left
 pub ends_afresh :
@@ -197,6 +199,7 @@ module _ (p : Plain) (h : last p ≤ latest) where
   timed (margin t) = tried_by_lem Timed (margin_tests t) (declines p no_run) (answers p (margin_answer (margin_of p t)) no_run) (λ r. h) h
   timed (add n o r) = run_timed (run_call p (add_tests n o r) r (added n o r))
   timed (remove n r) = run_timed (run_call p (remove_tests n r) r (removed n r))
+  timed (next_due r) = tried_by_lem Timed (due_tests r) (declines p r) (answers p (due_answer (due p (watching r))) r) (λ n. h) h
 
 timed_all : (p : Plain) (cs : List Call) → last p ≤ latest → last (step_all p cs) ≤ latest
 unfolding step_all

@@ -202,6 +202,7 @@ module _ {x x' : Held} {o : Reply} (long : length x.history ≡ 5080) where
   brings (of.Margin s) t = none_by x x' _ refl refl t.rings
   brings (of.Add n s) t = none_by x x' _ refl refl t.rings
   brings (of.Remove n) t = none_by x x' _ refl refl t.rings
+  brings of.NextDue t = none_by x x' _ refl refl t.rings
 
 -- and a list of them, between any two moments
 abbrev Stands : Held → List Call → Held → Type 0

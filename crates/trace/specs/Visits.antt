@@ -9,7 +9,7 @@ use Rattle.types.specs.declared.nmt.events.NmtEvent.{NmtEvent}
 use Rattle.types.specs.declared.nmt.events.NmtEvent.TheVariants.{CnConfigurationComplete}
 use Rattle.std.specs.declared.result.Result.TheVariants.{Ok}
 use Rattle.nmt.specs.Resets.{is_reset}
-use Rattle.node.specs.Plain.{Plain, Call, nmt_event, Answer, refused, taken, nmt_answer, dll_answer, error_answer, cycle_answer, hand_out_answer, tick_answer, range_answer, margin_answer, EventMade, made, no_event}
+use Rattle.node.specs.Plain.{Plain, Call, nmt_event, Answer, refused, taken, nmt_answer, dll_answer, error_answer, cycle_answer, hand_out_answer, tick_answer, range_answer, margin_answer, due_answer, EventMade, made, no_event}
 use Rattle.node.specs.Run.{step, step_all}
 use Rattle.calling.specs.Table.{Tells, row_of}
 use Rattle.calling.specs.Table as table
@@ -72,6 +72,7 @@ is_taken (hand_out_answer f) = false
 is_taken (tick_answer es) = false
 is_taken (range_answer v) = false
 is_taken (margin_answer z) = false
+is_taken (due_answer d) = false
 
 -- from the head p on, no withdrawal is accepted
 unfoldable pub NoneWithdrawn : Plain → List Call → Type 0
