@@ -26,7 +26,7 @@ use Rattle.std.specs.declared.option.Option.{Option}
 use Rattle.std.specs.declared.option.Option.TheVariants.{Some, None}
 use Rattle.entries.specs.declared.status_response.ErrorEntry.{ErrorEntry}
 use Rattle.head.specs.Words.{one}
-use Rattle.node.specs.Plain.{Answer, refused, taken, nmt_answer, dll_answer, error_answer, cycle_answer, hand_out_answer, tick_answer, range_answer, margin_answer}
+use Rattle.node.specs.Plain.{Answer, refused, taken, nmt_answer, dll_answer, error_answer, cycle_answer, hand_out_answer, tick_answer, range_answer, margin_answer, due_answer}
 use Rattle.node.specs.declared.range.SocVerdict.{SocVerdict}
 use Rattle.node.specs.declared.range.SocVerdict.TheVariants as verdict
 use Rattle.answers.specs.declared.Carried.{Carried}
@@ -121,6 +121,7 @@ numbers_of (hand_out_answer f) = laid 0 nothing nothing (is_found f) [] [] []
 numbers_of (tick_answer es) = laid 0 nothing nothing nothing [] [] (errors_numbers es)
 numbers_of (range_answer v) = laid 0 nothing nothing nothing (verdict_numbers v) [] []
 numbers_of (margin_answer z) = laid 0 nothing nothing nothing (margin_numbers z) [] []
+numbers_of (due_answer d) = laid 0 nothing nothing nothing [] [] []
 
 -- the bytes of an entry; where there is none, 0
 abbrev pub bytes_of : Option ErrorEntry → List ℕ

@@ -25,7 +25,7 @@ use Rattle.std.specs.declared.option.Option.TheVariants.{Some, None}
 use Rattle.head.specs.Words.{queue_of, head_of}
 use Rattle.watched.specs.Watched.{Run}
 use Rattle.node.specs.declared.load.DictionaryUpdate.{DictionaryUpdate}
-use Rattle.node.specs.Plain.{Call, nmt_event, dll_event, error, cycle_complete, withdraw, hand_out, load, arm, range, margin, Answer, refused, taken, nmt_answer, dll_answer, error_answer, cycle_answer, hand_out_answer, tick_answer, range_answer, margin_answer}
+use Rattle.node.specs.Plain.{Call, nmt_event, dll_event, error, cycle_complete, withdraw, hand_out, load, arm, range, margin, Answer, refused, taken, nmt_answer, dll_answer, error_answer, cycle_answer, hand_out_answer, tick_answer, range_answer, margin_answer, due_answer}
 use Rattle.node.specs.Run.{step}
 use Rattle.node.specs.Refines.{plain, Refines, left, history_update}
 use Rattle.node.specs.Loaded.{bytes_named}
@@ -126,6 +126,7 @@ handed (hand_out_answer f) = f
 handed (tick_answer es) = None
 handed (range_answer v) = None
 handed (margin_answer z) = None
+handed (due_answer d) = None
 
 pub handed_first : (ws q : List ℕ) {r : Option ErrorEntry} → hand_out_answer r ≡ (step (plain (head_of ws) q []) hand_out).answer → r ≡ nth (waiting q (queue_of ws)) 0
 unfolding head_of

@@ -63,6 +63,7 @@ pub data Call : Type 0 where
   add : ℕ → ℕ → Run → Call
   -- a node
   remove : ℕ → Run → Call
+  next_due : Run → Call
 
 -- what start is given
 pub record Start : Type 0 where
@@ -93,6 +94,8 @@ pub data Answer : Type 0 where
   range_answer : SocVerdict → Answer
   -- a signed number
   margin_answer : ℤ → Answer
+  -- the moment of the next tick, or none
+  due_answer : Option ℕ → Answer
 
 -- the NMT event that a call gave the machine, or none
 pub data EventMade : Type 0 where

@@ -99,7 +99,7 @@ fn soc_check(head: &mut Head, queue: &mut [u8; 640], history: &mut [u8; 5080], t
     Dealt::GOES_ON
 }
 
-fn at_not_active(head: &Head) -> bool
+pub fn at_not_active(head: &Head) -> bool
     ensures { result ≡ at_not_active (unlent head.now) }
 {
     state_at(head) == NmtState::NmtNotActive

@@ -7,11 +7,13 @@ use Rattle.entries.specs.History.{error_history, history, place_before, joined}
 use Rattle.entries.specs.declared.status_response.ErrorEntry.{ErrorEntry}
 use Rattle.entries.specs.declared.error_history.ErrorHistory.{ErrorHistory}
 use Rattle.head.specs.Head.{Head}
-use Rattle.node.specs.Plain.{Plain, HistoryUpdate, set, keep, Call, nmt_event, dll_event, error, cycle_complete, withdraw, heard, hand_out, load, arm, tick, range, margin, add, remove}
+use Rattle.node.specs.Plain.{Plain, HistoryUpdate, set, keep, Call}
 use Rattle.node.specs.Run.{step, step_all}
 use Rattle.node.specs.Refines.{plain}
 use Rattle.trace.specs.Tally.{is_full}
-use Rattle.trace.specs.Declined.{is_among}
+use Rattle.calling.specs.Table.{Stores, row_of}
+use Rattle.calling.specs.Table as table
+use Rattle.calling.specs.Declined.{is_among}
 
 -- The entries that a call brings into the history: a load's, which take the place of all, or those of its kept crossings.
 pub data Brought : Type 0 where
@@ -29,22 +31,15 @@ abbrev pub loaded_new : HistoryUpdate → Brought
 loaded_new (set es) = by_load es
 loaded_new keep = nothing_new
 
--- by the call
+-- by what the call stores
+abbrev pub brought_how : Stores → List ErrorEntry → Brought
+brought_how table.none es = nothing_new
+brought_how (table.named v h) es = loaded_new h
+brought_how table.handed es = nothing_new
+brought_how table.crossings es = by_crossings es
+
 abbrev pub brought_by : Plain → Call → Brought
-brought_by p (nmt_event n) = nothing_new
-brought_by p (dll_event n x) = nothing_new
-brought_by p (error k a b) = nothing_new
-brought_by p cycle_complete = nothing_new
-brought_by p withdraw = nothing_new
-brought_by p (heard n t r) = nothing_new
-brought_by p hand_out = nothing_new
-brought_by p (load v u) = loaded_new u
-brought_by p (arm t) = nothing_new
-brought_by p (tick t r) = by_crossings (kept_by p (step p (tick t r)).crossings)
-brought_by p (range a b) = nothing_new
-brought_by p (margin t) = nothing_new
-brought_by p (add n o r) = nothing_new
-brought_by p (remove n r) = nothing_new
+brought_by p c = brought_how (row_of c).stores (kept_by p (step p c).crossings)
 
 -- "with a moving newest place and a count": where the history h stands after them. A load's newest is at place 0; "the 255th replacing the oldest".
 abbrev pub joined_all : ErrorHistory → List ErrorEntry → ErrorHistory

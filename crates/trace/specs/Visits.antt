@@ -9,8 +9,10 @@ use Rattle.types.specs.declared.nmt.events.NmtEvent.{NmtEvent}
 use Rattle.types.specs.declared.nmt.events.NmtEvent.TheVariants.{CnConfigurationComplete}
 use Rattle.std.specs.declared.result.Result.TheVariants.{Ok}
 use Rattle.nmt.specs.Resets.{is_reset}
-use Rattle.node.specs.Plain.{Plain, Call, nmt_event, dll_event, error, cycle_complete, withdraw, heard, hand_out, load, arm, tick, range, margin, add, remove, Answer, refused, taken, nmt_answer, dll_answer, error_answer, cycle_answer, hand_out_answer, tick_answer, range_answer, margin_answer, EventMade, made, no_event}
+use Rattle.node.specs.Plain.{Plain, Call, nmt_event, Answer, refused, taken, nmt_answer, dll_answer, error_answer, cycle_answer, hand_out_answer, tick_answer, range_answer, margin_answer, due_answer, EventMade, made, no_event}
 use Rattle.node.specs.Run.{step, step_all}
+use Rattle.calling.specs.Table.{Tells, row_of}
+use Rattle.calling.specs.Table as table
 use Rattle.trace.specs.Tally.{asks}
 
 abbrev pub nmt_state : Plain → NmtState
@@ -51,21 +53,13 @@ pub data Enabled (p : Plain) : List Call → Type 0 where
       Enabled p (visited ++ (c ∷ after))
 
 -- "a withdrawal counts when accepted"
+abbrev pub takes_back : Tells → Bool
+takes_back table.nothing = false
+takes_back table.event = false
+takes_back table.withdrawal = true
+
 abbrev pub is_withdraw : Call → Bool
-is_withdraw (nmt_event n) = false
-is_withdraw (dll_event n x) = false
-is_withdraw (error k a b) = false
-is_withdraw cycle_complete = false
-is_withdraw withdraw = true
-is_withdraw (heard n t r) = false
-is_withdraw hand_out = false
-is_withdraw (load v h) = false
-is_withdraw (arm t) = false
-is_withdraw (tick t r) = false
-is_withdraw (range a b) = false
-is_withdraw (margin t) = false
-is_withdraw (add n o r) = false
-is_withdraw (remove n r) = false
+is_withdraw c = takes_back (row_of c).tells
 
 abbrev pub is_taken : Answer → Bool
 is_taken taken = true
@@ -78,6 +72,7 @@ is_taken (hand_out_answer f) = false
 is_taken (tick_answer es) = false
 is_taken (range_answer v) = false
 is_taken (margin_answer z) = false
+is_taken (due_answer d) = false
 
 -- from the head p on, no withdrawal is accepted
 unfoldable pub NoneWithdrawn : Plain → List Call → Type 0
