@@ -1,4 +1,5 @@
--- A refused call changes nothing: it has one of its numbers, the plain head's, and all that it was lent is as it was.
+-- A refused call changes nothing: it has one of its numbers, the plain head's, and all that it was
+-- lent is as it was.
 -- Assumes nothing.
 use Prim.Native.Nat.{ℕ}
 use mathlib.Core.Path.{◌≡◌, refl, sym, ap, subst, ◌∙◌}
@@ -97,27 +98,36 @@ read_error_lem k a b =
 abbrev pub Plainly : List ℕ → Run → Step → ℕ → Type 0
 Plainly ns l t r = Among ns r × (t.lent ≡ l) × (t.crossings ≡ [])
 
-nmt_declines : (p : Plain) (x : Result NmtEvent Refusal) → event_fits x → (r : ℕ) → (nmt_step p x).answer ≡ refused r → Plainly (4 ∷ []) no_run (nmt_step p x) r
+nmt_declines :
+    (p : Plain) (x : Result NmtEvent Refusal) → event_fits x → (r : ℕ) →
+    (nmt_step p x).answer ≡ refused r → Plainly (4 ∷ []) no_run (nmt_step p x) r
 nmt_declines p (Ok e) f r h = apart (sym h) refl refl
 nmt_declines p (Err x) f r h = (subst (Among (4 ∷ [])) (refusal_of h) f, refl, refl)
 
-dll_declines : (p : Plain) (y : Bool) (x : Result DllCsEvent Refusal) → cs_fits x → (r : ℕ) → (dll_step p y x).answer ≡ refused r → Plainly (4 ∷ []) no_run (dll_step p y x) r
+dll_declines :
+    (p : Plain) (y : Bool) (x : Result DllCsEvent Refusal) → cs_fits x → (r : ℕ) →
+    (dll_step p y x).answer ≡ refused r → Plainly (4 ∷ []) no_run (dll_step p y x) r
 dll_declines p y (Ok e) f r h = apart (sym h) refl refl
 dll_declines p y (Err x) f r h = (subst (Among (4 ∷ [])) (refusal_of h) f, refl, refl)
 
-error_declines : (p : Plain) (x : Result DllError Refusal) → error_fits x → (r : ℕ) → (error_step p x).answer ≡ refused r → Plainly (4 ∷ 1 ∷ []) no_run (error_step p x) r
+error_declines :
+    (p : Plain) (x : Result DllError Refusal) → error_fits x → (r : ℕ) →
+    (error_step p x).answer ≡ refused r → Plainly (4 ∷ 1 ∷ []) no_run (error_step p x) r
 error_declines p (Ok e) f r h = apart (sym h) refl refl
 error_declines p (Err x) f r h = (subst (Among (4 ∷ 1 ∷ [])) (refusal_of h) f, refl, refl)
 
 tried_declines :
-    (ns : List ℕ) (p : Plain) (l : Run) (ts : List (Test ℕ)) (accept : Step) → AllByRecursion (λ (t : Test ℕ). Among ns t.otherwise) ts → (parts accept.answer).declines ≡ false →
-    (r : ℕ) → (tried ts (declines p l) accept).answer ≡ refused r → Plainly ns l (tried ts (declines p l) accept) r
+    (ns : List ℕ) (p : Plain) (l : Run) (ts : List (Test ℕ)) (accept : Step) →
+    AllByRecursion (λ (t : Test ℕ). Among ns t.otherwise) ts → (parts accept.answer).declines ≡ false →
+    (r : ℕ) → (tried ts (declines p l) accept).answer ≡ refused r →
+    Plainly ns l (tried ts (declines p l) accept) r
 tried_declines ns p l [] accept f x r h = apart (sym h) refl x
 tried_declines ns p l (t ∷ ts) accept f x r h = by t.holds (tried_declines ns p l ts accept f.1 x r) h
   where
     by :
         (b : Bool) →
-        ((tried ts (declines p l) accept).answer ≡ refused r → Plainly ns l (tried ts (declines p l) accept) r) →
+        ((tried ts (declines p l) accept).answer ≡ refused r →
+        Plainly ns l (tried ts (declines p l) accept) r) →
         (pick b (tried ts (declines p l) accept) (declines p l t.otherwise)).answer ≡ refused r →
         Plainly ns l (pick b (tried ts (declines p l) accept) (declines p l t.otherwise)) r
     by true more h = more h
@@ -138,52 +148,74 @@ plain_declines p withdraw r h =
     tried_declines (8 ∷ []) p no_run (withdraw_tests p)
     (answers (with_nmt p (withdrawn p.nmt)) taken no_run) (refl, tt) refl r h
 plain_declines p (heard n t l) r h =
-    tried_declines (3 ∷ 5 ∷ 7 ∷ []) p l (heard_tests n t l) (leaves p (changing (heard_at n t) l)) (refl, (refl, (refl, tt))) refl r h
+    tried_declines (3 ∷ 5 ∷ 7 ∷ []) p l (heard_tests n t l)
+    (leaves p (changing (heard_at n t) l)) (refl, (refl, (refl, tt))) refl r h
 plain_declines p hand_out r h = apart (sym h) refl refl
 plain_declines p (load v u) r h = apart (sym h) refl refl
 plain_declines p (arm t) r h =
-    tried_declines (5 ∷ []) p no_run (arm_tests t) (answers (with_soc p (armed p.soc p.od t)) taken no_run) (refl, tt) refl r h
+    tried_declines (5 ∷ []) p no_run (arm_tests t)
+    (answers (with_soc p (armed p.soc p.od t)) taken no_run) (refl, tt) refl r h
 plain_declines p (tick t l) r h =
-    tried_declines (3 ∷ 5 ∷ 6 ∷ []) p l (tick_tests p t l) (tick_answered (tick_taken p t (watching l)) (looked_at p t l)) (refl, (refl, (refl, tt))) refl r h
+    tried_declines (3 ∷ 5 ∷ 6 ∷ []) p l (tick_tests p t l)
+    (tick_answered (tick_taken p t (watching l)) (looked_at p t l)) (refl, (refl, (refl, tt))) refl r h
 plain_declines p (range a b) r h =
-    tried_declines (5 ∷ 21 ∷ []) p no_run (range_tests a b) (answers p (range_answer (verdict_of p a b)) no_run) (refl, (refl, (refl, tt))) refl r h
+    tried_declines (5 ∷ 21 ∷ []) p no_run (range_tests a b)
+    (answers p (range_answer (verdict_of p a b)) no_run) (refl, (refl, (refl, tt))) refl r h
 plain_declines p (margin t) r h =
-    tried_declines (5 ∷ []) p no_run (margin_tests t) (answers p (margin_answer (margin_of p t)) no_run) (refl, tt) refl r h
+    tried_declines (5 ∷ []) p no_run (margin_tests t)
+    (answers p (margin_answer (margin_of p t)) no_run) (refl, tt) refl r h
 plain_declines p (add n o l) r h =
-    tried_declines (1 ∷ 3 ∷ 10 ∷ 9 ∷ []) p l (add_tests n o l) (leaves p (added n o l)) (refl, (refl, (refl, (refl, tt)))) refl r h
+    tried_declines (1 ∷ 3 ∷ 10 ∷ 9 ∷ []) p l (add_tests n o l)
+    (leaves p (added n o l)) (refl, (refl, (refl, (refl, tt)))) refl r h
 plain_declines p (remove n l) r h =
-    tried_declines (3 ∷ 7 ∷ []) p l (remove_tests n l) (leaves p (removed n l)) (refl, (refl, tt)) refl r h
+    tried_declines (3 ∷ 7 ∷ []) p l (remove_tests n l)
+    (leaves p (removed n l)) (refl, (refl, tt)) refl r h
 
 -- the words that a declined call leaves
-pub nmt_words_lem : (ws : List ℕ) (p : Plain) (x : Result NmtEvent Refusal) (r : ℕ) → (nmt_step p x).answer ≡ refused r → nmt_words ws x ≡ ws
+nmt_words_lem :
+    (ws : List ℕ) (p : Plain) (x : Result NmtEvent Refusal) (r : ℕ) →
+    (nmt_step p x).answer ≡ refused r → nmt_words ws x ≡ ws
 nmt_words_lem ws p (Ok e) r h = apart (sym h) refl refl
 nmt_words_lem ws p (Err x) r h = refl
 
-pub dll_words_lem : (ws : List ℕ) (p : Plain) (y : Bool) (x : Result DllCsEvent Refusal) (r : ℕ) → (dll_step p y x).answer ≡ refused r → dll_words ws y x ≡ ws
+dll_words_lem :
+    (ws : List ℕ) (p : Plain) (y : Bool) (x : Result DllCsEvent Refusal) (r : ℕ) →
+    (dll_step p y x).answer ≡ refused r → dll_words ws y x ≡ ws
 dll_words_lem ws p y (Ok e) r h = apart (sym h) refl refl
 dll_words_lem ws p y (Err x) r h = refl
 
-pub error_words_lem : (ws : List ℕ) (p : Plain) (x : Result DllError Refusal) (r : ℕ) → (error_step p x).answer ≡ refused r → error_words ws x ≡ ws
+error_words_lem :
+    (ws : List ℕ) (p : Plain) (x : Result DllError Refusal) (r : ℕ) →
+    (error_step p x).answer ≡ refused r → error_words ws x ≡ ws
 error_words_lem ws p (Ok e) r h = apart (sym h) refl refl
 error_words_lem ws p (Err x) r h = refl
 
-pub withdraw_words_lem : (ws q m : List ℕ) (r : ℕ) → (step (plain (head_of ws) q m) withdraw).answer ≡ refused r → withdraw_words ws ≡ ws
+withdraw_words_lem :
+    (ws q m : List ℕ) (r : ℕ) →
+    (step (plain (head_of ws) q m) withdraw).answer ≡ refused r → withdraw_words ws ≡ ws
 unfolding head_of
 withdraw_words_lem ws q m r h = by (same_state (state_of (word ws at.state)) NmtReadyToOperate) h
   where
+    p : Plain
+    p = plain (head_of ws) q m
+
     by :
         (b : Bool) →
-        (pick (not b) (answers (with_nmt (plain (head_of ws) q m) (withdrawn (nmt_of ws))) taken no_run) (declines (plain (head_of ws) q m) no_run 8)).answer ≡ refused r →
+        (pick (not b) (answers (with_nmt p (withdrawn (nmt_of ws))) taken no_run) (declines p no_run 8)).answer
+        ≡ refused r →
         pick b ws (set ws at.ready 0) ≡ ws
     by true g = refl
     by false g = apart (sym g) refl refl
 
-pub arm_words_lem : (ws : List ℕ) (p : Plain) (t : ℕ) (r : ℕ) → (step p (arm t)).answer ≡ refused r → arm_words ws t ≡ ws
+arm_words_lem :
+    (ws : List ℕ) (p : Plain) (t : ℕ) (r : ℕ) →
+    (step p (arm t)).answer ≡ refused r → arm_words ws t ≡ ws
 arm_words_lem ws p t r h = by (in_time t) h
   where
     by :
         (b : Bool) →
-        (pick b (answers (with_soc p (armed p.soc p.od t)) taken no_run) (declines p no_run 5)).answer ≡ refused r →
+        (pick b (answers (with_soc p (armed p.soc p.od t)) taken no_run) (declines p no_run 5)).answer
+        ≡ refused r →
         pick b (soc_written ws (armed (soc_of ws) (od_of ws) t)) ws ≡ ws
     by true g = apart (sym g) refl refl
     by false g = refl
@@ -192,32 +224,56 @@ arm_words_lem ws p t r h = by (in_time t) h
 same_held : {x x' : Held} → x'.head ≡ x.head → x'.lent ≡ x.lent → rings_of x' ≡ rings_of x → x' ≡ x
 same_held ws l r = λ i. held (ws i) ((r i).queue_bytes) ((r i).history_bytes) (l i)
 
+-- nor a run that was lent
+run_stays :
+    (p : Plain) (c : Call) {n : ℕ} → refused n ≡ (step p c).answer → (step p c).lent ≡ lent_to c
+run_stays p c {n} f = (plain_declines p c n (sym f)).1
+
 module _ {x x' : Held} (r : Refusal) where
   stays : (c : made.Call) → Made x c (Err r) x' → x' ≡ x
-  stays (call.NmtEvent i) t = same_held (t.words ∙ nmt_words_lem x.head (plain_at x) (read_event i) (refusal_number r) (sym t.refines.answer)) t.lent t.rings
-  stays (call.DllEvent i b) t = same_held (t.words ∙ dll_words_lem x.head (plain_at x) b (read_cs_event i) (refusal_number r) (sym t.refines.answer)) t.lent t.rings
-  stays (call.Error i a b) t = same_held (t.words ∙ error_words_lem x.head (plain_at x) (read_error i a b) (refusal_number r) (sym t.refines.answer)) t.lent t.rings
+  stays (call.NmtEvent i) t =
+      let f = nmt_words_lem x.head (plain_at x) (read_event i) (refusal_number r) in
+      same_held (t.words ∙ f (sym t.refines.answer)) t.lent t.rings
+  stays (call.DllEvent i b) t =
+      let f = dll_words_lem x.head (plain_at x) b (read_cs_event i) (refusal_number r) in
+      same_held (t.words ∙ f (sym t.refines.answer)) t.lent t.rings
+  stays (call.Error i a b) t =
+      let f = error_words_lem x.head (plain_at x) (read_error i a b) (refusal_number r) in
+      same_held (t.words ∙ f (sym t.refines.answer)) t.lent t.rings
   stays call.CycleComplete t = apart t.refines.answer refl refl
-  stays call.Withdraw t = same_held (t.words ∙ withdraw_words_lem x.head x.queue x.history (refusal_number r) (sym t.refines.answer)) t.lent t.rings
-  stays (call.Heard i s) t = same_held t.words (t.lent ∙ (plain_declines (plain_at x) (heard i s x.lent) (refusal_number r) (sym t.refines.answer)).1) t.rings
+  stays call.Withdraw t =
+      let f = withdraw_words_lem x.head x.queue x.history (refusal_number r) in
+      same_held (t.words ∙ f (sym t.refines.answer)) t.lent t.rings
+  stays (call.Heard i s) t =
+      same_held t.words (t.lent ∙ run_stays (plain_at x) (heard i s x.lent) t.refines.answer) t.rings
   stays call.HandOut t = apart t.refines.answer refl refl
   stays (call.Load u h) t = apart t.refines.answer refl refl
-  stays (call.Arm s) t = same_held (t.words ∙ arm_words_lem x.head (plain_at x) s (refusal_number r) (sym t.refines.answer)) t.lent t.rings
+  stays (call.Arm s) t =
+      let f = arm_words_lem x.head (plain_at x) s (refusal_number r) in
+      same_held (t.words ∙ f (sym t.refines.answer)) t.lent t.rings
   stays (call.Tick s) t =
       let d = plain_declines (plain_at x) (tick s x.lent) (refusal_number r) (sym t.refines.answer) in
       same_held t.words (t.lent ∙ d.1) (t.rings ∙ ap (joins_all (rings_of x)) d.2)
   stays (call.Range a b) t = same_held t.words t.lent t.rings
   stays (call.Margin s) t = same_held t.words t.lent t.rings
-  stays (call.Add i o) t = same_held t.words (t.lent ∙ (plain_declines (plain_at x) (add i o x.lent) (refusal_number r) (sym t.refines.answer)).1) t.rings
-  stays (call.Remove i) t = same_held t.words (t.lent ∙ (plain_declines (plain_at x) (remove i x.lent) (refusal_number r) (sym t.refines.answer)).1) t.rings
+  stays (call.Add i o) t =
+      same_held t.words (t.lent ∙ run_stays (plain_at x) (add i o x.lent) t.refines.answer) t.rings
+  stays (call.Remove i) t =
+      same_held t.words (t.lent ∙ run_stays (plain_at x) (remove i x.lent) t.refines.answer) t.rings
 
   -- OF ANY CALL ON ANY HEAD
-  pub refused_changes_nothing : (c : made.Call) → Made x c (Err r) x' → Declined x c (refusal_number r) x'
+  pub refused_changes_nothing :
+      (c : made.Call) → Made x c (Err r) x' → Declined x c (refusal_number r) x'
   refused_changes_nothing c t =
       let f = sym t.refines.answer in
-      record { number = (plain_declines (plain_at x) (call_of c x.lent) (refusal_number r) f).0; first = f; same = stays c t }
+      record {
+        number = (plain_declines (plain_at x) (call_of c x.lent) (refusal_number r) f).0;
+        first = f;
+        same = stays c t;
+      }
 
--- AND OF A START: one of its numbers, the plain start's, so the first that applies; and nothing has changed
+-- AND OF A START: one of its numbers, the plain start's, so the first that applies; and nothing has
+-- changed
 abbrev Numbered : Begun → Type 0
 Numbered (begins p) = Unit
 Numbered (declined n) = Among start_refusals n

@@ -1,4 +1,5 @@
--- `calling::play::start_and_play` meets its contract: the start that was taken and the list from there, or a start that was refused.
+-- `calling::play::start_and_play` meets its contract: the start that was taken and the list from
+-- there, or a start that was refused.
 -- Assumes nothing.
 use Rattle.std.proofs.Common.{◌≡◌, refl, rules}
 use Rattle.std.specs.declared.result.Result.TheVariants.{Err}
