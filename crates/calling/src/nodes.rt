@@ -92,6 +92,7 @@ impl Nodes for NodeWords {
 
     ghost name = { λ a. 0 };
 
+    #[tactic(auto, using(crate::proofs::Places::past_none))]
     fn set(&mut self, place: usize, node: WatchedNode) {
         if place < 32 {
             NodeRecord::from(node).put(self, place);
