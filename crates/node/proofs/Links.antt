@@ -1,5 +1,5 @@
--- What each call in place ensures, as its contract in src/ is read, is `Refines` on the heads that the words stand for; and none asks anything
--- of its caller.
+-- What each call in place ensures, as its contract in src/ is read, is `Refines` on the heads that
+-- the words stand for; and none asks anything of its caller.
 -- Assumes nothing.
 use Prim.Native.Nat.{ℕ}
 use mathlib.Core.List.{List}
