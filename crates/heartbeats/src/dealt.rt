@@ -33,8 +33,8 @@ pub fn signal(head: &mut Head)
     }
 }
 
-// An NMT event in a tick; the check goes off. Not public, since it forgets nothing where the event is
-// a reset: a tick has Error (`finish`) and Timeout.
+// An NMT event in a tick; the check goes off. Not public, since it forgets nothing where the event
+// is a reset: a tick has Error (`finish`) and Timeout.
 fn event_in_tick(head: &mut Head, event: NmtEvent)
     ensures { Turns head.old (λ p. event_in_tick p event) head.new (event_words head.old event) }
 {

@@ -45,7 +45,8 @@ pub fn look_all(nodes: &mut NodeWords, count: usize, time: u64) -> Option<u64>
     requires { well_formed (watched_of (nodes_of nodes.old) count) ≡ true }
     ensures { (nodes.new ≡ looked_words time count nodes.old)
         × (nodes_of nodes.new ≡ looked_first time count (nodes_of nodes.old))
-        × (result ≡ moment_of (soonest never (map (looked time) (watched_of (nodes_of nodes.old) count)))) }
+        × (result ≡ moment_of
+        (soonest never (map (looked time) (watched_of (nodes_of nodes.old) count)))) }
 {
     let mut early = NEVER;
     for i in 0..count {
@@ -72,12 +73,13 @@ fn beat(head: &mut Head, node: u64) -> Dealt
     finish(head, answer.logged, acts(answer.action))
 }
 
-/// Counts the errors of the nodes that are late at a time in µs, ascending: the first whose handling
-/// brings an action ends the walk, and the tick with it. The nodes are those before the look.
+/// Counts the errors of the nodes that are late at a time in µs, ascending: the first whose
+/// handling brings an action ends the walk, and the tick with it. The nodes are those before the
+/// look.
 pub fn beat_all(head: &mut Head, formed: Formed, time: u64) -> Dealt
-    ensures { let nodes = watched_of (nodes_of formed.entry.nodes.now) formed.entry.count in
+    ensures { (q m : List ℕ) →
+        let nodes = watched_of (nodes_of formed.entry.nodes.now) formed.entry.count in
         let late = late_ones time nodes in
-        (q m : List ℕ) →
         TicksIn head.old q m (beat_all (plain (head_of head.old) q m) late)
         result head.new q m (beat_all_words head.old late) }
 {

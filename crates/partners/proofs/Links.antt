@@ -1,5 +1,5 @@
--- What add and remove ensure, as their contracts in src/ are read, is `Refines` on the heads that the words stand for; and none asks anything of its
--- caller.
+-- What add and remove ensure, as their contracts in src/ are read, is `Refines` on the heads that
+-- the words stand for; and none asks anything of its caller.
 -- Assumes nothing.
 use Prim.Native.Nat.{ℕ}
 use mathlib.Core.List.{List}

@@ -1,6 +1,6 @@
 //! Heartbeat partners arrive and leave: a node is added to the watched nodes of a head, or removed
-//! from them (RULES 8.4). Of nodes in words 32 places are lent, three words each, with the number of
-//! the first ones that are watched.
+//! from them (RULES 8.4). Of nodes in words 32 places are lent, three words each, with the number
+//! of the first ones that are watched.
 #![tactic(auto)]
 
 ghost use Rattle.std.specs.Prelude.{◌≡◌, ◌++◌, ◌-◌, ◌≤◌, ◌<◌, Bool, true, take, drop, replicate};
@@ -41,7 +41,8 @@ fn clear(nodes: &mut NodeWords, from: usize)
 fn insert(nodes: &mut NodeWords, count: usize, node: NodeRecord)
     requires { count < 32 }
     ensures { nodes_of nodes.new ≡
-        inserted (node_of node) (take count (nodes_of nodes.old)) ++ replicate (31 - count) no_node }
+        inserted (node_of node) (take count (nodes_of nodes.old)) ++
+        replicate (31 - count) no_node }
 {
     let place = place_for(nodes, count, node.node);
     nodes.copy_within(3 * place..3 * count, 3 * place + 3);
@@ -54,7 +55,8 @@ fn insert(nodes: &mut NodeWords, count: usize, node: NodeRecord)
 fn close(nodes: &mut NodeWords, count: usize, place: usize)
     requires { (place < count) × (count ≤ 32) }
     ensures { nodes_of nodes.new ≡
-        take place (nodes_of nodes.old) ++ closed (count - place) (drop place (nodes_of nodes.old)) }
+        take place (nodes_of nodes.old) ++
+        closed (count - place) (drop place (nodes_of nodes.old)) }
 {
     nodes.copy_within(3 * place + 3..3 * count, 3 * place);
     clear(nodes, count - 1);

@@ -1,4 +1,5 @@
--- What start ensures, as its contract in src/ is read, is `Begins` on the head that the words stand for; and it asks nothing of its caller.
+-- What start ensures, as its contract in src/ is read, is `Begins` on the head that the words stand
+-- for; and it asks nothing of its caller.
 -- Assumes nothing.
 use mathlib.Core.Path.{◌≡◌}
 use Rattle.std.specs.declared.result.Result.{Result}

@@ -82,9 +82,9 @@ pub fn begin(head: &mut Head, setup: Setup, formed: bool) -> Result<(), Refusal>
     Ok(())
 }
 
-/// Makes a fresh head of any words: at GsInitialising, ready, not enabled, with an empty queue and an
-/// empty history (RULES 1.9). The first `count` watched nodes count as never heard. Refused, in this
-/// order: NodeNumber, QueueCapacity, WatchedNodes, ThresholdLimit; then nothing changes.
+/// Makes a fresh head of any words: at GsInitialising, ready, not enabled, with an empty queue and
+/// an empty history (RULES 1.9). The first `count` watched nodes count as never heard. Refused, in
+/// this order: NodeNumber, QueueCapacity, WatchedNodes, ThresholdLimit; then nothing changes.
 pub fn start(
     head: &mut Head,
     nodes: &mut NodeWords,
