@@ -1,4 +1,5 @@
--- What the tick ensures, as its contract in src/ is read, is `Refines` on the heads that the words stand for; and it asks nothing of its caller.
+-- What the tick ensures, as its contract in src/ is read, is `Refines` on the heads that the words
+-- stand for; and it asks nothing of its caller.
 -- Assumes nothing.
 use Rattle.head.specs.Words.{head_of}
 use Rattle.watched.specs.Watched.{run}
