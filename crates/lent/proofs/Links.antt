@@ -1,5 +1,5 @@
--- What each call over a run of records ensures, as its contract in src/ has it, held to that by `refl`: a list of calls (crate `trace`) takes a call by this. None
--- asks anything of its caller.
+-- What each call over a run of records ensures, as its contract in src/ has it, held to that by
+-- `refl`: a list of calls (crate `trace`) takes a call by this. None asks anything of its caller.
 -- Assumes nothing.
 use mathlib.Core.Path.{◌≡◌, refl}
 use seplogic.Ra.Ura.{Ura}
