@@ -1,4 +1,5 @@
--- The contracts fix the whole answer: of a call on a head, no two answers meet its contract. That every word is fixed, they say themselves.
+-- The contracts fix the whole answer: of a call on a head, no two answers meet its contract. That
+-- every word is fixed, they say themselves.
 -- Assumes nothing.
 use Prim.Native.Nat.{ℕ}
 use mathlib.Core.Path.{◌≡◌, refl, sym, ap, ◌∙◌}
@@ -28,7 +29,8 @@ pub in_place_fixes :
     {c : Call} {a b : Answer} {ws ws' ws'' known : List ℕ} → InPlace ws c a ws' known → InPlace ws c b ws'' known → (a ≡ b) × (ws' ≡ ws'')
 in_place_fixes x y = ((x.refines [] []).answer ∙ sym (y.refines [] []).answer, x.words ∙ sym y.words)
 
--- the parts of an answer, where it has them: whether it is a refusal and which, errors, reset, action and signal
+-- the parts of an answer, where it has them: whether it is a refusal and which, errors, reset,
+-- action and signal
 pub record Parts : Type 0 where
   pub declines : Bool
   pub refusal : ℕ

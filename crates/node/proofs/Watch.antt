@@ -1,5 +1,5 @@
--- How long the watch sleeps, of the plain tick and of arm's watch: no part of a tick but the check of the SoC moves the deadline, and only an end of the
--- tick puts the check off.
+-- How long the watch sleeps, of the plain tick and of arm's watch: no part of a tick but the check
+-- of the SoC moves the deadline, and only an end of the tick puts the check off.
 -- Assumes nothing.
 use Prim.Native.Nat.{ℕ, ◌+◌, ◌-◌, ◌*◌, ◌/◌, ◌≤◌, ◌<◌, min, max}
 use mathlib.Core.Path.{◌≡◌, refl, sym, ap, subst, ◌∙◌}
@@ -58,7 +58,8 @@ watch p =
       tolerance = p.od.tolerance;
     }
 
--- a part of a tick that handles errors: it leaves all of this, or ends the tick with the check off and the deadline as it was
+-- a part of a tick that handles errors: it leaves all of this, or ends the tick with the check off
+-- and the deadline as it was
 record Handles (p : Plain) (k : Ticked) : Type 0 where
   stays : k.ended ≡ false → watch k.head ≡ watch p
   ends : k.ended ≡ true → k.head.soc.soc_timeout_check_active ≡ false

@@ -36,11 +36,12 @@ unfoldable pub step_all : Plain → List Call → Plain
 step_all p [] = p
 step_all p (c ∷ cs) = step_all (step p c).head cs
 
--- and what each answered, with what it left of what it was lent
+-- what each call of a list answered, with what it left of what it was lent
 pub record Said : Type 0 where
   pub answer : Answer
   pub lent : Run
 
+-- what the calls of a list answer, each on the head that the last one left
 unfoldable pub said_all : Plain → List Call → List Said
 said_all p [] = []
 said_all p (c ∷ cs) = record { answer = (step p c).answer; lent = (step p c).lent } ∷ said_all (step p c).head cs

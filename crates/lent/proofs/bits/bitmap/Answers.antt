@@ -1,4 +1,5 @@
--- `lent::bits::bitmap` meets its contract: number 3 first, then the bits of the nodes in turn, then the count of the bits.
+-- `lent::bits::bitmap` meets its contract: WatchedNodes first, then the bits of the nodes in turn,
+-- then the count of the bits.
 -- Assumes nothing.
 use Rattle.std.proofs.Common.{rules, arith, ◌≡◌, Err, Some, None, refl, take, ◌∙◌}
 use Rattle.entries.specs.Ring.{listed}
