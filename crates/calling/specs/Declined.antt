@@ -1,4 +1,4 @@
--- What holds of a call that is refused, and of a start.
+-- What holds of a call that is refused (RULES 2), and the refusals of a start.
 -- Assumes nothing.
 use Rattle.std.specs.Prelude.{ℕ, ◌≡◌, Bool, true, List, [], ◌∷◌, eqb}
 use Rattle.types.specs.Pick.{any_of}

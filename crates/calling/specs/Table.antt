@@ -1,5 +1,5 @@
--- One table of the calls: what each may be refused with, what it is lent, and what it may do.
--- What is said of calls by their kind reads it.
+-- One table of the calls (RULES 3): what each may be refused with, what it is lent, and what it may
+-- do. What is said of calls by their kind reads it.
 -- Assumes nothing.
 use Rattle.std.specs.Prelude.{ℕ, Bool, true, false, List, [], ◌∷◌}
 use Rattle.watched.specs.Watched.{Run}
@@ -33,8 +33,8 @@ pub data Stores : Type 0 where
   -- the entries of its crossings join queue and history
   crossings : Stores
 
--- Of a call: the numbers that it may be refused with, in the order in which they are tried, and what
--- it is lent and may do.
+-- A call's row: the numbers that it may be refused with, in the order in which they are tried, and
+-- what it is lent and may do.
 pub record Row : Type 0 where
   pub refusals : List ℕ
   pub lends : Lends

@@ -1,4 +1,5 @@
--- What the question for the moment of the next tick answers, of any words of a head and any run: number 3, or the moment.
+-- When the next tick is due (RULES 7.13), of any words of a head and any run: the refusal
+-- WatchedNodes, or the moment in µs, or none.
 -- Assumes nothing.
 use Rattle.std.specs.Prelude.{ℕ, List}
 use Rattle.std.specs.declared.option.Option.{Option}

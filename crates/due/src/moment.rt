@@ -1,4 +1,5 @@
-// What the next tick waits for: the head's deadline, and the watched nodes, of which a walk carries one answer for both forms.
+//! What the next tick waits for: the head's deadline, and the watched nodes, of which a walk finds
+//! the same in both forms.
 ghost use Rattle.std.specs.Prelude.{◌≡◌};
 ghost use Rattle.types.specs.Pick.{pick};
 ghost use Rattle.head.specs.Words.{soc_of};
@@ -16,24 +17,27 @@ use types::refusals::Refusal;
 use watched::nodes::{NEVER, moment};
 use watched::record::NodeRecord;
 
-// What a walk has found of the nodes behind it, all within their limits and ascending: the last one's number, whether all were heard, and the soonest moment at
-// which one would be late.
+/// What a walk has found of the nodes behind it, all within their limits and ascending.
 #[derive(Clone, Copy)]
 pub(crate) struct Walk {
+    /// The number of the last one; 0 before the first.
     last: u64,
+    /// Whether each of them was heard.
     heard: bool,
+    /// The soonest moment in µs at which one would be late; NEVER where none would be.
     soonest: u64,
 }
 
 impl Walk {
-    // Before the first node.
+    /// Before the first node.
     pub(crate) const START: Self = Self {
         last: 0,
         heard: true,
         soonest: NEVER,
     };
 
-    // With one more node; none where it is not above the last one and within its limits.
+    /// With one more node; none where its number is not above the last one's, or it is outside its
+    /// limits.
     pub(crate) fn over(self, node: NodeRecord) -> Option<Self>
         ensures { result ≡ over self (node_of node) }
     {
@@ -47,7 +51,7 @@ impl Walk {
         })
     }
 
-    // At once where one was not heard yet.
+    // When the nodes need a tick, in µs: at once (0) where one was not heard yet.
     fn due(self) -> Option<u64>
         ensures { result ≡ walk_due self }
     {
@@ -58,6 +62,7 @@ impl Walk {
     }
 }
 
+// The sooner of two moments, of which each may be none.
 fn sooner(a: Option<u64>, b: Option<u64>) -> Option<u64>
     ensures { result ≡ smaller a b }
 {
@@ -67,7 +72,8 @@ fn sooner(a: Option<u64>, b: Option<u64>) -> Option<u64>
     }
 }
 
-// The deadline; where none stands at NotActive, a tick sets one at once.
+// When the head itself needs a tick, in µs: at its deadline. Where none stands at NotActive, a tick
+// sets one, so at once (0), unless the basic timeout is 0.
 fn deadline_due(head: &Head) -> Option<u64>
     ensures { result ≡ deadline_due (unlent head.now) (soc_of head.now).next_tick_us }
 {
@@ -75,7 +81,8 @@ fn deadline_due(head: &Head) -> Option<u64>
     deadline_at(head).moment().or(sets_one.then_some(0))
 }
 
-// By what a walk over the watched nodes found; none is number 3.
+/// When the next tick is due, in µs, by what a walk over the watched nodes found. Refused by
+/// WatchedNodes where it found them not well formed.
 pub(crate) fn due_by(head: &Head, walk: Option<Walk>) -> Result<Option<u64>, Refusal>
     ensures { result ≡ due_found head.now walk }
 {

@@ -1,4 +1,4 @@
-// The moment of the next tick where the watched nodes are a lent run of records.
+//! When the next tick is due, where the watched nodes are a lent run of records.
 ghost use Rattle.std.specs.Prelude.{◌≡◌};
 ghost use Rattle.watched.specs.Watched.{run};
 ghost use Rattle.due.specs.Walk.{walked_run};
@@ -10,7 +10,7 @@ use types::refusals::Refusal;
 use watched::nodes::WatchedNode;
 use watched::record::NodeRecord;
 
-// The watched places, in order; none is number 3.
+// Walks over the watched places, in order; none where the run is not well formed.
 fn walk(nodes: &[WatchedNode], number: usize) -> Option<Walk>
     ensures { result ≡ walked_run (run nodes.now number) }
 {
@@ -24,7 +24,9 @@ fn walk(nodes: &[WatchedNode], number: usize) -> Option<Walk>
     Some(walk)
 }
 
-/// The moment of the next tick, as `words::next_due` has it, of a run of records. Refused: 3, the run (not 32 places, a number above 32, or a fault among the first so many).
+/// When the next tick is due, as `words::next_due` tells it, where the watched nodes are the first
+/// `number` of these records. Refused by WatchedNodes where there are not 32 places, the number is
+/// above 32, or the nodes are not ascending or one is outside its limits (RULES 8.2).
 pub fn next_due(head: &Head, nodes: &[WatchedNode], number: usize) -> Result<Option<u64>, Refusal>
     ensures { result ≡ next_due head.now (run nodes.now number) }
 {

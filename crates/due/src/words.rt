@@ -1,4 +1,4 @@
-// The moment of the next tick where the watched nodes lie in lent words.
+//! When the next tick is due, where the watched nodes lie in lent words.
 ghost use Rattle.std.specs.Prelude.{◌≡◌};
 ghost use Rattle.watched.specs.Watched.{run};
 ghost use Rattle.watched.specs.Nodes.{nodes_of};
@@ -11,7 +11,7 @@ use types::refusals::Refusal;
 use watched::nodes::NodeWords;
 use watched::record::NodeRecord;
 
-// The watched places, in order; none is number 3.
+// Walks over the watched places, in order; none where the run is not well formed.
 fn walk(nodes: &NodeWords, count: usize) -> Option<Walk>
     ensures { result ≡ walked_run (run (nodes_of nodes.now) count) }
 {
@@ -25,9 +25,13 @@ fn walk(nodes: &NodeWords, count: usize) -> Option<Walk>
     Some(walk)
 }
 
-/// The moment of the next tick, in microseconds, or none: a tick that is taken before it, or at any time where it is none, logs nothing and changes nothing but
-/// the earliest moment that the head shows. 0 is at once. Refused: 3, the watched nodes (more than 32, not ascending, or one outside its limits).
-/// Our own, by the rules of the tick.
+/// When the next tick is due (RULES 7.13): a moment in µs, 0 meaning at once, or none. A tick that
+/// is taken before it, or at any time where it is none, logs nothing and leaves every field and the
+/// watched nodes as they are, but for the earliest moment, which is then theirs. The first `count`
+/// nodes are watched.
+///
+/// Refused by WatchedNodes where more than 32 are watched, or they are not ascending or one is
+/// outside its limits (RULES 8.2). Not in DS 301.
 pub fn next_due(head: &Head, nodes: &NodeWords, count: usize) -> Result<Option<u64>, Refusal>
     ensures { result ≡ next_due head.now (run (nodes_of nodes.now) count) }
 {

@@ -1,4 +1,5 @@
--- What a reader expects besides: the claim after each of the calls, the earliest moment after those that work it out, and the last SoC time of a head.
+-- What a reader expects besides: the claim after each of the calls, the earliest moment after those
+-- that work it out, and the last SoC time of a head (RULES 10.8).
 -- Assumes nothing.
 use Prim.Native.Nat.{ℕ, ◌≤◌}
 use mathlib.Core.Path.{◌≡◌, refl, sym, ap, ap₂, subst, ◌∙◌}
@@ -99,7 +100,8 @@ claim_holds_after_each {s} {l = l} cs ds b d e =
           k.first (claim_holds b k.before);
     }
 
--- THE EARLIEST MOMENT, "after each accepted start, tick, heard, add or removal, equals the value worked out afresh from the run": start's is none
+-- THE EARLIEST MOMENT (RULES 10.6), behind a start that was taken: worked out from the run that it
+-- left, it is none
 pub start_afresh :
     {s : Setup} {l r : Run} {ws₀ ws : List ℕ} → StartedOn ws₀ l s (Ok tt) ws r → ((head_of ws).earliest ≡ earliest (watching r)) × ((head_of ws).earliest ≡ None)
 unfolding last_left

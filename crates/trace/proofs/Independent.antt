@@ -1,4 +1,5 @@
--- INDEPENDENCE (document 02, No. 1): of two ticks of the real functions that are taken, on the same head at the same time, from their contracts in src/ alone.
+-- NO NODE DEPENDS ON ANOTHER (RULES 8.6): of two ticks of the real functions that are taken, on the
+-- same head at the same time, from their contracts in src/ alone.
 -- Assumes nothing.
 use Prim.Native.Nat.{ℕ, zero, suc, ◌≤◌, ◌<◌}
 use mathlib.Core.Path.{◌≡◌, refl, sym, ap, subst, ◌∙◌}

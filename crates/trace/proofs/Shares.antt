@@ -313,7 +313,7 @@ shares p (add n o r) = run_shares p (add n o r) (run_call p (add_tests n o r) r 
 shares p (remove n r) = run_shares p (remove n r) (run_call p (remove_tests n r) r (removed n r)) (λ t w. refl)
 shares p (next_due r) = asked_shares p (next_due r) r (due_tests r) (due_answer (due p (watching r))) refl (λ t w. refl)
 
--- "none" is handed out exactly of an empty queue
+-- a hand-out answers none exactly where the queue was empty
 none_out :
     (q : List ErrorEntry) →
     (hand_out_answer (nth q 0) ≡ hand_out_answer None → q ≡ []) × (q ≡ [] → hand_out_answer (nth q 0) ≡ hand_out_answer None)

@@ -1,4 +1,5 @@
--- HOW LONG THE WATCH SLEEPS (document 02, No. 14): of any tick and any arm of the real functions, on whatever words, from their contracts in src/ alone.
+-- HOW LONG THE WATCH SLEEPS (RULES 7.12): of any tick and any arm of the real functions, on
+-- whatever words, from their contracts in src/ alone.
 -- Assumes nothing.
 use Prim.Native.Nat.{ℕ, ◌+◌, ◌/◌, ◌≤◌, ◌<◌, max}
 use mathlib.Core.Path.{◌≡◌, refl, sym, ap, subst, ◌∙◌}
