@@ -103,7 +103,7 @@ def tried(edit, copy):
     lines = ran.stdout.rstrip().split("\n")
     if ran.returncode == 0:
         return True, "proved"
-    told = [line for line in lines if re.search(r"error", line)] or lines
+    told = [line for line in lines if re.search(r": error|error\[|it is not proved", line)] or lines[-4:]
     return False, "REFUSED: " + "\n    ".join(told[:4])
 
 
