@@ -1,6 +1,6 @@
 -- One action more, at the end of those that were taken; and its answer, written behind theirs.
 -- Assumes nothing.
-use Rattle.std.proofs.Common.{◌≡◌, refl, sym, ap, ◌∙◌, ℕ, zero, suc, ◌+◌, ◌<◌, List, [], ◌∷◌, ◌++◌, length, get_or, take, set, arith}
+use Rattle.std.proofs.Common.{◌≡◌, refl, sym, ap, ◌∙◌, ℕ, suc, ◌+◌, ◌<◌, List, [], ◌∷◌, ◌++◌, length, get_or, take, set, arith}
 use Rattle.std.proofs.lemmas.List.{take_more, length-take-le}
 use Rattle.calling.specs.declared.play.Action.{Action}
 use Rattle.calling.specs.Held.{Held}

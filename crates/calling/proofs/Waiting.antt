@@ -63,12 +63,12 @@ moment_told d (Err r) h = apart (sym h) refl refl
 -- WHO TICKS AT THE MOMENT THAT WAS TOLD, AND NOT BEFORE, MISSES NOTHING: a tick that is taken before it
 -- finds nothing to do, and the moment stays; one from it on, at a time above 0, finds something
 module _
-  {x x₁ x' : Held}
-  {d : Option ℕ}
-  {t : ℕ}
-  {es : DllErrors}
-  (a : Made x NextDue (Ok (answer.Due d)) x₁)
-  (f : Made x₁ (Tick t) (Ok (answer.Tick es)) x') where
+    {x x₁ x' : Held}
+    {d : Option ℕ}
+    {t : ℕ}
+    {es : DllErrors}
+    (a : Made x NextDue (Ok (answer.Due d)) x₁)
+    (f : Made x₁ (Tick t) (Ok (answer.Tick es)) x') where
   pub misses_nothing :
       Waits d x₁.head x₁.queue x₁.history x₁.lent t es x'.head x'.queue x'.history x'.lent
   misses_nothing =

@@ -48,7 +48,7 @@ use Rattle.node.proofs.Refining.{tried_by_lem}
 use Rattle.trace.proofs.Shares.{Leaves, stays, goes, run_call}
 use Rattle.trace.proofs.Earliest.{ends_with}
 use Rattle.trace.proofs.Follows.{begins_unheard}
-use Rattle.trace.proofs.Driven.{joined, calls_joined, driven_of, claim_holds}
+use Rattle.trace.proofs.Driven.{joined, calls_joined, claim_holds}
 
 -- AFTER EACH. Of a list whose calls are cs and then ds: the list of cs alone and where it ends, the
 -- list of ds from there, to the same end, and what both said is what was said.

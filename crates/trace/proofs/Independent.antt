@@ -25,7 +25,7 @@ use Rattle.types.specs.declared.frame.error.types.DllErrors.{DllErrors}
 use Rattle.std.specs.declared.result.Result.TheVariants.{Ok}
 use Rattle.calling.specs.declared.Call.TheVariants as call
 use Rattle.calling.specs.declared.Answer.TheVariants as answer
-use Rattle.calling.specs.Held.{Held, plain_at, relent}
+use Rattle.calling.specs.Held.{Held, relent}
 use Rattle.calling.specs.Made.{Made}
 use Rattle.trace.specs.Independent.{record_at, DifferAt, HeardAlike}
 use Rattle.node.proofs.Refining.{tried_by_lem}

@@ -41,7 +41,7 @@ use Rattle.trace.specs.Claim.{Queued, still, kept, dropped, handed, Rule}
 use Rattle.node.proofs.Refining.{tried_by_lem}
 use Rattle.trace.proofs.Modes.{mode, mode_event, mode_withdraw}
 use Rattle.counters.proofs.Counts.{Counting, counting_none, counting_handled, counting_completed}
-use Rattle.trace.proofs.Ticking.{seen, Enters, none, one, PartOf, picked, tells, tick_part}
+use Rattle.trace.proofs.Ticking.{seen, Enters, none, one, PartOf, tells, tick_part}
 
 -- the mode's share, the queue's, the counters', that of crossings, and counter 3's
 abbrev pub ModeShare : Plain → Call → Step → Type 0

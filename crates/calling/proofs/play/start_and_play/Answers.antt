@@ -3,7 +3,6 @@
 use Rattle.std.proofs.Common.{◌≡◌, refl, rules}
 use Rattle.std.specs.declared.result.Result.TheVariants.{Err}
 use Rattle.watched.specs.Watched.{run}
-use Rattle.start.specs.Started.{StartedOn}
 use Rattle.calling.proofs.Starting.{refused_held}
 use Rattle.calling.proofs.play.start_and_play.Goals as goal
 
