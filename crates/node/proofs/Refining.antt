@@ -40,7 +40,7 @@ use Rattle.head.specs.Head.{Head, head_with_errors, head_with_queue}
 use Rattle.head.specs.declared.state.SocWatch.{SocWatch}
 use Rattle.node.specs.Plain.{Call, nmt_event, dll_event, error, cycle_complete, withdraw, hand_out, arm, Answer, refused, taken, nmt_answer, dll_answer, error_answer, cycle_answer, hand_out_answer}
 use Rattle.watched.specs.Watched.{in_time}
-use Rattle.node.specs.Steps.{no_run, armed}
+use Rattle.node.specs.Steps.{Test, tried, no_run, armed}
 use Rattle.node.specs.Refines.{left, Refines}
 use Rattle.node.proofs.Laws.{Alone, forgetting_if, nmt_taken_lem, dll_taken_lem, error_taken_lem, cycle_taken_lem, withdraw_taken, withdraw_refused, arm_taken, hand_out_taken}
 use Rattle.node.specs.declared.calls.NmtTaken.{NmtTaken}
@@ -85,6 +85,14 @@ unwritten ws c a known x f = record { refines = x.0; places = x.1; words = sym f
 pub picked : {A : Type 0} (P : A → Type 0) (b : Bool) (x y : A) → P x → P y → P (pick b x y)
 picked P true x y p q = p
 picked P false x y p q = q
+
+-- what holds of each refusal and of what is taken holds of what comes of the tests
+pub tried_by_lem :
+    {A : Type 0} (P : A → Type 0) (ts : List (Test ℕ)) (refuse : ℕ → A) (accept : A) →
+    ((r : ℕ) → P (refuse r)) → P accept → P (tried ts refuse accept)
+tried_by_lem P [] refuse accept d a = a
+tried_by_lem P (t ∷ ts) refuse accept d a =
+    picked P t.holds (tried ts refuse accept) (refuse t.otherwise) (tried_by_lem P ts refuse accept d a) (d t.otherwise)
 
 -- an NMT event keeps node, flags and timeout
 abbrev pub Keeps : CnNmtStateMachine → CnNmtStateMachine → Type 0
@@ -252,6 +260,7 @@ module _ (ws : List ℕ) where
         ws' ≡ queue_written ws r.queue →
         ((m : List ℕ) → Refines (head_of ws) q m hand_out (left (head_of ws') (hand_out_answer r.entry)) q m no_run)
         × (ws' ≡ hand_out_words ws q)
+        × (head_of ws' ≡ head_with_queue (head_of ws) (handed_out q (head_of ws).queue).queue)
     unfolding head_of handed_out
     hand_out_yes q r o w =
         let p : EmergencyQueue = queue_of ws in
@@ -266,4 +275,5 @@ module _ (ws : List ℕ) where
         let x = hand_out_taken (head_of ws) q r o in (
           λ m. subst (λ (g : Head). Refines (head_of ws) q m hand_out (left g (hand_out_answer r.entry)) q m no_run) (sym to) (x.0 m),
           w ∙ ap (λ (r : HandedOut). queue_written ws r.queue) o,
+          to ∙ ap (λ (r : HandedOut). head_with_queue (head_of ws) r.queue) o,
         )

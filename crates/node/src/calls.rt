@@ -7,6 +7,8 @@ ghost use Rattle.counters.specs.Counters.{after_error, counts, effect, replied, 
 ghost use Rattle.node.specs.Steps.{no_run};
 ghost use Rattle.node.specs.Plain.{Call, cycle_answer, hand_out_answer};
 ghost use Rattle.node.specs.Refines.{Refines, left};
+ghost use Rattle.entries.specs.Queue.{handed_out};
+ghost use Rattle.head.specs.Head.{head_with_queue};
 ghost use Rattle.head.specs.Places as at;
 ghost use Rattle.head.specs.Words.{counter_at, errors_of, head_of};
 ghost use Rattle.node.specs.InPlace.{InPlace, Processed, said, nmt_said, dll_said, error_said, effect_words, withdraw_words, nmt_words, dll_words, error_words, cycle_words, arm_words, hand_out_words};
@@ -134,7 +136,8 @@ pub fn arm(head: &mut Head, time: u64) -> Result<(), Refusal>
 // The oldest entry leaves the queue; of an empty one, none does.
 pub fn hand_out(head: &mut Head, memory: &[u8; 640]) -> Option<ErrorEntry>
     ensures { ((m : List ℕ) → Refines (head_of head.old) memory.now m Call.hand_out (left (head_of head.new) (hand_out_answer result)) memory.now m no_run)
-        × (head.new ≡ hand_out_words head.old memory.now) }
+        × (head.new ≡ hand_out_words head.old memory.now)
+        × (head_of head.new ≡ head_with_queue (head_of head.old) (handed_out memory.now (head_of head.old).queue).queue) }
 {
     let mut queue = queue_of(head);
     let entry = queue.hand_out(memory);

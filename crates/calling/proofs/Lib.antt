@@ -1,0 +1,3 @@
+mod Places
+pub mod Playing
+pub mod Starting

@@ -1,0 +1,5 @@
+pub mod Held
+pub mod Values
+pub mod Table
+pub mod Made
+pub mod Played

@@ -1,0 +1,49 @@
+-- Which of the plain head's calls a value of `Call` is, with the run that is lent, and what an
+-- answer says.
+-- Assumes nothing.
+use Rattle.types.specs.declared.refusals.Refusal.{Refusal}
+use Rattle.std.specs.declared.result.Result.{Result}
+use Rattle.watched.specs.Watched.{Run}
+use Rattle.node.specs.Plain as plain
+use Rattle.node.specs.Refines.{history_update}
+use Rattle.node.specs.InPlace.{answered, nmt_says, dll_says, error_says}
+use Rattle.node.specs.Loaded.{bytes_named}
+use Rattle.tick.specs.TickIn.{tick_says}
+use Rattle.calling.specs.declared.Call.{Call}
+use Rattle.calling.specs.declared.Call.TheVariants.{NmtEvent, DllEvent, Error, CycleComplete, Withdraw, Heard, HandOut, Load, Arm, Tick, Range, Margin, Add, Remove}
+use Rattle.calling.specs.declared.Answer.{Answer}
+use Rattle.calling.specs.declared.Answer.TheVariants as answer
+
+abbrev pub call_of : Call → Run → plain.Call
+call_of (NmtEvent n) r = plain.nmt_event n
+call_of (DllEvent n b) r = plain.dll_event n b
+call_of (Error n a b) r = plain.error n a b
+call_of CycleComplete r = plain.cycle_complete
+call_of Withdraw r = plain.withdraw
+call_of (Heard n t) r = plain.heard n t r
+call_of HandOut r = plain.hand_out
+call_of (Load u h) r = plain.load u (history_update (bytes_named h))
+call_of (Arm t) r = plain.arm t
+call_of (Tick t) r = plain.tick t r
+call_of (Range a b) r = plain.range a b
+call_of (Margin t) r = plain.margin t
+call_of (Add n o) r = plain.add n o r
+call_of (Remove n) r = plain.remove n r
+
+abbrev pub says : Answer → plain.Answer
+says answer.Taken = plain.taken
+says (answer.Nmt t) = nmt_says t
+says (answer.Dll es) = dll_says es
+says (answer.Error t) = error_says t
+says (answer.Cycle b) = plain.cycle_answer b
+says (answer.HandedOut e) = plain.hand_out_answer e
+says (answer.Tick es) = tick_says es
+says (answer.Range v) = plain.range_answer v
+says (answer.Margin z) = plain.margin_answer z
+
+-- what comes back from a call
+abbrev pub Reply : Type 0
+Reply = Result Answer Refusal
+
+abbrev pub said : Reply → plain.Answer
+said = answered says

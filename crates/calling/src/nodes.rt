@@ -1,0 +1,191 @@
+// The watched nodes, in either form in which they are lent: words, or a run of records. Each call
+// that is lent them is a method, which makes the call of that form.
+ghost use Rattle.std.specs.Prelude.{◌≡◌, ℕ, List, set};
+ghost use Rattle.watched.specs.declared.nodes.WatchedNode.{WatchedNode as Watched};
+ghost use Rattle.watched.specs.Watched.{run};
+ghost use Rattle.watched.specs.Nodes.{nodes_of};
+ghost use Rattle.node.specs.Heard.{HeardOn};
+ghost use Rattle.tick.specs.TickIn.{TickedOn};
+ghost use Rattle.partners.specs.Partners.{AddedOn, RemovedOn};
+ghost use Rattle.start.specs.Started.{StartedOn};
+
+use head::state::Head;
+use lent::{arrivals, calls, ticks};
+use node::heard::heard;
+use partners::{add, remove};
+use start::start::{Setup, start};
+use tick::tick::process_tick;
+use types::frame::error::types::DllErrors;
+use types::refusals::Refusal;
+use watched::nodes::{NodeWords, WatchedNode};
+use watched::record::NodeRecord;
+
+/// Watched nodes that can be lent with a call. Their places are read from the first on; how many
+/// of them are watched is lent beside them.
+pub trait Nodes {
+    // The places that they stand for.
+    ghost places: { Self → List Watched };
+
+    // Of nodes behind a reference, which one: it stays the same, so what is said of the places is
+    // said of what the caller lent.
+    ghost name: { Self → ℕ };
+
+    /// The caller's own change: the watched node at a place, from 0, is another. Past the places
+    /// none is.
+    fn set(&mut self, place: usize, node: WatchedNode)
+        ensures on { places self.new ≡ set (places self.old) place node }
+        ensures same_reference { name self.new ≡ name self.old };
+
+    /// A fresh head; no watched node was heard yet. Refused 1: no node number; 2: the queue's
+    /// capacity; 3: the nodes; 14: a threshold.
+    fn start(&mut self, head: &mut Head, number: usize, setup: Setup) -> Result<(), Refusal>
+        ensures on { StartedOn head.old (run (places self.old) number) setup result
+            head.new (run (places self.new) number) }
+        ensures same_reference { name self.new ≡ name self.old };
+
+    /// `Call::Heard`.
+    fn heard(&mut self, head: &mut Head, number: usize, node: u8, time: u64) -> Result<(), Refusal>
+        ensures on { HeardOn head.old (run (places self.old) number) node time result
+            head.new (run (places self.new) number) }
+        ensures same_reference { name self.new ≡ name self.old };
+
+    /// `Call::Tick`.
+    fn tick(
+        &mut self,
+        head: &mut Head,
+        queue: &mut [u8; 640],
+        history: &mut [u8; 5080],
+        number: usize,
+        time: u64,
+    ) -> Result<DllErrors, Refusal>
+        ensures on { TickedOn head.old queue.old history.old (run (places self.old) number) time result
+            head.new queue.new history.new (run (places self.new) number) }
+        ensures same_reference { name self.new ≡ name self.old };
+
+    /// `Call::Add`.
+    fn add(
+        &mut self,
+        head: &mut Head,
+        number: &mut usize,
+        node: u8,
+        timeout: u64,
+    ) -> Result<(), Refusal>
+        ensures on { AddedOn head.old (run (places self.old) number.old) node timeout result
+            head.new (run (places self.new) number.new) }
+        ensures same_reference { name self.new ≡ name self.old };
+
+    /// `Call::Remove`.
+    fn remove(&mut self, head: &mut Head, number: &mut usize, node: u8) -> Result<(), Refusal>
+        ensures on { RemovedOn head.old (run (places self.old) number.old) node result
+            head.new (run (places self.new) number.new) }
+        ensures same_reference { name self.new ≡ name self.old };
+}
+
+impl Nodes for NodeWords {
+    ghost places = { nodes_of };
+
+    ghost name = { λ a. 0 };
+
+    fn set(&mut self, place: usize, node: WatchedNode) {
+        if place < 32 {
+            NodeRecord::from(node).put(self, place);
+        }
+    }
+
+    fn start(&mut self, head: &mut Head, number: usize, setup: Setup) -> Result<(), Refusal> {
+        start(head, self, number, setup)
+    }
+
+    fn heard(
+        &mut self,
+        head: &mut Head,
+        number: usize,
+        node: u8,
+        time: u64,
+    ) -> Result<(), Refusal> {
+        heard(head, self, number, node, time)
+    }
+
+    fn tick(
+        &mut self,
+        head: &mut Head,
+        queue: &mut [u8; 640],
+        history: &mut [u8; 5080],
+        number: usize,
+        time: u64,
+    ) -> Result<DllErrors, Refusal> {
+        process_tick(head, queue, history, self, number, time)
+    }
+
+    fn add(
+        &mut self,
+        head: &mut Head,
+        number: &mut usize,
+        node: u8,
+        timeout: u64,
+    ) -> Result<(), Refusal> {
+        add(head, self, number, node, timeout)
+    }
+
+    fn remove(&mut self, head: &mut Head, number: &mut usize, node: u8) -> Result<(), Refusal> {
+        remove(head, self, number, node)
+    }
+}
+
+/// A run of records, of any length; one that has not 32 places is refused with 3 by each call
+/// that is lent it.
+#[derive(Drop)]
+pub struct Records<'a> {
+    pub run: &'a mut [WatchedNode],
+}
+
+impl Nodes for Records<'_> {
+    ghost places = { λ r. r.run.now };
+
+    ghost name = { λ r. r.run.ghost_name };
+
+    fn set(&mut self, place: usize, node: WatchedNode) {
+        if place < self.run.len() {
+            self.run[place] = node;
+        }
+    }
+
+    fn start(&mut self, head: &mut Head, number: usize, setup: Setup) -> Result<(), Refusal> {
+        calls::start(head, self.run, number, setup)
+    }
+
+    fn heard(
+        &mut self,
+        head: &mut Head,
+        number: usize,
+        node: u8,
+        time: u64,
+    ) -> Result<(), Refusal> {
+        calls::heard(head, self.run, number, node, time)
+    }
+
+    fn tick(
+        &mut self,
+        head: &mut Head,
+        queue: &mut [u8; 640],
+        history: &mut [u8; 5080],
+        number: usize,
+        time: u64,
+    ) -> Result<DllErrors, Refusal> {
+        ticks::process_tick(head, queue, history, self.run, number, time)
+    }
+
+    fn add(
+        &mut self,
+        head: &mut Head,
+        number: &mut usize,
+        node: u8,
+        timeout: u64,
+    ) -> Result<(), Refusal> {
+        arrivals::add(head, number, self.run, node, timeout)
+    }
+
+    fn remove(&mut self, head: &mut Head, number: &mut usize, node: u8) -> Result<(), Refusal> {
+        arrivals::remove(head, number, self.run, node)
+    }
+}
