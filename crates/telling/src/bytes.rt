@@ -1,0 +1,43 @@
+// Bytes as they are printed.
+ghost use Rattle.std.specs.Prelude.{Some};
+
+use entries::status_response::ErrorEntry;
+use forms::hex;
+use std::fmt;
+use std::fmt::Display;
+use std::str;
+
+/// A byte as two hexadecimal digits.
+#[derive(Clone, Copy)]
+pub struct HexPair(pub u8);
+
+impl Display for HexPair {
+    fn fmt<W: fmt::Write>(&self, f: &mut fmt::Formatter<W>) -> fmt::Result {
+        let digits: [u8; 2] = hex::digits(u64::from(self.0));
+        f.write_str(str::from_utf8(&digits).map_err(|_| fmt::Error)?)
+    }
+}
+
+/// Bytes behind a space, two hexadecimal digits each.
+#[derive(Clone, Copy)]
+pub struct Bytes<'a>(pub &'a [u8]);
+
+impl Display for Bytes<'_> {
+    fn fmt<W: fmt::Write>(&self, f: &mut fmt::Formatter<W>) -> fmt::Result {
+        write!(f, " ")?;
+        for byte in self.0 {
+            write!(f, "{}", HexPair(*byte))?;
+        }
+        Ok(())
+    }
+}
+
+/// The 20 bytes of an entry behind a space.
+#[derive(Clone, Copy)]
+pub struct EntryBytes(pub ErrorEntry);
+
+impl Display for EntryBytes {
+    fn fmt<W: fmt::Write>(&self, f: &mut fmt::Formatter<W>) -> fmt::Result {
+        write!(f, "{}", Bytes(&self.0.serialize()))
+    }
+}
