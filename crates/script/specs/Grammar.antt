@@ -81,10 +81,10 @@ carried looked_at = if looked_at then bits8 else (bits64 >>= λ _. just 0)
 
 unfoldable pub error : Reads Call
 error = do
-  kind ← bits64
-  a ← carried (carries_byte kind)
-  b ← carried (kind == 18)
-  just (calls.Error kind a b)
+  number ← bits64
+  a ← carried (carries_byte number)
+  b ← carried (number == 18)
+  just (calls.Error number a b)
 
 unfoldable pub watched : Reads WatchedNode
 watched = three bits8 bits64 bits64 watched_node

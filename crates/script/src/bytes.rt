@@ -16,6 +16,7 @@ fn byte_of(high: u8, low: u8) -> Option<u8>
 }
 
 // Reads the bytes whose digits a text is; None where one is no digit, or is left over.
+#[tactic(auto, using(crate::proofs::Reading::bytes_goes, crate::proofs::Reading::bytes_fails, crate::proofs::Reading::pair_more), unfolding(crate::specs::Bytes::bytes_at))]
 fn read_bytes(digits: &[u8], bytes: &mut LineBytes) -> Option<()>
     requires { length bytes.old.items + length digits.now / 2 ≤ 6000 }
     ensures read { filled result bytes.new.items ≡ bytes_at digits.now bytes.old.items }
@@ -43,6 +44,7 @@ fn read_word(word: &[u8], bytes: &mut LineBytes) -> Option<()>
 }
 
 // Reads the entries that a text is; None where one of them is no entry.
+#[tactic(auto, using(crate::proofs::Reading::entries_goes, crate::proofs::Reading::entries_fails, crate::proofs::Reading::word_more), unfolding(crate::specs::Bytes::entries_at))]
 fn read_entries(text: &[u8], bytes: &mut LineBytes) -> Option<()>
     requires { length bytes.old.items + length text.now / 41 * 20 ≤ 6000 }
     ensures { filled result bytes.new.items ≡ entries_at (length text.now / 41) text.now bytes.old.items }
@@ -55,6 +57,7 @@ fn read_entries(text: &[u8], bytes: &mut LineBytes) -> Option<()>
 
 impl Words<'_> {
     /// The history that a load may name, to the end of the line: up to 300 entries, each 40 digits behind a space.
+    #[tactic(auto, unfolding(crate::specs::Bytes::history, crate::specs::Bytes::entries_of, crate::specs::Bytes::entries_at))]
     pub(crate) fn history<'a>(&mut self, bytes: &'a mut LineBytes) -> Option<Option<&'a [u8]>>
         ensures { gives (option_map option_copied result) self.new.rest.now ≡ history self.old.rest.now }
     {
@@ -72,6 +75,7 @@ impl Words<'_> {
     }
 
     /// The bytes of a desk, at most 100; `-` for none.
+    #[tactic(auto, unfolding(crate::specs::Bytes::desk_of))]
     pub(crate) fn desk<'a>(&mut self, bytes: &'a mut LineBytes) -> Option<&'a [u8]>
         ensures { gives (option_copied result) self.new.rest.now ≡ desk_bytes self.old.rest.now }
     {
@@ -88,6 +92,7 @@ impl Words<'_> {
     }
 
     /// The 20 bytes of an entry.
+    #[tactic(auto, unfolding(crate::specs::Bytes::entry_of))]
     pub(crate) fn entry_bytes<'a>(&mut self, bytes: &'a mut LineBytes) -> Option<&'a [u8]>
         ensures { gives (option_copied result) self.new.rest.now ≡ entry_bytes self.old.rest.now }
     {

@@ -34,6 +34,7 @@ impl Words<'_> {
     }
 
     /// An error by its kind, and what it carries.
+    #[tactic(auto, unfolding(crate::specs::Grammar::error))]
     pub(crate) fn error<'a>(&mut self) -> Option<Call<'a>>
         ensures { gives result self.new.rest.now ≡ error self.old.rest.now }
     {
@@ -46,6 +47,7 @@ impl Words<'_> {
     }
 
     /// A watched node as it stands in the run.
+    #[tactic(auto, unfolding(crate::specs::Grammar::watched))]
     pub(crate) fn watched(&mut self) -> Option<WatchedNode>
         ensures { gives result self.new.rest.now ≡ watched self.old.rest.now }
     {
@@ -57,6 +59,7 @@ impl Words<'_> {
     }
 
     // The dictionary values of a start.
+    #[tactic(auto, unfolding(crate::specs::Grammar::dictionary))]
     fn dictionary(&mut self) -> Option<Dictionary>
         ensures { gives result self.new.rest.now ≡ dictionary self.old.rest.now }
     {
@@ -72,6 +75,7 @@ impl Words<'_> {
     }
 
     // The thresholds of a start, all or none: left out they are 15 each.
+    #[tactic(auto, unfolding(crate::specs::Grammar::thresholds))]
     fn thresholds(&mut self) -> Option<Thresholds>
         ensures { gives result self.new.rest.now ≡ thresholds self.old.rest.now }
     {
@@ -90,6 +94,7 @@ impl Words<'_> {
     }
 
     /// What a start is given.
+    #[tactic(auto, unfolding(crate::specs::Grammar::setup))]
     pub(crate) fn setup(&mut self) -> Option<Setup>
         ensures { gives result self.new.rest.now ≡ setup self.old.rest.now }
     {
@@ -132,6 +137,7 @@ impl Words<'_> {
     }
 
     /// The values that a load names, in this order.
+    #[tactic(auto, unfolding(crate::specs::Grammar::update))]
     pub(crate) fn update(&mut self) -> Option<DictionaryUpdate>
         ensures { gives result self.new.rest.now ≡ update self.old.rest.now }
     {
@@ -147,6 +153,7 @@ impl Words<'_> {
     }
 
     /// An entry that is written.
+    #[tactic(auto, unfolding(crate::specs::Grammar::entry))]
     pub(crate) fn entry(&mut self) -> Option<ErrorEntry>
         ensures { gives result self.new.rest.now ≡ entry self.old.rest.now }
     {
@@ -161,6 +168,7 @@ impl Words<'_> {
         })
     }
 
+    #[tactic(auto, unfolding(crate::specs::Grammar::entry_type))]
     fn entry_type(&mut self) -> Option<EntryType>
         ensures { gives result self.new.rest.now ≡ entry_type self.old.rest.now }
     {

@@ -13,6 +13,7 @@ use arrayvec::ArrayVec;
 use calling::Call;
 use entries::status_response::ErrorEntry;
 use start::start::Setup;
+use std::str;
 use watched::nodes::WatchedNode;
 use words::Words;
 
@@ -58,79 +59,85 @@ pub enum Line<'a> {
 const LONGEST: usize = 16384;
 
 // The call of a name, with the words behind it as its arguments.
-fn read_call<'a>(name: &[u8], words: &mut Words<'_>) -> Option<Call<'a>>
+#[tactic(auto, unfolding(crate::specs::Grammar::call_named))]
+fn read_call<'a>(name: &str, words: &mut Words<'_>) -> Option<Call<'a>>
     ensures { gives result words.new.rest.now ≡ call_named name.now words.old.rest.now }
 {
     Some(match name {
-        b"nmt" => Call::NmtEvent(words.bits64()?),
-        b"dll" => Call::DllEvent {
+        "nmt" => Call::NmtEvent(words.bits64()?),
+        "dll" => Call::DllEvent {
             event: words.bits64()?,
             expect_preq: words.flag()?,
         },
-        b"error" => words.error()?,
-        b"cycle" => Call::CycleComplete,
-        b"withdraw" => Call::Withdraw,
-        b"heard" => Call::Heard {
+        "error" => words.error()?,
+        "cycle" => Call::CycleComplete,
+        "withdraw" => Call::Withdraw,
+        "heard" => Call::Heard {
             node: words.bits8()?,
             time: words.bits64()?,
         },
-        b"handout" => Call::HandOut,
-        b"arm" => Call::Arm(words.bits64()?),
-        b"tick" => Call::Tick(words.bits64()?),
-        b"range" => Call::Range {
+        "handout" => Call::HandOut,
+        "arm" => Call::Arm(words.bits64()?),
+        "tick" => Call::Tick(words.bits64()?),
+        "range" => Call::Range {
             earliest: words.bits64()?,
             latest: words.bits64()?,
         },
-        b"margin" => Call::Margin(words.bits64()?),
-        b"add" => Call::Add {
+        "margin" => Call::Margin(words.bits64()?),
+        "add" => Call::Add {
             node: words.bits8()?,
             timeout: words.bits64()?,
         },
-        b"remove" => Call::Remove(words.bits8()?),
+        "remove" => Call::Remove(words.bits8()?),
         _ => return None,
     })
 }
 
 // What a line says that begins with a name, with the words behind it.
+#[tactic(auto, unfolding(crate::specs::Grammar::line_named))]
 fn read_named<'a>(
-    name: &[u8],
+    name: &str,
     words: &mut Words<'_>,
     bytes: &'a mut LineBytes,
 ) -> Option<Line<'a>>
     ensures { gives (option_map says result) words.new.rest.now ≡ line_named name.now words.old.rest.now }
 {
-    Some(match name {
-        b"start" => Line::Start(words.setup()?),
-        b"load" => Line::Call(Call::Load {
+    match name {
+        "start" => Some(Line::Start(words.setup()?)),
+        "load" => Some(Line::Call(Call::Load {
             values: words.update()?,
             history: words.history(bytes)?,
-        }),
-        b"watch" => Line::Watch(words.watched()?),
-        b"unwatch" => Line::Unwatch,
-        b"lend" => Line::Lend {
+        })),
+        "watch" => Some(Line::Watch(words.watched()?)),
+        "unwatch" => Some(Line::Unwatch),
+        "lend" => Some(Line::Lend {
             places: words.up_to(40)? as usize,
             number: words.bits64()? as usize,
-        },
-        b"bitmap" => Line::Bitmap,
-        b"desk" => Line::Desk(words.desk(bytes)?),
-        b"entrywrite" => Line::EntryWrite {
+        }),
+        "bitmap" => Some(Line::Bitmap),
+        "desk" => Some(Line::Desk(words.desk(bytes)?)),
+        "entrywrite" => Some(Line::EntryWrite {
             place: words.bits64()?,
             entry: words.entry()?,
-        },
-        b"entryread" => Line::EntryRead(words.entry_bytes(bytes)?),
-        b"state" => Line::State(words.bits64()?),
-        b"command" => Line::Command(words.bits64()?),
-        b"kind" => Line::Kind(words.bits64()?),
-        b"show" => Line::Show,
-        _ => Line::Call(read_call(name, words)?),
-    })
+        }),
+        "entryread" => Some(Line::EntryRead(words.entry_bytes(bytes)?)),
+        "state" => Some(Line::State(words.bits64()?)),
+        "command" => Some(Line::Command(words.bits64()?)),
+        "kind" => Some(Line::Kind(words.bits64()?)),
+        "show" => Some(Line::Show),
+        _ => Some(Line::Call(read_call(name, words)?)),
+    }
 }
 
 // What the words of a line say, where they are all there and no more.
+#[tactic(auto, using(crate::proofs::Names::no_text), unfolding(crate::specs::Grammar::words_say))]
 fn read_words<'a>(line: &[u8], bytes: &'a mut LineBytes) -> Option<Line<'a>>
     ensures { option_map says result ≡ words_say line.now }
 {
     let (name, mut words) = Words::of(line);
+    let Ok(name) = str::from_utf8(name) else {
+        return None;
+    };
     let read = read_named(name, &mut words, bytes)?;
     words.end()?;
     Some(read)

@@ -1,5 +1,5 @@
 // The words of a line, each behind one space, and the numbers that they are.
-ghost use Rattle.std.specs.Prelude.{◌≡◌, ◌≤◌, length, option_copied};
+ghost use Rattle.std.specs.Prelude.{◌≡◌, ◌≤◌, length, option_copied, IfSome};
 ghost use Rattle.script.specs.Words.{gives, word_length, first_word, behind_word, word, next_is, behind_next, ends, digit_behind, value_of, number_of, up_to, bits8, bits16, bits32, bits64, flag, object};
 
 /// The words of a line that are not read yet: nothing, or each behind its space. What is read leaves the rest.
@@ -9,6 +9,7 @@ pub(crate) struct Words<'a> {
 }
 
 // How many characters stand before the first space.
+#[tactic(auto, unfolding(crate::specs::Words::word_length))]
 fn word_length(line: &[u8]) -> usize
     ensures { (result ≡ word_length line.now) × (result ≤ length line.now) }
 {
@@ -32,6 +33,7 @@ fn digit_behind(number: u64, digit: u8, base: u32) -> Option<u64>
 }
 
 // The number that the digits are; there has to be one.
+#[tactic(auto, unfolding(crate::specs::Words::value_from))]
 fn value(digits: &[u8], base: u32) -> Option<u64>
     requires { (2 ≤ base) × (base ≤ 16) }
     ensures { result ≡ value_of base digits.now }
@@ -47,6 +49,7 @@ fn value(digits: &[u8], base: u32) -> Option<u64>
 }
 
 // The number that a word is: hexadecimal behind `0x`, or decimal.
+#[tactic(auto, unfolding(crate::specs::Words::number_of))]
 fn number_of(word: &[u8]) -> Option<u64>
     ensures { result ≡ number_of word.now }
 {
@@ -99,8 +102,10 @@ impl<'a> Words<'a> {
     }
 
     /// A number of at most so much.
+    #[tactic(auto, unfolding(crate::specs::Words::up_to))]
     pub(crate) fn up_to(&mut self, most: u64) -> Option<u64>
-        ensures { gives result self.new.rest.now ≡ up_to most self.old.rest.now }
+        ensures read { gives result self.new.rest.now ≡ up_to most self.old.rest.now }
+        ensures within { IfSome result (λ n. n ≤ most) }
     {
         let number = number_of(self.word()?)?;
         (number <= most).then_some(number)
@@ -138,6 +143,7 @@ impl<'a> Words<'a> {
     }
 
     /// A value of 32 bits, or `-`, a missing one.
+    #[tactic(auto, unfolding(crate::specs::Words::object))]
     pub(crate) fn object(&mut self) -> Option<Option<u32>>
         ensures { gives result self.new.rest.now ≡ object self.old.rest.now }
     {

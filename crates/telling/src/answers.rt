@@ -1,7 +1,7 @@
 // What a line is answered, as it is printed.
 ghost use Rattle.std.specs.Prelude.{Some};
 
-use crate::bytes::{Bytes, EntryBytes, HexPair};
+use crate::texts::{Bytes, EntryBytes, Flag};
 use calling::Answer;
 use counters::counters::ErrorTaken;
 use entries::status_response::{EntryType, ErrorEntry};
@@ -12,6 +12,7 @@ use node::calls::NmtTaken;
 use node::range::SocVerdict;
 use std::fmt;
 use std::fmt::Display;
+use std::str;
 use types::frame::error::kinds::DllErrorKind;
 use types::nmt::events::NmtStateCommand;
 use types::nmt::states::NmtState;
@@ -69,7 +70,7 @@ impl Display for AnswerForm {
             Answer::Nmt(taken) => write!(f, "{}", NmtForm(taken)),
             Answer::Dll(errors) => write!(f, " (errors{})", ErrorsForm(errors)),
             Answer::Error(taken) => write!(f, "{}", ErrorTakenForm(taken)),
-            Answer::Cycle(cleared) => write!(f, " (cleared {})", u8::from(cleared)),
+            Answer::Cycle(cleared) => write!(f, " (cleared {})", Flag(cleared)),
             Answer::HandedOut(Some(entry)) => write!(f, " (entry{})", EntryBytes(entry)),
             Answer::HandedOut(None) => write!(f, " none"),
             Answer::Tick(errors) => write!(f, " (logged{})", ErrorsForm(errors)),
@@ -131,8 +132,8 @@ struct Hex16(u16);
 
 impl Display for Hex16 {
     fn fmt<W: fmt::Write>(&self, f: &mut fmt::Formatter<W>) -> fmt::Result {
-        let [high, low] = self.0.to_be_bytes();
-        write!(f, "0x{}{}", HexPair(high), HexPair(low))
+        let digits = forms::hex4(u64::from(self.0));
+        f.write_str(str::from_utf8(&digits).map_err(|_| fmt::Error)?)
     }
 }
 
@@ -146,7 +147,7 @@ impl Display for ErrorTakenForm {
             f,
             " (action {}) (signal {}) (logged{})",
             self.0.action.number(),
-            u8::from(self.0.signal),
+            Flag(self.0.signal),
             ErrorsForm(self.0.logged)
         )
     }
@@ -180,8 +181,8 @@ impl Display for EntryTypeForm {
         write!(
             f,
             "(status {}) (queue {}) (mode {}) (profile {})",
-            u8::from(self.0.is_status_entry),
-            u8::from(self.0.send_to_queue),
+            Flag(self.0.is_status_entry),
+            Flag(self.0.send_to_queue),
             self.0.mode.as_u16(),
             self.0.profile
         )

@@ -1,6 +1,7 @@
 // The parts of a head as `show` prints them, each its own lines.
 ghost use Rattle.std.specs.Prelude.{Some};
 
+use crate::texts::Flag;
 use counters::counters::{ByKind, CnErrorCounters, ThresholdCounter};
 use dll::cs_state_machine::DllCsStateMachine;
 use forms::hex::HexByte;
@@ -20,8 +21,8 @@ impl Display for NmtLine {
             f,
             "(nmt (state {}) (enabled {}) (ready {}) (node {}) (flags {}) (timeout {}))",
             HexByte(nmt.current_state.as_u8()),
-            u8::from(nmt.ready_to_operate_enabled),
-            u8::from(nmt.app_ready),
+            Flag(nmt.ready_to_operate_enabled),
+            Flag(nmt.app_ready),
             nmt.node_id.0,
             nmt.feature_flags.0,
             nmt.basic_ethernet_timeout
@@ -39,39 +40,39 @@ impl Display for DllLine {
     }
 }
 
-// A counter's level, and how many errors reached it.
+// A counter by its name: its level, and how many errors reached it.
 #[derive(Clone, Copy)]
-struct Level(ThresholdCounter);
+struct CounterLine<'a>(&'a str, ThresholdCounter);
 
-impl Display for Level {
+impl Display for CounterLine<'_> {
     fn fmt<W: fmt::Write>(&self, f: &mut fmt::Formatter<W>) -> fmt::Result {
-        write!(
+        let CounterLine(name, counter) = *self;
+        writeln!(
             f,
-            "(level {}) (cumulative {})",
-            self.0.threshold_cnt, self.0.cumulative_cnt
+            "({name} (level {}) (cumulative {}))",
+            counter.threshold_cnt, counter.cumulative_cnt
         )
     }
 }
 
-/// The counters, and how often the link was lost.
+/// The seven counters.
 #[derive(Clone, Copy)]
 pub struct CounterLines(pub CnErrorCounters);
 
 impl Display for CounterLines {
     fn fmt<W: fmt::Write>(&self, f: &mut fmt::Formatter<W>) -> fmt::Result {
         let counters = self.0.counters;
-        writeln!(f, "(collision {})", Level(counters.collision))?;
-        writeln!(f, "(loss_of_soc {})", Level(counters.loss_of_soc))?;
-        writeln!(f, "(loss_of_soa {})", Level(counters.loss_of_soa))?;
-        writeln!(f, "(loss_of_preq {})", Level(counters.loss_of_preq))?;
-        writeln!(f, "(soc_jitter {})", Level(counters.soc_jitter))?;
-        writeln!(f, "(crc_errors {})", Level(counters.crc_errors))?;
-        writeln!(
+        write!(
             f,
-            "(heartbeat_timeout {})",
-            Level(counters.heartbeat_timeout)
-        )?;
-        writeln!(f, "(loss_of_link {})", self.0.loss_of_link_cumulative)
+            "{}{}{}{}{}{}{}",
+            CounterLine("collision", counters.collision),
+            CounterLine("loss_of_soc", counters.loss_of_soc),
+            CounterLine("loss_of_soa", counters.loss_of_soa),
+            CounterLine("loss_of_preq", counters.loss_of_preq),
+            CounterLine("soc_jitter", counters.soc_jitter),
+            CounterLine("crc_errors", counters.crc_errors),
+            CounterLine("heartbeat_timeout", counters.heartbeat_timeout)
+        )
     }
 }
 
@@ -99,9 +100,9 @@ impl Display for SocLine {
             f,
             "(soc (last {}) (check {}) (deadline {}) (status_changed {}))",
             soc.last_soc_reception_time_us,
-            u8::from(soc.soc_timeout_check_active),
+            Flag(soc.soc_timeout_check_active),
             Moment(soc.next_tick_us),
-            u8::from(soc.error_status_changed)
+            Flag(soc.error_status_changed)
         )
     }
 }
@@ -119,44 +120,62 @@ impl Display for Object {
     }
 }
 
+// The objects of a dictionary that are no statistics.
+#[derive(Clone, Copy)]
+struct Objects(Dictionary);
+
+impl Display for Objects {
+    fn fmt<W: fmt::Write>(&self, f: &mut fmt::Formatter<W>) -> fmt::Result {
+        write!(
+            f,
+            "(register {}) (cycle {}) (tolerance {})",
+            self.0.error_register,
+            Object(self.0.cycle_time),
+            Object(self.0.tolerance)
+        )
+    }
+}
+
+// Its statistics.
+#[derive(Clone, Copy)]
+struct Statistics(Dictionary);
+
+impl Display for Statistics {
+    fn fmt<W: fmt::Write>(&self, f: &mut fmt::Formatter<W>) -> fmt::Result {
+        write!(
+            f,
+            "(c1 {}) (c2 {}) (c3 {}) (c5 {})",
+            self.0.counter_1, self.0.counter_2, self.0.counter_3, self.0.counter_5
+        )
+    }
+}
+
 /// The values of the dictionary.
 #[derive(Clone, Copy)]
 pub struct DictionaryLine(pub Dictionary);
 
 impl Display for DictionaryLine {
     fn fmt<W: fmt::Write>(&self, f: &mut fmt::Formatter<W>) -> fmt::Result {
-        let od = self.0;
-        write!(
-            f,
-            "(dictionary (register {}) (cycle {}) (tolerance {})",
-            od.error_register,
-            Object(od.cycle_time),
-            Object(od.tolerance)
-        )?;
-        writeln!(
-            f,
-            " (c1 {}) (c2 {}) (c3 {}) (c5 {}))",
-            od.counter_1, od.counter_2, od.counter_3, od.counter_5
-        )
+        writeln!(f, "(dictionary {} {})", Objects(self.0), Statistics(self.0))
     }
 }
 
-/// A number of each of the seven counters, behind a word, in the order of their lines.
+/// A number of each of the seven counters, in the order of their lines.
 #[derive(Clone, Copy)]
-pub struct EachLine<'a>(pub &'a str, pub ByKind<u32>);
+pub struct Each(pub ByKind<u32>);
 
-impl Display for EachLine<'_> {
+impl Display for Each {
     fn fmt<W: fmt::Write>(&self, f: &mut fmt::Formatter<W>) -> fmt::Result {
-        let EachLine(word, each) = *self;
         write!(
             f,
-            "({word} {} {} {}",
-            each.collision, each.loss_of_soc, each.loss_of_soa
-        )?;
-        writeln!(
-            f,
-            " {} {} {} {})",
-            each.loss_of_preq, each.soc_jitter, each.crc_errors, each.heartbeat_timeout
+            "{} {} {} {} {} {} {}",
+            self.0.collision,
+            self.0.loss_of_soc,
+            self.0.loss_of_soa,
+            self.0.loss_of_preq,
+            self.0.soc_jitter,
+            self.0.crc_errors,
+            self.0.heartbeat_timeout
         )
     }
 }

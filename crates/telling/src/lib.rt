@@ -2,6 +2,6 @@
 #![tactic(auto)]
 
 pub mod answers;
-pub mod bytes;
 pub mod heads;
 pub mod shows;
+pub mod texts;

@@ -1,4 +1,4 @@
-// Bytes as they are printed.
+// Bytes, entries and marks as they are printed.
 ghost use Rattle.std.specs.Prelude.{Some};
 
 use entries::status_response::ErrorEntry;
@@ -6,6 +6,16 @@ use forms::hex;
 use std::fmt;
 use std::fmt::Display;
 use std::str;
+
+/// A mark: 1, or 0.
+#[derive(Clone, Copy)]
+pub struct Flag(pub bool);
+
+impl Display for Flag {
+    fn fmt<W: fmt::Write>(&self, f: &mut fmt::Formatter<W>) -> fmt::Result {
+        f.write_str(if self.0 { "1" } else { "0" })
+    }
+}
 
 /// A byte as two hexadecimal digits.
 #[derive(Clone, Copy)]
