@@ -29,6 +29,7 @@ use Rattle.calling.specs.declared.Answer.{Answer}
 use Rattle.calling.specs.declared.Answer.TheVariants as answer
 use Rattle.forms.specs.Errors.{errors_text}
 use Rattle.forms.specs.Hex.{hex_form}
+use Rattle.telling.specs.declared.answers.Bitmap.{Bitmap}
 use Rattle.telling.specs.declared.answers.Told.{Told}
 use Rattle.telling.specs.declared.answers.Told.TheVariants as told
 use Rattle.telling.specs.Texts.{joined, flag_text, bytes_text, entry_text}
@@ -93,10 +94,14 @@ read_text e =
     (type_text e.entry_type ∷ codes " (code " ∷ hex_form 4 e.error_code ∷ codes ") (seconds " ∷ decimal e.timestamp.seconds ∷ codes ") (ns "
     ∷ decimal e.timestamp.nanoseconds ∷ codes ") (additional " ∷ decimal e.additional_information ∷ codes ")" ∷ [])
 
+-- the watched nodes as bits, and their number
+abbrev pub bitmap_text : Bitmap → List ℕ
+bitmap_text b = joined (codes " (nodes " ∷ decimal b.number ∷ codes ")" ∷ bytes_text b.bytes ∷ [])
+
 -- what a line tells that is taken
 abbrev pub told_text : Told → List ℕ
 told_text (told.Answer a) = answer_text a
-told_text (told.Bitmap n bs) = joined (codes " (nodes " ∷ decimal n ∷ codes ")" ∷ bytes_text bs ∷ [])
+told_text (told.Bitmap b) = bitmap_text b
 told_text (told.Entry e) = joined (codes " (entry " ∷ read_text e ∷ codes ")" ∷ [])
 told_text (told.State s) = joined (codes " " ∷ hex_form 2 (state_number s) ∷ [])
 told_text (told.Command c) = joined (codes " " ∷ hex_form 2 (command_number c) ∷ [])

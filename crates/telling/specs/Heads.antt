@@ -16,22 +16,31 @@ use Rattle.head.specs.declared.state.Dictionary.{Dictionary}
 use Rattle.forms.specs.Hex.{hex_form}
 use Rattle.telling.specs.Texts.{joined, flag_text}
 
-abbrev pub nmt_line : CnNmtStateMachine → List ℕ
-nmt_line m =
+-- where the state machine of the node's life stands, and what a start gave it
+unfoldable pub standing_text : CnNmtStateMachine → List ℕ
+standing_text m =
     joined
-    (codes "(nmt (state " ∷ hex_form 2 (state_number m.current_state) ∷ codes ") (enabled " ∷ flag_text m.ready_to_operate_enabled
-    ∷ codes ") (ready " ∷ flag_text m.app_ready ∷ codes ") (node " ∷ decimal m.node_id.0 ∷ codes ") (flags " ∷ decimal m.feature_flags.0
-    ∷ codes ") (timeout " ∷ decimal m.basic_ethernet_timeout ∷ codes "))\n" ∷ [])
+    (codes "(state " ∷ hex_form 2 (state_number m.current_state) ∷ codes ") (enabled " ∷ flag_text m.ready_to_operate_enabled
+    ∷ codes ") (ready " ∷ flag_text m.app_ready ∷ codes ")" ∷ [])
 
-abbrev pub dll_line : DllCsStateMachine → List ℕ
+unfoldable pub identity_text : CnNmtStateMachine → List ℕ
+identity_text m =
+    joined
+    (codes "(node " ∷ decimal m.node_id.0 ∷ codes ") (flags " ∷ decimal m.feature_flags.0 ∷ codes ") (timeout " ∷ decimal m.basic_ethernet_timeout
+    ∷ codes ")" ∷ [])
+
+unfoldable pub nmt_line : CnNmtStateMachine → List ℕ
+nmt_line m = joined (codes "(nmt " ∷ standing_text m ∷ codes " " ∷ identity_text m ∷ codes ")\n" ∷ [])
+
+unfoldable pub dll_line : DllCsStateMachine → List ℕ
 dll_line m = joined (codes "(dll " ∷ decimal (cs_state_number m.state) ∷ codes ")\n" ∷ [])
 
 -- a counter by its name: its level, and how many errors reached it
-abbrev pub counter_line : List ℕ → ThresholdCounter → List ℕ
+unfoldable pub counter_line : List ℕ → ThresholdCounter → List ℕ
 counter_line name c =
     joined (codes "(" ∷ name ∷ codes " (level " ∷ decimal c.threshold_cnt ∷ codes ") (cumulative " ∷ decimal c.cumulative_cnt ∷ codes "))\n" ∷ [])
 
-abbrev pub counter_lines : CnErrorCounters → List ℕ
+unfoldable pub counter_lines : CnErrorCounters → List ℕ
 counter_lines e =
     joined
     (counter_line (codes "collision") e.counters.collision ∷ counter_line (codes "loss_of_soc") e.counters.loss_of_soc
@@ -39,16 +48,16 @@ counter_lines e =
     ∷ counter_line (codes "soc_jitter") e.counters.soc_jitter ∷ counter_line (codes "crc_errors") e.counters.crc_errors
     ∷ counter_line (codes "heartbeat_timeout") e.counters.heartbeat_timeout ∷ [])
 
--- how often the link was lost
-abbrev pub link_line : ℕ → List ℕ
-link_line n = joined (codes "(loss_of_link " ∷ decimal n ∷ codes ")\n" ∷ [])
+-- the counters, and how often the link was lost
+unfoldable pub error_lines : CnErrorCounters → List ℕ
+error_lines e = joined (counter_lines e ∷ codes "(loss_of_link " ∷ decimal e.loss_of_link_cumulative ∷ codes ")\n" ∷ [])
 
 -- a moment, or none
 abbrev pub moment_text : Option ℕ → List ℕ
 moment_text None = codes "none"
 moment_text (Some t) = decimal t
 
-abbrev pub soc_line : SocWatch → List ℕ
+unfoldable pub soc_line : SocWatch → List ℕ
 soc_line s =
     joined
     (codes "(soc (last " ∷ decimal s.last_soc_reception_time_us ∷ codes ") (check " ∷ flag_text s.soc_timeout_check_active
@@ -59,23 +68,23 @@ abbrev pub object_text : Option ℕ → List ℕ
 object_text None = codes "missing"
 object_text (Some n) = decimal n
 
-abbrev pub objects_text : Dictionary → List ℕ
+unfoldable pub objects_text : Dictionary → List ℕ
 objects_text d =
     joined
     (codes "(register " ∷ decimal d.error_register ∷ codes ") (cycle " ∷ object_text d.cycle_time ∷ codes ") (tolerance "
     ∷ object_text d.tolerance ∷ codes ")" ∷ [])
 
-abbrev pub statistics_text : Dictionary → List ℕ
+unfoldable pub statistics_text : Dictionary → List ℕ
 statistics_text d =
     joined
     (codes "(c1 " ∷ decimal d.counter_1 ∷ codes ") (c2 " ∷ decimal d.counter_2 ∷ codes ") (c3 " ∷ decimal d.counter_3 ∷ codes ") (c5 "
     ∷ decimal d.counter_5 ∷ codes ")" ∷ [])
 
-abbrev pub dictionary_line : Dictionary → List ℕ
+unfoldable pub dictionary_line : Dictionary → List ℕ
 dictionary_line d = joined (codes "(dictionary " ∷ objects_text d ∷ codes " " ∷ statistics_text d ∷ codes ")\n" ∷ [])
 
 -- a number of each of the seven counters, in the order of their lines
-abbrev pub each_text : ByKind ℕ → List ℕ
+unfoldable pub each_text : ByKind ℕ → List ℕ
 each_text k =
     joined
     (decimal k.collision ∷ codes " " ∷ decimal k.loss_of_soc ∷ codes " " ∷ decimal k.loss_of_soa ∷ codes " " ∷ decimal k.loss_of_preq

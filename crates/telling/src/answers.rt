@@ -1,5 +1,7 @@
 // What a line is answered, as it is printed.
 ghost use Rattle.std.specs.Prelude.{Some};
+ghost use Rattle.forms.specs.Hex.{hex_form};
+ghost use Rattle.telling.specs.Answers.{entered_text, restored_text, nmt_text, error_taken_text, answer_text, type_text, read_text, bitmap_text, told_text, reply_text};
 
 use crate::texts::{Bytes, EntryBytes, Flag};
 use calling::Answer;
@@ -23,8 +25,8 @@ use types::refusals::Refusal;
 pub enum Told {
     /// What a call on a head answers.
     Answer(Answer),
-    /// The watched nodes as bits, and their number.
-    Bitmap { number: u32, bytes: [u8; 32] },
+    /// The watched nodes as bits.
+    Bitmap(Bitmap),
     /// An entry that was read.
     Entry(ErrorEntry),
     /// What was read of a number.
@@ -33,11 +35,28 @@ pub enum Told {
     Kind(DllErrorKind),
 }
 
+/// The watched nodes as 32 bytes, a bit for each, and their number.
+#[derive(Clone, Copy)]
+pub struct Bitmap {
+    pub number: u32,
+    pub bytes: [u8; 32],
+}
+
+impl Display for Bitmap {
+    ghost output = { λ x. Some (bitmap_text x) };
+
+    fn fmt<W: fmt::Write>(&self, f: &mut fmt::Formatter<W>) -> fmt::Result {
+        write!(f, " (nodes {}){}", self.number, Bytes(&self.bytes))
+    }
+}
+
 /// What a line is answered: what it tells, or the number of its refusal.
 #[derive(Clone, Copy)]
 pub struct Reply(pub Result<Told, Refusal>);
 
 impl Display for Reply {
+    ghost output = { λ x. Some (reply_text x.0) };
+
     fn fmt<W: fmt::Write>(&self, f: &mut fmt::Formatter<W>) -> fmt::Result {
         match self.0 {
             Ok(told) => writeln!(f, "(taken{told})"),
@@ -47,10 +66,12 @@ impl Display for Reply {
 }
 
 impl Display for Told {
+    ghost output = { λ x. Some (told_text x) };
+
     fn fmt<W: fmt::Write>(&self, f: &mut fmt::Formatter<W>) -> fmt::Result {
         match *self {
             Told::Answer(answer) => write!(f, "{}", AnswerForm(answer)),
-            Told::Bitmap { number, bytes } => write!(f, " (nodes {number}){}", Bytes(&bytes)),
+            Told::Bitmap(bitmap) => write!(f, "{bitmap}"),
             Told::Entry(entry) => write!(f, " (entry {})", EntryForm(entry)),
             Told::State(state) => write!(f, " {}", HexByte(state.as_u8())),
             Told::Command(command) => write!(f, " {}", HexByte(command.as_u8())),
@@ -64,6 +85,8 @@ impl Display for Told {
 struct AnswerForm(Answer);
 
 impl Display for AnswerForm {
+    ghost output = { λ x. Some (answer_text x.0) };
+
     fn fmt<W: fmt::Write>(&self, f: &mut fmt::Formatter<W>) -> fmt::Result {
         match self.0 {
             Answer::Taken => Ok(()),
@@ -87,6 +110,8 @@ impl Display for AnswerForm {
 struct NmtForm(NmtTaken);
 
 impl Display for NmtForm {
+    ghost output = { λ x. Some (nmt_text x.0) };
+
     fn fmt<W: fmt::Write>(&self, f: &mut fmt::Formatter<W>) -> fmt::Result {
         match self.0.reset {
             ResetSequence::None => write!(f, " (errors{})", ErrorsForm(self.0.errors)),
@@ -105,6 +130,8 @@ impl Display for NmtForm {
 struct Entered<'a>(&'a [NmtState]);
 
 impl Display for Entered<'_> {
+    ghost output = { λ x. Some (entered_text x.0.now) };
+
     fn fmt<W: fmt::Write>(&self, f: &mut fmt::Formatter<W>) -> fmt::Result {
         for state in self.0 {
             write!(f, " {}", HexByte(state.as_u8()))?;
@@ -118,6 +145,8 @@ impl Display for Entered<'_> {
 struct Restored<'a>(&'a [IndexRange]);
 
 impl Display for Restored<'_> {
+    ghost output = { λ x. Some (restored_text x.0.now) };
+
     fn fmt<W: fmt::Write>(&self, f: &mut fmt::Formatter<W>) -> fmt::Result {
         for range in self.0 {
             write!(f, " ({} {})", Hex16(range.first), Hex16(range.last))?;
@@ -131,6 +160,8 @@ impl Display for Restored<'_> {
 struct Hex16(u16);
 
 impl Display for Hex16 {
+    ghost output = { λ x. Some (hex_form 4 x.0) };
+
     fn fmt<W: fmt::Write>(&self, f: &mut fmt::Formatter<W>) -> fmt::Result {
         let digits = forms::hex4(u64::from(self.0));
         f.write_str(str::from_utf8(&digits).map_err(|_| fmt::Error)?)
@@ -142,6 +173,8 @@ impl Display for Hex16 {
 struct ErrorTakenForm(ErrorTaken);
 
 impl Display for ErrorTakenForm {
+    ghost output = { λ x. Some (error_taken_text x.0) };
+
     fn fmt<W: fmt::Write>(&self, f: &mut fmt::Formatter<W>) -> fmt::Result {
         write!(
             f,
@@ -158,6 +191,8 @@ impl Display for ErrorTakenForm {
 struct EntryForm(ErrorEntry);
 
 impl Display for EntryForm {
+    ghost output = { λ x. Some (read_text x.0) };
+
     fn fmt<W: fmt::Write>(&self, f: &mut fmt::Formatter<W>) -> fmt::Result {
         let entry = self.0;
         write!(
@@ -177,6 +212,8 @@ impl Display for EntryForm {
 struct EntryTypeForm(EntryType);
 
 impl Display for EntryTypeForm {
+    ghost output = { λ x. Some (type_text x.0) };
+
     fn fmt<W: fmt::Write>(&self, f: &mut fmt::Formatter<W>) -> fmt::Result {
         write!(
             f,

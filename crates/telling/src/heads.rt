@@ -1,5 +1,6 @@
 // The parts of a head as `show` prints them, each its own lines.
 ghost use Rattle.std.specs.Prelude.{Some};
+ghost use Rattle.telling.specs.Heads.{standing_text, identity_text, nmt_line, dll_line, counter_line, counter_lines, error_lines, moment_text, soc_line, object_text, objects_text, statistics_text, dictionary_line, each_text};
 
 use crate::texts::Flag;
 use counters::counters::{ByKind, CnErrorCounters, ThresholdCounter};
@@ -10,23 +11,52 @@ use nmt::cn_state_machine::CnNmtStateMachine;
 use std::fmt;
 use std::fmt::Display;
 
+// Where the state machine of the node's life stands.
+#[derive(Clone, Copy)]
+struct Standing(CnNmtStateMachine);
+
+#[tactic(auto, unfolding(crate::specs::Heads::standing_text))]
+impl Display for Standing {
+    ghost output = { λ x. Some (standing_text x.0) };
+
+    fn fmt<W: fmt::Write>(&self, f: &mut fmt::Formatter<W>) -> fmt::Result {
+        write!(
+            f,
+            "(state {}) (enabled {}) (ready {})",
+            HexByte(self.0.current_state.as_u8()),
+            Flag(self.0.ready_to_operate_enabled),
+            Flag(self.0.app_ready)
+        )
+    }
+}
+
+// What a start gave it.
+#[derive(Clone, Copy)]
+struct Identity(CnNmtStateMachine);
+
+#[tactic(auto, unfolding(crate::specs::Heads::identity_text))]
+impl Display for Identity {
+    ghost output = { λ x. Some (identity_text x.0) };
+
+    fn fmt<W: fmt::Write>(&self, f: &mut fmt::Formatter<W>) -> fmt::Result {
+        write!(
+            f,
+            "(node {}) (flags {}) (timeout {})",
+            self.0.node_id.0, self.0.feature_flags.0, self.0.basic_ethernet_timeout
+        )
+    }
+}
+
 /// The state machine of the node's life.
 #[derive(Clone, Copy)]
 pub struct NmtLine(pub CnNmtStateMachine);
 
+#[tactic(auto, unfolding(crate::specs::Heads::nmt_line))]
 impl Display for NmtLine {
+    ghost output = { λ x. Some (nmt_line x.0) };
+
     fn fmt<W: fmt::Write>(&self, f: &mut fmt::Formatter<W>) -> fmt::Result {
-        let nmt = self.0;
-        writeln!(
-            f,
-            "(nmt (state {}) (enabled {}) (ready {}) (node {}) (flags {}) (timeout {}))",
-            HexByte(nmt.current_state.as_u8()),
-            Flag(nmt.ready_to_operate_enabled),
-            Flag(nmt.app_ready),
-            nmt.node_id.0,
-            nmt.feature_flags.0,
-            nmt.basic_ethernet_timeout
-        )
+        writeln!(f, "(nmt {} {})", Standing(self.0), Identity(self.0))
     }
 }
 
@@ -34,7 +64,10 @@ impl Display for NmtLine {
 #[derive(Clone, Copy)]
 pub struct DllLine(pub DllCsStateMachine);
 
+#[tactic(auto, unfolding(crate::specs::Heads::dll_line))]
 impl Display for DllLine {
+    ghost output = { λ x. Some (dll_line x.0) };
+
     fn fmt<W: fmt::Write>(&self, f: &mut fmt::Formatter<W>) -> fmt::Result {
         writeln!(f, "(dll {})", self.0.current_state().as_u8())
     }
@@ -44,7 +77,10 @@ impl Display for DllLine {
 #[derive(Clone, Copy)]
 struct CounterLine<'a>(&'a str, ThresholdCounter);
 
+#[tactic(auto, unfolding(crate::specs::Heads::counter_line))]
 impl Display for CounterLine<'_> {
+    ghost output = { λ x. Some (counter_line x.0.now x.1) };
+
     fn fmt<W: fmt::Write>(&self, f: &mut fmt::Formatter<W>) -> fmt::Result {
         let CounterLine(name, counter) = *self;
         writeln!(
@@ -55,11 +91,14 @@ impl Display for CounterLine<'_> {
     }
 }
 
-/// The seven counters.
+// The seven counters.
 #[derive(Clone, Copy)]
-pub struct CounterLines(pub CnErrorCounters);
+struct CounterLines(CnErrorCounters);
 
+#[tactic(auto, unfolding(crate::specs::Heads::counter_lines))]
 impl Display for CounterLines {
+    ghost output = { λ x. Some (counter_lines x.0) };
+
     fn fmt<W: fmt::Write>(&self, f: &mut fmt::Formatter<W>) -> fmt::Result {
         let counters = self.0.counters;
         write!(
@@ -76,11 +115,31 @@ impl Display for CounterLines {
     }
 }
 
+/// The counters, and how often the link was lost.
+#[derive(Clone, Copy)]
+pub struct ErrorLines(pub CnErrorCounters);
+
+#[tactic(auto, unfolding(crate::specs::Heads::error_lines))]
+impl Display for ErrorLines {
+    ghost output = { λ x. Some (error_lines x.0) };
+
+    fn fmt<W: fmt::Write>(&self, f: &mut fmt::Formatter<W>) -> fmt::Result {
+        writeln!(
+            f,
+            "{}(loss_of_link {})",
+            CounterLines(self.0),
+            self.0.loss_of_link_cumulative
+        )
+    }
+}
+
 /// A moment, in microseconds, or none.
 #[derive(Clone, Copy)]
 pub struct Moment(pub Option<u64>);
 
 impl Display for Moment {
+    ghost output = { λ x. Some (moment_text x.0) };
+
     fn fmt<W: fmt::Write>(&self, f: &mut fmt::Formatter<W>) -> fmt::Result {
         match self.0 {
             Some(moment) => write!(f, "{moment}"),
@@ -93,7 +152,10 @@ impl Display for Moment {
 #[derive(Clone, Copy)]
 pub struct SocLine(pub SocWatch);
 
+#[tactic(auto, unfolding(crate::specs::Heads::soc_line))]
 impl Display for SocLine {
+    ghost output = { λ x. Some (soc_line x.0) };
+
     fn fmt<W: fmt::Write>(&self, f: &mut fmt::Formatter<W>) -> fmt::Result {
         let soc = self.0;
         writeln!(
@@ -112,6 +174,8 @@ impl Display for SocLine {
 struct Object(Option<u32>);
 
 impl Display for Object {
+    ghost output = { λ x. Some (object_text x.0) };
+
     fn fmt<W: fmt::Write>(&self, f: &mut fmt::Formatter<W>) -> fmt::Result {
         match self.0 {
             Some(value) => write!(f, "{value}"),
@@ -124,7 +188,10 @@ impl Display for Object {
 #[derive(Clone, Copy)]
 struct Objects(Dictionary);
 
+#[tactic(auto, unfolding(crate::specs::Heads::objects_text))]
 impl Display for Objects {
+    ghost output = { λ x. Some (objects_text x.0) };
+
     fn fmt<W: fmt::Write>(&self, f: &mut fmt::Formatter<W>) -> fmt::Result {
         write!(
             f,
@@ -140,7 +207,10 @@ impl Display for Objects {
 #[derive(Clone, Copy)]
 struct Statistics(Dictionary);
 
+#[tactic(auto, unfolding(crate::specs::Heads::statistics_text))]
 impl Display for Statistics {
+    ghost output = { λ x. Some (statistics_text x.0) };
+
     fn fmt<W: fmt::Write>(&self, f: &mut fmt::Formatter<W>) -> fmt::Result {
         write!(
             f,
@@ -154,7 +224,10 @@ impl Display for Statistics {
 #[derive(Clone, Copy)]
 pub struct DictionaryLine(pub Dictionary);
 
+#[tactic(auto, unfolding(crate::specs::Heads::dictionary_line))]
 impl Display for DictionaryLine {
+    ghost output = { λ x. Some (dictionary_line x.0) };
+
     fn fmt<W: fmt::Write>(&self, f: &mut fmt::Formatter<W>) -> fmt::Result {
         writeln!(f, "(dictionary {} {})", Objects(self.0), Statistics(self.0))
     }
@@ -164,7 +237,10 @@ impl Display for DictionaryLine {
 #[derive(Clone, Copy)]
 pub struct Each(pub ByKind<u32>);
 
+#[tactic(auto, unfolding(crate::specs::Heads::each_text))]
 impl Display for Each {
+    ghost output = { λ x. Some (each_text x.0) };
+
     fn fmt<W: fmt::Write>(&self, f: &mut fmt::Formatter<W>) -> fmt::Result {
         write!(
             f,

@@ -1,5 +1,7 @@
 // Bytes, entries and marks as they are printed.
 ghost use Rattle.std.specs.Prelude.{Some};
+ghost use Rattle.forms.specs.Hex.{hex_digits};
+ghost use Rattle.telling.specs.Texts.{flag_text, bytes_text, entry_text};
 
 use entries::status_response::ErrorEntry;
 use forms::hex;
@@ -12,6 +14,8 @@ use std::str;
 pub struct Flag(pub bool);
 
 impl Display for Flag {
+    ghost output = { λ x. Some (flag_text x.0) };
+
     fn fmt<W: fmt::Write>(&self, f: &mut fmt::Formatter<W>) -> fmt::Result {
         f.write_str(if self.0 { "1" } else { "0" })
     }
@@ -22,6 +26,8 @@ impl Display for Flag {
 pub struct HexPair(pub u8);
 
 impl Display for HexPair {
+    ghost output = { λ x. Some (hex_digits 2 x.0) };
+
     fn fmt<W: fmt::Write>(&self, f: &mut fmt::Formatter<W>) -> fmt::Result {
         let digits: [u8; 2] = hex::digits(u64::from(self.0));
         f.write_str(str::from_utf8(&digits).map_err(|_| fmt::Error)?)
@@ -33,6 +39,8 @@ impl Display for HexPair {
 pub struct Bytes<'a>(pub &'a [u8]);
 
 impl Display for Bytes<'_> {
+    ghost output = { λ x. Some (bytes_text x.0.now) };
+
     fn fmt<W: fmt::Write>(&self, f: &mut fmt::Formatter<W>) -> fmt::Result {
         write!(f, " ")?;
         for byte in self.0 {
@@ -47,6 +55,8 @@ impl Display for Bytes<'_> {
 pub struct EntryBytes(pub ErrorEntry);
 
 impl Display for EntryBytes {
+    ghost output = { λ x. Some (entry_text x.0) };
+
     fn fmt<W: fmt::Write>(&self, f: &mut fmt::Formatter<W>) -> fmt::Result {
         write!(f, "{}", Bytes(&self.0.serialize()))
     }
