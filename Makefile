@@ -1,20 +1,28 @@
-# make run      drives a node by a short call script and prints what each call answers
-# make incident plays the order of calls that put the original at ReadyToOperate with an old ready word through our node and, where cargo
-#               and the Rust source are at hand, through the original, and shows where they part
-# make test     every check; the last line is 'N passed, 0 failed'
-# make compare  builds the original Rust and compares it with the stored outputs, and our node with it at ten million generated
-#               calls, some minutes (needs cargo and the Rust source; 'make compare SEEDS="1 2" CALLS=200000' makes fewer);
-#               before that it drives the lent forms of nodes and counter beside the other ones (compare/lent.sh, which needs the kit alone)
-# make compare-oracle  replays and generates call scripts on the original Rust (the same needs)
-# make watch    plays the example of docs/WATCH.md and holds that page to what replay prints
-# make shift    proves the program of shift totals, runs it on stored and generated inputs and measures it on a gigabyte of entries
-# make wireshark  compares the bytes of entries, and the numbers of NMT states and commands, with what Wireshark reads (needs tshark)
+# `make` alone prints the commands.
 
 SHELL := bash
 .SHELLFLAGS := -euo pipefail -c
-.PHONY: run incident replay watch shift test compare compare-oracle wireshark
+.DEFAULT_GOAL := help
+.PHONY: help run try incident replay watch shift test twins compare compare-oracle wireshark kit
 
-replay:
+help:
+	@echo "make run             plays scripts/run.txt through the proved node and prints what each call answers"
+	@echo "make try             the same in half a minute, without the proofs"
+	@echo "make incident        plays the order that put the original at ReadyToOperate with an old ready word"
+	@echo "make watch           plays the example of docs/WATCH.md and holds that page to what replay prints"
+	@echo "make test            every check; the last line is 'N passed, 0 failed'"
+	@echo "make twins           proves the twin of each wrong program that changes the code's shape (some minutes)"
+	@echo "make shift           proves shiftreport, tries it on stored and generated inputs and on a gigabyte"
+	@echo "make compare         ten million generated calls beside the original Rust (needs cargo and its source;"
+	@echo "                     'make compare SEEDS=\"1 2\" CALLS=200000' makes fewer)"
+	@echo "make compare-oracle  call scripts on the original Rust (the same needs)"
+	@echo "make wireshark       entries, codes, commands and flags beside Wireshark (needs tshark)"
+	@echo "target/bin/replay <SCRIPT   plays an own script, after make run (docs/CALLS.md)"
+
+kit:
+	@command -v rt >/dev/null || { echo "The Rattle kit is missing: its command rt has to be on the path." >&2; exit 1; }
+
+replay: kit
 	@mkdir -p target/bin
 	@echo "Proving the node and the program that drives it (some minutes the first time)."
 	@scripts/build.sh replay
@@ -22,32 +30,38 @@ replay:
 run: replay
 	@scripts/run.sh scripts/run.txt
 
+try: kit
+	@scripts/try.sh scripts/run.txt
+
 incident: replay
 	@scripts/incident.sh
 
 watch: replay
 	@tests/watch.py
 
-shift:
+shift: kit
 	@scripts/build.sh shiftreport
 	@tests/shiftreport.py
 	@tests/shiftreport.py --speed
 
-test:
+test: kit
 	@echo "Checking public contracts and the documents' references."
 	@sh tests/documents.sh
 	@echo "Checking that the page of NMT transitions is the output that its program is held to."
 	@cmp docs/TRANSITIONS.md crates/chart/stdout
 	@echo "Checking the script that replay is run on."
 	@compare/joined.sh --check
-	@echo "Proving every crate, trying the must-fail edits, running the programs (14 to 26 minutes on four cores, the first time); behind it, silent where all is"
-	@echo "as expected, the program of shift totals on stored and generated inputs, and the page on the watch beside what replay prints."
+	@echo "Proving every crate, trying the must-fail edits, running the programs; where this machine has proved the same files before, that takes half a"
+	@echo "minute. Behind it, silent where all is as expected, the program of shift totals on stored and generated inputs, and the page on the watch."
 	@scripts/gate.sh
 	@scripts/build.sh --built replay shiftreport
 	@tests/shiftreport.py >target/shift.log || { cat target/shift.log; exit 1; }
 	@tests/watch.py --quiet
 
-compare:
+twins: kit
+	@tests/twins.py
+
+compare: kit
 	@compare/lent.sh
 	@compare/run.sh
 	@compare/replay.sh

@@ -85,6 +85,8 @@ compare() {
     [ -z "$rare" ] || fail "met less than $least times: $rare"
     echo "Alike after each of $(sum 'calls in all') calls: $(made start) starts, $(made heard) of heard, $(made tick) ticks, $(made add) adds, $(made remove) removals," \
         "$(sum 'counters: calls') on counters, $(sum '[a-z]+: alone.*') of the lent form alone, and those between them."
+    echo "Behind each call that is lent the nodes their bits: $(sum 'bits: written') times written, $(sum 'bits: declined') declined," \
+        "$(sum 'bits: declined in the lent form only') declined in the lent form only."
     echo "Alone it declined $(sum '[a-z]+: alone, on 31 places') calls on 31 places, $(sum '[a-z]+: alone, on 33 places') on 33," \
         "$(sum '[a-z]+: alone, on another number of places') on another number of them, and $(sum '[a-z]+: alone, with a number of 33') with a number of 33; nothing was changed."
     echo "The $(wc -l <"$report") counts of target/compare/lent/report are $least or more; the least: $(sort -n "$report" | head -n 1)."

@@ -4,9 +4,11 @@
   - a link of a document leads to a file
   - a file that a document or a comment names, by its path or by the end of it, is there; of `file:name` the file has the name
   - another name between backquotes stands in the code, and that of a comment not in comments alone
+  - in docs/CLAIMS.md a file is named by enough of its path, and a name alone in a cell is of the file before it there
 
-A name is looked up whole: one that is cut short is not there. docs/CHANGES.md tells of each step by the names of its time, so names alone are not looked up there; docs/PORT.md,
-docs/DESIGN-PASS.md and docs/DESIGN-PLACES.md tell of the files of other commits too, so of them links alone are."""
+A name is looked up whole: one that is cut short is not there. docs/CHANGES.md tells of each landing by
+the names of its time, so names alone are not looked up there. docs/history is passed over, and nothing
+else may name a file of it."""
 import os
 import re
 import sys
@@ -14,7 +16,7 @@ import sys
 os.chdir(os.path.dirname(os.path.dirname(os.path.abspath(__file__))))
 FILES = []
 for folder, inside, names in os.walk('.'):
-    inside[:] = [d for d in inside if d not in ('.git', 'target', 'out')]
+    inside[:] = [d for d in inside if d not in ('.git', 'target', 'out') and (folder, d) != ('./docs', 'history')]
     FILES += [os.path.relpath(os.path.join(folder, n)) for n in names]
 FILES.sort()
 TOP = ('crates', 'compare', 'tests', 'docs', 'scripts')
@@ -22,9 +24,8 @@ MARKS = {'.rt': '//', '.antt': '--', '.rs': '//', '.sh': '#', '.py': '#'}
 # a file's name with its folders; of the original Rust only what is in compare/ is here
 FILE = r'(?<![\w/.·*$-])((?:[\w.-]+/)*[\w-]+\.(?:rt\.txt|antt|rt|edit|sh|py|md|txt|out)|(?:%s)/[\w./-]*\.rs)\b' % '|'.join(TOP)
 NAME = r"[\w·′-]+(::[\w·′-]+)*"
-# what the Rust has and we leave out, what is gone, and a file of the kit
-ELSEWHERE = {'from_od', 'TimeOfDay', 'TimeDifference', 'dll_mn_event', 'startup', 'scripts/lent_laws.py', 'Denote/Struct/Field.antt'}
-OTHER_COMMITS = ('docs/PORT.md', 'docs/DESIGN-PASS.md', 'docs/DESIGN-PLACES.md')
+# what the Rust has and we leave out
+ELSEWHERE = {'from_od', 'TimeOfDay', 'TimeDifference', 'dll_mn_event'}
 TEXT = {}
 wrong = []
 
@@ -104,6 +105,20 @@ def look(place, words, names, everywhere):
     return count
 
 
+def look_at_cell(place, cell):
+    """What a cell of docs/CLAIMS.md refers to, beside what each line does."""
+    before = []
+    for word in re.findall(r'`([^`]+)`', cell):
+        path, _, name = word.partition(':')
+        files = named(path)
+        if len(files) > 1:
+            wrong.append(f'{place}: {path} is any of {", ".join(files)}')
+        if files:
+            before = files if name else []
+        elif before and not re.fullmatch(FILE, path) and not any(has(text(f), word) for f in before):
+            wrong.append(f"{place}: {before[0]} does not have '{word}'")
+
+
 found = 0
 for file in FILES:
     for number, line in enumerate(text(file).split('\n') if file.endswith(('.md', *MARKS)) or file == 'Makefile' else [], 1):
@@ -112,9 +127,10 @@ for file in FILES:
                 found += 1
                 if not re.match(r'[a-z]+:', target) and not os.path.exists(os.path.join(os.path.dirname(file), target)):
                     wrong.append(f'{file}:{number}: the link to {target} leads nowhere')
-            if file in OTHER_COMMITS:
-                continue
             found += look(f'{file}:{number}', re.sub(r'\]\([^)]*\)', ']', line), file != 'docs/CHANGES.md', True)
+            if file == 'docs/CLAIMS.md':
+                for cell in line.split('|'):
+                    look_at_cell(f'{file}:{number}', cell)
         else:
             found += look(f'{file}:{number}', comment(file, line), is_code(file), False)
 if wrong:

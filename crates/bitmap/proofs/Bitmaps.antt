@@ -11,20 +11,23 @@ use Rattle.std.proofs.lemmas.List.Sums.{sum_by-cons}
 use borrow.Author.Tests.{leb-true, ltb-true, eq-eqb, ne_eqb}
 use lib.Bits.{bit_or}
 use lib.Count.{ones}
+use Rattle.std.proofs.lemmas.Nat.{ones-le}
 use lib.Dec.{eqb, leb, ltb}
 use lib.ListN.{length, get_or, set}
 use Rattle.types.specs.Pick.{pick, both, either, all_of, any_of}
 use Rattle.types.proofs.Tests.{both_first, both_second}
-use Rattle.entries.specs.Desk.{Reply}
+use Rattle.std.specs.declared.result.Result.TheVariants.{Ok, Err}
+use Rattle.types.specs.declared.refusals.Refusal.TheVariants.{WatchedNodes}
 use Rattle.entries.specs.Ring.{listed}
 use Rattle.entries.proofs.Rings.{listed_more, listed_same, listed_long}
 use Rattle.watched.specs.declared.nodes.WatchedNode.{WatchedNode}
-use Rattle.watched.specs.Watched.{ascending, fits, well_formed, no_node, is_watched, watched_of}
-use Rattle.watched.specs.Nodes.{nodes_of, rising}
+use Rattle.watched.specs.Watched.{ascending, fits, well_formed, no_node, is_watched, watched_of, Run, watching, well_lent}
+use Rattle.watched.specs.declared.record.NodeRecord.{NodeRecord}
+use Rattle.watched.specs.Nodes.{node_of, node_at, nodes_of, rising}
 use Rattle.watched.proofs.Limits.{fits_small, number_small}
 use Rattle.watched.proofs.Lists.{rising_all}
 use Rattle.watched.proofs.Watching.{listed_at, listed_set, node_at_lem}
-use Rattle.bitmap.specs.Bitmap.{lowest_first, is_set, byte_of, bytes_of, ones_of, bitmap_reply, bytes_after}
+use Rattle.bitmap.specs.Bitmap.{lowest_first, is_set, byte_of, bytes_of, with_bit, ones_of, bitmap_reply, bytes_after, BitsWritten}
 use Rattle.bitmap.proofs.Bits.{set_at_bit, bit_set, one_more_lem, ones_more}
 
 -- the bits of the byte i
@@ -46,7 +49,7 @@ module _ (ws : List WatchedNode) where
         let e : 8 * (n / 8) + n % 8 ≡ n = omega arith in
         listed_at (λ (j : ℕ). is_watched (8 * (n / 8) + j) ws) 8 (n % 8) false (omega arith) ∙ ap (λ (m : ℕ). is_watched m ws) e
 
-    -- "node n being bit n mod 8 of byte n div 8"
+    -- node n is bit n mod 8 of byte n / 8
     pub bit_told : is_set (get_or (bytes_of ws) (n / 8) 0) (n % 8) ≡ is_watched n ws
     bit_told =
         let long : length (bits_at ws (n / 8)) ≡ 8 = listed_long (λ (j : ℕ). is_watched (8 * (n / 8) + j) ws) 8 in
@@ -97,40 +100,33 @@ some_more p (x ∷ xs) y = ap (either (p x)) (some_more p xs y) ∙ by (p x) (p 
     by true false c = refl
     by false b c = refl
 
-module _ (ns : List ℕ) (k : ℕ) (formed : well_formed (watched_of (nodes_of ns) k) ≡ true) where
-  abbrev first : ℕ → List WatchedNode
-  first i = watched_of (nodes_of ns) i
+-- behind some nodes comes another: its bit is set
+pub bit_joined : (ws : List WatchedNode) (w : WatchedNode) → w.node < 256 → with_bit w.node (bytes_of ws) ≡ bytes_of (ws ++ (w ∷ []))
+bit_joined ws w below =
+    sym (joined_by_or ws w.node below (ws ++ (w ∷ []))
+    (next w.node ∙ rw (eq-eqb w.node w.node refl))
+    (λ m apart. next m ∙ rw (ne_eqb w.node m (λ q. apart (sym q)))))
+  where
+    next : (m : ℕ) → is_watched m (ws ++ (w ∷ [])) ≡ pick (eqb w.node m) true (is_watched m ws)
+    next m = some_more (λ (v : WatchedNode). eqb v.node m) ws w
 
-  -- a turn at the words of the i-th node
-  module _ (i : ℕ) (inside : i < k) (few : k ≤ 32) where
-    abbrev n : ℕ
-    n = get_or ns (3 * i) 0
+-- a turn at the node n of the place i of a run
+pub turn :
+    (vs : List WatchedNode) (i n : ℕ) (s : List ℕ) →
+    s ≡ bytes_of (watched_of vs i) → n ≡ (get_or vs i no_node).node → n < 256 → with_bit n s ≡ bytes_of (watched_of vs (i + 1))
+turn vs i n s e is below =
+    let w : WatchedNode = get_or vs i no_node in
+    rw (e, is, add-one, listed_more (λ (j : ℕ). get_or vs j no_node) i) (bit_joined (watched_of vs i) w (omega arith))
 
-    abbrev w : WatchedNode
-    w = get_or (nodes_of ns) i no_node
-
-    is : w.node ≡ n
-    is = ap (λ (v : WatchedNode). v.node) (node_at_lem ns i (omega arith))
-
-    pub node_below : n < 256
-    node_below = omega (arith, number_small ns k few formed i inside)
-
-    next : (m : ℕ) → is_watched m (first (i + 1)) ≡ pick (eqb n m) true (is_watched m (first i))
-    next m =
-        rw (add-one, listed_more (λ (j : ℕ). get_or (nodes_of ns) j no_node) i)
-        (some_more (λ (v : WatchedNode). eqb v.node m) (first i) w ∙ ap (λ (j : ℕ). pick (eqb j m) true (is_watched m (first i))) is)
-
-    pub turn :
-        (s : List ℕ) →
-        s ≡ bytes_of (first i) →
-        (b : ℕ) →
-        b ≡ bit_or (get_or s (n / 8) 0) (2 ^ (n % 8)) →
-        set s (n / 8) b ≡ bytes_of (first (i + 1))
-    turn s e b f =
-        rw (f, e)
-        (sym (joined_by_or (first i) n node_below (first (i + 1))
-        (next n ∙ rw (eq-eqb n n refl))
-        (λ m apart. next m ∙ rw (ne_eqb n m (λ q. apart (sym q))))))
+-- the number in the words of a node that is watched is a byte
+pub node_below :
+    {r : NodeRecord} (ns : List ℕ) (k i : ℕ) →
+    well_formed (watched_of (nodes_of ns) k) ≡ true → k ≤ 32 → i < k → node_of r ≡ node_at ns i →
+    (r.node ≡ (get_or (nodes_of ns) i no_node).node) × (r.node < 256)
+node_below {r = r} ns k i formed few lt e =
+    let is : r.node ≡ get_or ns (3 * i) 0 = ap (λ (v : WatchedNode). v.node) e in
+    let at : (get_or (nodes_of ns) i no_node).node ≡ get_or ns (3 * i) 0 = ap (λ (v : WatchedNode). v.node) (node_at_lem ns i (omega arith)) in
+    (is ∙ sym at, omega (arith, is, number_small ns k few formed i lt))
 
 -- how many bits are set
 absent : (n m : ℕ) (ws : List WatchedNode) → rising n ws ≡ true → m ≤ n → is_watched m ws ≡ false
@@ -156,31 +152,28 @@ rising_counted n (w ∷ ws) r =
     (absent w.node w.node ws rest (omega arith))
     ∙ ap suc (rising_counted w.node ws rest)
 
--- "the number of nodes counted from those bits" is the number of nodes
+-- the number of bits that are set is the number of nodes
 pub counted : (ws : List WatchedNode) → well_formed ws ≡ true → ones_of (bytes_of ws) ≡ length ws
 unfolding well_formed
 counted ws h =
     rising_counted 0 ws
     (rising_all ws ∙ both_second (leb (length ws) 32) (both (ascending ws) (all_of fits ws)) h)
 
--- the library's sum is that of the definition, and fits
-pub sum_ones : (s : List ℕ) → sum_by ones s ≡ ones_of s
-sum_ones [] = refl
-sum_ones (b ∷ s) = sum_by-cons ones b s ∙ ap (λ (n : ℕ). ones b + n) (sum_ones s)
+-- no byte has more than eight bits
+few_ones : (s : List ℕ) → ((i : ℕ) → get_or s i 0 < 256) → ones_of s ≤ 8 * length s
+few_ones [] bytes = omega arith
+few_ones (b ∷ s) bytes = omega (arith, sum_by-cons ones b s, ones-le 8 b (bytes 0), few_ones s (λ i. bytes (suc i)))
 
-pub ones_fit : (ws : List WatchedNode) (s : List ℕ) → well_formed ws ≡ true → s ≡ bytes_of ws → sum_by ones s < 2 ^ 32
-unfolding well_formed
-ones_fit ws s h e =
-    let few = leb-true (length ws) 32 (both_first (leb (length ws) 32) (both (ascending ws) (all_of fits ws)) h) in
-    let n : sum_by ones s ≡ length ws = sum_ones s ∙ ap ones_of e ∙ counted ws h in
-    omega arith
+-- so the number of those in 32 bytes fits
+pub ones_fit : (s : List ℕ) → length s ≡ 32 → ((i : ℕ) → get_or s i 0 < 256) → sum_by ones s < 2 ^ 32
+ones_fit s long bytes = omega (arith, few_ones s bytes)
 
--- the call, by number 3
-module _ (ws : List WatchedNode) (s : List ℕ) where
-  pub turned_away_lem : well_formed ws ≡ false → (Reply.turned_away 3 ≡ bitmap_reply ws) × (s ≡ bytes_after ws s)
+-- the call, by whether the run is well formed
+module _ (r : Run) (s : List ℕ) where
+  pub turned_away_lem : well_lent r ≡ false → BitsWritten r s (Err WatchedNodes) s
   unfolding bitmap_reply bytes_after
-  turned_away_lem h = (rw h, rw h)
+  turned_away_lem h = record { said = rw h refl; bytes = rw h refl }
 
-  pub written : (s' : List ℕ) (n : ℕ) → well_formed ws ≡ true → s' ≡ bytes_of ws → n ≡ ones_of s' → (Reply.gives n ≡ bitmap_reply ws) × (s' ≡ bytes_after ws s)
+  pub written : (s' : List ℕ) (n : ℕ) → well_lent r ≡ true → s' ≡ bytes_of (watching r) → n ≡ ones_of s' → BitsWritten r s (Ok n) s'
   unfolding bitmap_reply bytes_after
-  written s' n h e c = (rw (h, ← e, c), rw h e)
+  written s' n h e c = record { said = rw (h, ← e, c) refl; bytes = rw h e }

@@ -10,6 +10,7 @@ use lib.Bits.{bit_or, or_step, or_zero_r}
 use lib.Count.{ones, ones_step}
 use lib.Dec.{eqb}
 use lib.ListN.{length, get_or, set}
+use Rattle.std.proofs.lemmas.List.Sums.{sum_by-cons}
 use Rattle.types.specs.Pick.{pick}
 use Rattle.bitmap.specs.Bitmap.{lowest_first, is_set, ones_of}
 
@@ -97,5 +98,6 @@ one_more_lem (b ∷ bs) (suc j) h e =
 pub ones_more :
     (s : List ℕ) (i x : ℕ) → i < length s → ones x ≡ suc (ones (get_or s i 0)) → ones_of (set s i x) ≡ suc (ones_of s)
 ones_more [] i x h e = absurd (omega arith)
-ones_more (b ∷ bs) zero x h e = omega arith
-ones_more (b ∷ bs) (suc i) x h e = let more = ones_more bs i x (omega arith) e in omega arith
+ones_more (b ∷ bs) zero x h e = sum_by-cons ones x bs ∙ omega (arith, e, sum_by-cons ones b bs)
+ones_more (b ∷ bs) (suc i) x h e =
+    sum_by-cons ones b (set bs i x) ∙ omega (arith, ones_more bs i x (omega arith) e, sum_by-cons ones b bs)

@@ -1,4 +1,5 @@
-// The page docs/TRANSITIONS.md, written from the NMT table: a chart for each state, and a picture of the moves; and a picture of the positions that a head can reach.
+//! Writes the page docs/TRANSITIONS.md from the NMT machine's table: a picture of the moves, one of
+//! the positions that a head can reach, and a chart for each state.
 #![tactic(auto)]
 
 ghost use Rattle.std.specs.Prelude.{◌≡◌, true, false};
@@ -18,7 +19,7 @@ use types::nmt::flags::FeatureFlags;
 use types::nmt::states::NmtState;
 use types::types::NodeId;
 
-// A state by its name. An event's name is that of its variant, which `{:?}` prints.
+// A state that is printed by its name. An event's name is that of its variant, which `{:?}` prints.
 #[derive(Clone, Copy)]
 struct Name(NmtState);
 
@@ -41,7 +42,7 @@ impl Display for Name {
     }
 }
 
-// A transition by its number, NMT_CT; the comments of the original do not name one of each.
+// A transition by its number in NMT_CT; the original's comments do not name one for each.
 #[derive(Clone, Copy)]
 struct Transition(Option<u8>);
 
@@ -87,6 +88,7 @@ impl Display for Transition {
     }
 }
 
+// What becomes of a flag, where it changes.
 fn say_change(out: &mut Output, name: &str, before: bool, after: bool) {
     match (before, after) {
         (false, true) => write!(out, ", sets {name}"),
@@ -95,7 +97,8 @@ fn say_change(out: &mut Output, name: &str, before: bool, after: bool) {
     }
 }
 
-// Where the entry leads, and what it does to enabled and ready. A reset enters NotActive from there too.
+// Where the entry leads, and what it does to enabled and ready. A reset enters NotActive in
+// NotActive too.
 fn say_cell(out: &mut Output, from: Position, event: NmtEvent) {
     let to = chosen(from.state, event, from.enabled, from.ready).position;
     if to.state == from.state && !is_reset(event) {
@@ -107,6 +110,7 @@ fn say_cell(out: &mut Output, from: Position, event: NmtEvent) {
     say_change(out, "ready", from.ready, to.ready);
 }
 
+// A row of a state's chart.
 fn say_row(out: &mut Output, state: NmtState, event: NmtEvent) {
     write!(out, "| {event:?}");
     for enabled in [false, true] {
@@ -129,6 +133,7 @@ fn is_unexpected(state: NmtState, event: NmtEvent) -> bool
     chosen(state, event, false, false).unexpected
 }
 
+// A state's chart, and the events that have no row.
 fn print_state(out: &mut Output, state: NmtState) {
     write!(
         out,
@@ -205,7 +210,7 @@ fn print_moves(out: &mut Output) {
     }
 }
 
-// What a machine has besides its position chooses nothing.
+// A machine at a position; no move depends on its node, flags and timeout.
 fn machine_at(position: Position) -> CnNmtStateMachine
     ensures { result ≡ standing position.state position.enabled position.ready }
 {
@@ -228,7 +233,7 @@ impl Display for Step {
     }
 }
 
-// The machine after a step of a head, which is asked of the node itself. One that is refused leaves it.
+// The machine after a step of a head, by the node's own call; one that is refused leaves it.
 fn after_step(machine: CnNmtStateMachine, step: Step) -> CnNmtStateMachine {
     let mut head = [0; 60];
     set_nmt(&mut head, machine);

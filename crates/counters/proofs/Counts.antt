@@ -1,5 +1,5 @@
--- The counts of a counter that stop at the 32-bit top: while below it, a call raises the cumulative count of a kind by the errors given to it, and the count of
--- crossings by its crossings.
+-- The counts of a counter that stop at the 32-bit top: while below it, a call raises the cumulative
+-- count of a kind by the errors given to it, and the count of crossings by its crossings.
 -- Assumes nothing.
 use Prim.Native.Nat.{ℕ, ◌+◌, ◌<◌}
 use mathlib.Core.Path.{◌≡◌, refl}
@@ -45,7 +45,8 @@ counted_counters j s e false = refl
 abbrev marks_of : CounterKind → Bool → List Mark
 marks_of k crosses = given k ∷ pick crosses (crossed k ∷ []) []
 
--- A count in a counter, and the marks that raise it: an error raises that of its own kind by its marks, a cycle raises none.
+-- A count in a counter, and the marks that raise it: an error raises that of its own kind by its
+-- marks, a cycle raises none.
 pub record Count : Type 0 where
   pub read : ThresholdCounter → ℕ
   pub of_kind : CounterKind → Mark → Bool
@@ -167,7 +168,8 @@ crossing_count =
     others j k h true = rw h
     others j k h false = refl
 
--- The counters' share of a call that takes them from s to s' with the marks ms: of each kind, the balance, the cumulative count and the count of crossings.
+-- The counters' share of a call that takes them from s to s' with the marks ms: of each kind, the
+-- balance, the cumulative count and the count of crossings.
 pub record Counting (s : CnErrorCounters) (ms : List Mark) (s' : CnErrorCounters) : Type 0 where
   pub balance : (T : ℕ) (k : CounterKind) → threshold_of k s ≡ T → Balanced T k (counter k s) ms (counter k s')
   pub count : (x : Count) (k : CounterKind) → Rises (x.read (counter k s)) (count_of (x.of_kind k) ms) (x.read (counter k s'))

@@ -1,4 +1,4 @@
--- The worked examples of document 01 that concern the counters alone, computed.
+-- Examples of the counters alone (RULES 11.4, the sixth and the seventh), computed.
 -- Assumes nothing.
 use mathlib.Core.Path.{◌≡◌, refl}
 use mathlib.Core.Bool.{true, false}
@@ -9,7 +9,7 @@ use Rattle.counters.specs.Marks.{CounterCall, handle_error, on_cycle_complete, a
 use Rattle.counters.specs.declared.counters.CounterKind.TheVariants.{LossOfSoc}
 use Rattle.counters.specs.declared.counters.CnErrorCounters.{CnErrorCounters}
 
--- "threshold 15"
+-- every threshold is 15
 abbrev fifteen : CnErrorCounters
 fifteen = new_counters (same_for_all 15)
 
@@ -35,7 +35,7 @@ two_between_lem :
 unfolding replaced after_error counted_error handled lowered completed
 two_between_lem = refl
 
--- document 02, No. 3: both counts stop at the 32-bit top; a counter one below it, and at it, after an error that crosses
+-- both counts stop at 2^32 - 1: a counter one below it, and at it, after an error that crosses
 near_the_top : after_error (counter_of 4294967294 8 15 4294967294) ≡ record { counter = counter_of 4294967295 0 15 4294967295; reached = true }
 unfolding after_error
 near_the_top = refl
@@ -44,7 +44,8 @@ at_the_top : after_error (counter_of 4294967295 8 15 4294967295) ≡ record { co
 unfolding after_error
 at_the_top = refl
 
--- document 02, No. 6: "A threshold of 0 never crosses, .. and its level stops at the 32-bit top": a level of 4294967290 after an error, and then after a cycle
+-- a threshold of 0 never crosses, and its level stops at 2^32 - 1: a level of 4294967290 after an
+-- error, and then after a cycle
 at_zero : after_error (counter_of 0 4294967290 0 0) ≡ record { counter = counter_of 1 4294967295 0 0; reached = false }
 unfolding after_error
 at_zero = refl

@@ -1,4 +1,5 @@
--- The error counters of a controlled node, by document 01, 'Counters', as document 02, No. 3 and No. 6 amend it: their words, in their order, stand above the definitions.
+-- The error counters of a controlled node (RULES 6.1 to 6.6): what errors and completed cycles make
+-- of them, and what they answer.
 -- Assumes nothing.
 use Rattle.std.specs.Prelude.{ℕ, ◌+◌, ◌-◌, min, Bool, true, false, not, List, [], ◌∷◌, eqb, leb, ltb}
 use Rattle.types.specs.Pick.{pick, both, all_of, any_of}
@@ -17,7 +18,7 @@ use Rattle.counters.specs.declared.counters.ErrorTaken.{ErrorTaken}
 use Rattle.counters.specs.declared.counters.ErrorEffect.{ErrorEffect}
 use Rattle.counters.specs.declared.counters.ErrorEffect.TheVariants as an-effect
 
--- "Seven kinds", each with a counter
+-- the seven kinds that have a counter, in the order in which thresholds are given
 abbrev pub counter_kinds : List CounterKind
 counter_kinds = Collision ∷ LossOfSoc ∷ LossOfSoa ∷ LossOfPreq ∷ SoCJitter ∷ Crc ∷ HeartbeatTimeout ∷ []
 
@@ -31,10 +32,11 @@ place SoCJitter = 4
 place Crc = 5
 place HeartbeatTimeout = 6
 
+-- two kinds are the same
 abbrev pub same_kind : CounterKind → CounterKind → Bool
 same_kind j k = eqb (place j) (place k)
 
--- that of a kind, of something for each
+-- the value of a kind, among values for each kind
 abbrev pub of_kind : {T : Type 0} → CounterKind → ByKind T → T
 of_kind Collision s = s.collision
 of_kind LossOfSoc s = s.loss_of_soc
@@ -44,7 +46,7 @@ of_kind SoCJitter s = s.soc_jitter
 of_kind Crc s = s.crc_errors
 of_kind HeartbeatTimeout s = s.heartbeat_timeout
 
--- f k for each kind k
+-- the value f k for each kind k
 abbrev pub for_each : {T : Type 0} → (CounterKind → T) → ByKind T
 for_each f =
     record {
@@ -57,10 +59,11 @@ for_each f =
       heartbeat_timeout = f HeartbeatTimeout;
     }
 
+-- the counter of a kind
 abbrev pub counter : CounterKind → CnErrorCounters → ThresholdCounter
 counter k s = of_kind k s.counters
 
--- the counters of which that of kind k is f k, and a count of lost links
+-- counters of which that of kind k is f k, with a count of lost links
 abbrev pub by_kind : (CounterKind → ThresholdCounter) → ℕ → CnErrorCounters
 by_kind f links = record { counters = for_each f; loss_of_link_cumulative = links }
 
@@ -69,43 +72,45 @@ unfoldable pub replaced : CounterKind → ThresholdCounter → CnErrorCounters �
 replaced k c s =
     by_kind (λ (j : CounterKind). pick (same_kind k j) c (counter j s)) s.loss_of_link_cumulative
 
--- a counter: its cumulative count, its level, its threshold, its count of crossings
+-- a counter by its cumulative count, its level, its threshold and its count of crossings
 abbrev pub counter_of : ℕ → ℕ → ℕ → ℕ → ThresholdCounter
 counter_of n l t x = record { cumulative_cnt = n; threshold_cnt = l; threshold = t; crossings_cnt = x }
 
+-- a new counter with a threshold
 abbrev pub new_counter : ℕ → ThresholdCounter
 new_counter t = counter_of 0 0 t 0
 
--- No. 6: "Each of the seven thresholds becomes part of the head, given at start"
+-- a threshold for each kind
 abbrev pub Thresholds : Type 0
 Thresholds = ByKind ℕ
 
 abbrev pub threshold_for : CounterKind → Thresholds → ℕ
 threshold_for k t = of_kind k t
 
+-- new counters with these thresholds
 abbrev pub new_counters : Thresholds → CnErrorCounters
 new_counters t = by_kind (λ (k : CounterKind). new_counter (threshold_for k t)) 0
 
--- one for all kinds, as document 01's "threshold 15"
+-- one threshold for all kinds
 abbrev pub same_for_all : ℕ → Thresholds
 same_for_all n = for_each (λ (k : CounterKind). n)
 
--- "0 to 1,000,000"
+-- each threshold is at most 1,000,000
 unfoldable pub thresholds_fit : Thresholds → Bool
 thresholds_fit t = all_of (λ (k : CounterKind). leb (threshold_for k t) 1000000) counter_kinds
 
--- the 32-bit top, and a sum that stops there
+-- 2^32 - 1, and a sum that stops there
 abbrev pub top : ℕ
 top = 4294967295
 
 abbrev pub add_top : ℕ → ℕ → ℕ
 add_top a b = min (a + b) top
 
--- "An error adds 8"; No. 3: "the cumulative count now rises by 1 at every counted error and stops at the top"
+-- an error raises the cumulative count by 1 and the level by 8; both stop at the top
 abbrev pub incremented : ThresholdCounter → ThresholdCounter
 incremented c = counter_of (add_top c.cumulative_cnt 1) (add_top c.threshold_cnt 8) c.threshold c.crossings_cnt
 
--- "at 15 or more": at the threshold or more; a threshold of 0 is never reached
+-- the level is at the threshold or above; a threshold of 0 is never reached
 abbrev pub reaches : ThresholdCounter → Bool
 reaches c = both (ltb 0 c.threshold) (leb c.threshold c.threshold_cnt)
 
@@ -114,29 +119,30 @@ pub record ThresholdCheck : Type 0 where
   pub counter : ThresholdCounter
   pub reached : Bool
 
--- "the level drops to 0"; No. 3: "Crossings get a count of their own", which stops at the 32-bit top too
+-- at a crossing the level drops to 0 and the count of crossings rises by 1, up to the top
 abbrev pub after_check : ThresholdCounter → ThresholdCheck
 after_check c =
     pick (reaches c)
     (record { counter = counter_of c.cumulative_cnt 0 c.threshold (add_top c.crossings_cnt 1); reached = true })
     (record { counter = c; reached = false })
 
--- the counters after an error, and its answer: what NMT is asked for, whether the error status changed, and what goes to the handler
+-- the counters after an error, and its answer: the action that the NMT machine is asked for,
+-- whether the error is signalled, and what is logged
 pub record HandledError : Type 0 where
   pub counters : CnErrorCounters
   pub action : NmtAction
   pub signal : Bool
   pub logged : DllErrors
 
--- an error's answer without the counters
+-- the answer without the counters
 abbrev pub replied : HandledError → ErrorTaken
 replied r = record { action = r.action; signal = r.signal; logged = r.logged }
 
--- "and ResetCommunication is asked for"; "A crossing is logged and signals too."
+-- a crossing asks for ResetCommunication, and is signalled and logged
 abbrev pub crossed_answer : CnErrorCounters → DllError → HandledError
 crossed_answer s e = record { counters = s; action = action.ResetCommunication; signal = true; logged = errors.One e }
 
--- nothing is asked for, signalled or logged
+-- no action, no signal, nothing logged
 abbrev pub unsignalled : CnErrorCounters → HandledError
 unsignalled s = record { counters = s; action = action.None; signal = false; logged = errors.None }
 
@@ -144,23 +150,26 @@ unsignalled s = record { counters = s; action = action.None; signal = false; log
 unfoldable pub after_error : ThresholdCounter → ThresholdCheck
 after_error c = after_check (incremented c)
 
--- an error e that counts for kind k: given to the counter of that kind, with the answer for a crossing or for none
+-- the counters after an error was given to that of kind k, and its answer: a crossing, or nothing
 abbrev pub raised : CounterKind → CnErrorCounters → CnErrorCounters
 raised k s = replaced k (after_error (counter k s)).counter s
 
 unfoldable pub counted_error : CounterKind → CnErrorCounters → DllError → HandledError
 counted_error k s e = pick (after_error (counter k s)).reached (crossed_answer (raised k s) e) (unsignalled (raised k s))
 
--- "A completed cycle takes 1 from each level above 0"
+-- a completed cycle takes 1 from a level above 0
 abbrev pub decremented : ThresholdCounter → ThresholdCounter
 decremented c = counter_of c.cumulative_cnt (c.threshold_cnt - 1) c.threshold c.crossings_cnt
 
+-- the counters after a completed cycle, which takes 1 from each level above 0
 unfoldable pub lowered : CnErrorCounters → CnErrorCounters
 lowered s = by_kind (λ (k : CounterKind). decremented (counter k s)) s.loss_of_link_cumulative
 
+-- the level is above 0
 abbrev pub active : ThresholdCounter → Bool
 active c = ltb 0 c.threshold_cnt
 
+-- the level of some kind is above 0
 unfoldable pub any_active : CnErrorCounters → Bool
 any_active s = any_of (λ (k : CounterKind). active (counter k s)) counter_kinds
 
@@ -169,26 +178,27 @@ pub record CompletedCycle : Type 0 where
   pub counters : CnErrorCounters
   pub cleared : Bool
 
--- "It answers yes when the last level reaches 0": one was above 0, and none is any more
+-- a completed cycle clears the last level where one was above 0 and none is after it
 unfoldable pub completed : CnErrorCounters → CompletedCycle
 completed s = record { counters = lowered s; cleared = both (any_active s) (not (any_active (lowered s))) }
 
--- "LossOfLink adds 1 to a count of its own, which stops at the 32-bit top; it and the two PDO errors are logged and
--- signal, without an action."
+-- a LossOfLink raises the count of lost links by 1, up to the top
 abbrev pub link_lost : CnErrorCounters → CnErrorCounters
 link_lost s = by_kind (λ (k : CounterKind). counter k s) (add_top s.loss_of_link_cumulative 1)
 
+-- signalled and logged, without an action: LossOfLink and the two PDO errors
 abbrev pub signalled_answer : CnErrorCounters → DllError → HandledError
 signalled_answer s e = record { counters = s; action = action.None; signal = true; logged = errors.One e }
 
--- what an error does: it counts for a kind, it is a lost link, it is only logged, or it changes nothing
+-- what an error does: it goes to the counter of a kind, it is a lost link, it is only signalled and
+-- logged, or it changes nothing
 pub data Effect : Type 0 where
   counts : CounterKind → Effect
   loses_link : Effect
   is_logged : Effect
   nothing : Effect
 
--- "The other kinds change nothing."
+-- what an error of each kind does
 abbrev pub effect : DllError → Effect
 effect error.LossOfLink = loses_link
 effect error.BadPhysicalMode = nothing
@@ -213,18 +223,20 @@ effect (error.PdoMapVersion n) = is_logged
 effect (error.PdoPayloadShort n) = is_logged
 effect (error.HeartbeatTimeout n) = counts HeartbeatTimeout
 
--- of what `effect_of` answers
+-- the effect that the function `effect_of` answers
 abbrev pub effect_of : ErrorEffect → Effect
 effect_of (an-effect.Counts k) = counts k
 effect_of an-effect.LosesLink = loses_link
 effect_of an-effect.IsLogged = is_logged
 effect_of an-effect.Nothing = nothing
 
+-- what an error with an effect leaves and answers
 abbrev pub handled_as : Effect → CnErrorCounters → DllError → HandledError
 handled_as (counts k) s e = counted_error k s e
 handled_as loses_link s e = signalled_answer (link_lost s) e
 handled_as is_logged s e = signalled_answer s e
 handled_as nothing s e = unsignalled s
 
+-- the counters after an error was given to them, and its answer
 unfoldable pub handled : CnErrorCounters → DllError → HandledError
 handled s e = handled_as (effect e) s e

@@ -1,4 +1,5 @@
--- What E, N and D count. Each call on the counters leaves marks, each of a kind; E, N and D count them in a list of marks.
+-- What E, N and D of RULES 10.3 count. Each call on the counters leaves marks, each of a kind; E, N
+-- and D count them in a list of marks.
 -- Assumes nothing.
 use Rattle.std.specs.Prelude.{ℕ, ◌+◌, Bool, true, false, List, [], ◌∷◌, ◌++◌}
 use Rattle.types.specs.Pick.{pick}
@@ -7,18 +8,21 @@ use Rattle.counters.specs.Counters.{counter_kinds, same_kind, counter, active, a
 use Rattle.counters.specs.declared.counters.CounterKind.{CounterKind}
 use Rattle.counters.specs.declared.counters.CnErrorCounters.{CnErrorCounters}
 
+-- the level and the threshold of a kind
 abbrev pub level : CounterKind → CnErrorCounters → ℕ
 level k s = (counter k s).threshold_cnt
 
 abbrev pub threshold_of : CounterKind → CnErrorCounters → ℕ
 threshold_of k s = (counter k s).threshold
 
--- of a kind: an error was given to its counter; its counter reached the threshold; a completed cycle took 1 from its level
+-- a mark of a kind: an error was given to its counter, its counter reached the threshold, or a
+-- completed cycle took 1 from its level
 pub data Mark : Type 0 where
   given : CounterKind → Mark
   crossed : CounterKind → Mark
   drained : CounterKind → Mark
 
+-- a mark of each sort, of kind k
 abbrev pub is_given : CounterKind → Mark → Bool
 is_given k (given j) = same_kind j k
 is_given k (crossed j) = false
@@ -34,7 +38,7 @@ is_drained k (given j) = false
 is_drained k (crossed j) = false
 is_drained k (drained j) = same_kind j k
 
--- of whatever kind
+-- a crossing, of any kind
 abbrev pub is_crossing : Mark → Bool
 is_crossing (given j) = false
 is_crossing (crossed j) = true
@@ -45,19 +49,19 @@ abbrev pub count_of : {A : Type 0} → (A → Bool) → List A → ℕ
 count_of p [] = 0
 count_of p (x ∷ xs) = pick (p x) 1 0 + count_of p xs
 
--- "E counts a kind's errors given to its counter"
+-- E: the errors that were given to the counter of kind k
 abbrev pub E : CounterKind → List Mark → ℕ
 E k ms = count_of (is_given k) ms
 
--- "N, the crossings, those reaching the threshold"
+-- N: its crossings
 abbrev pub N : CounterKind → List Mark → ℕ
 N k ms = count_of (is_crossed k) ms
 
--- "A completed cycle takes 1 from each level above 0; D counts these per kind."
+-- D: the completed cycles that took 1 from its level
 abbrev pub D : CounterKind → List Mark → ℕ
 D k ms = count_of (is_drained k) ms
 
--- an error reaches the threshold of its kind
+-- an error crosses: it reaches the threshold of its kind
 abbrev pub effect_crosses : Effect → CnErrorCounters → Bool
 effect_crosses (counts k) s = (after_error (counter k s)).reached
 effect_crosses loses_link s = false
@@ -67,7 +71,8 @@ effect_crosses nothing s = false
 unfoldable pub crosses : CnErrorCounters → DllError → Bool
 crosses s e = effect_crosses (effect e) s
 
--- the marks of an error: that it was given to the counter of its kind, and whether that crossed; none where it does not count
+-- the marks of an error: that it was given to the counter of its kind and, where that crossed, the
+-- crossing; none where its kind has no counter
 abbrev pub effect_marks : Effect → CnErrorCounters → List Mark
 effect_marks (counts k) s = given k ∷ pick (after_error (counter k s)).reached (crossed k ∷ []) []
 effect_marks loses_link s = []
@@ -85,7 +90,8 @@ drained_of (k ∷ ks) s = pick (active (counter k s)) (drained k ∷ []) [] ++ d
 unfoldable pub cycle_marks : CnErrorCounters → List Mark
 cycle_marks s = drained_of counter_kinds s
 
--- a call on the counters, and what a list of calls leaves: the counters, and the marks
+-- a call on the counters; the counters and the marks that a call leaves, and those of a list of
+-- calls
 pub data CounterCall : Type 0 where
   handle_error : DllError → CounterCall
   on_cycle_complete : CounterCall

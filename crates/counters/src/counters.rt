@@ -1,22 +1,31 @@
-// The threshold counters (EPSG DS 301, Section 4.7.4.1) and those of a controlled node (Section 4.7.8).
+//! The threshold counters (EPSG DS 301, Section 4.7.4.1) and those of a controlled node
+//! (Section 4.7.8). Counts and levels have 32 bits and stop at 2^32 - 1.
 ghost use Rattle.std.specs.Prelude.{◌≡◌, true, false, map};
 ghost use Rattle.types.specs.Pick.{pick};
-ghost use Rattle.counters.specs.Counters.{new_counter, incremented, decremented, after_check, after_error, active, new_counters, of_kind, counter_kinds, replaced, replied, counted_error, effect, effect_of, handled, lowered, any_active, completed, same_for_all, thresholds_fit};
+ghost use Rattle.counters.specs.Counters.{new_counter, incremented, decremented, active};
+ghost use Rattle.counters.specs.Counters.{after_check, after_error};
+ghost use Rattle.counters.specs.Counters.{of_kind, counter_kinds, same_for_all, thresholds_fit};
+ghost use Rattle.counters.specs.Counters.{new_counters, replaced, replied, counted_error};
+ghost use Rattle.counters.specs.Counters.{effect, effect_of, handled};
+ghost use Rattle.counters.specs.Counters.{lowered, any_active, completed};
 
 use types::frame::error::types::{DllError, DllErrors, NmtAction};
 
-// A level that an error raises by 8 and an error-free cycle lowers by 1, and its threshold.
+/// A threshold counter: an error raises its level by 8, a completed cycle lowers it by 1.
 #[derive(Clone, Copy, PartialEq, Eq)]
 pub struct ThresholdCounter {
-    // How many errors there were.
+    /// How many errors were given to the counter.
     pub cumulative_cnt: u32,
+    /// The level.
     pub threshold_cnt: u32,
+    /// The level that is a crossing; 0 never crosses.
     pub threshold: u32,
-    // How often the threshold was reached.
+    /// How often the threshold was reached.
     pub crossings_cnt: u32,
 }
 
 impl ThresholdCounter {
+    /// A counter with this threshold and all else 0.
     pub fn new(threshold: u32) -> Self
         ensures { result ≡ new_counter threshold }
     {
@@ -28,6 +37,7 @@ impl ThresholdCounter {
         }
     }
 
+    /// Counts an error: the cumulative count rises by 1 and the level by 8.
     pub fn increment(&mut self)
         ensures { self.new ≡ incremented self.old }
     {
@@ -35,13 +45,15 @@ impl ThresholdCounter {
         self.threshold_cnt = self.threshold_cnt.saturating_add(8);
     }
 
+    /// A completed cycle: takes 1 from a level above 0.
     pub fn decrement(&mut self)
         ensures { self.new ≡ decremented self.old }
     {
         self.threshold_cnt = self.threshold_cnt.saturating_sub(1);
     }
 
-    // Whether the threshold was reached; the level is 0 then. A threshold of 0 is never reached.
+    /// Whether the level has reached the threshold, which one of 0 never has. Then the level drops
+    /// to 0 and the count of crossings rises by 1.
     pub fn check_and_reset(&mut self) -> bool
         ensures counter { self.new ≡ (after_check self.old).counter }
         ensures reached { result ≡ (after_check self.old).reached }
@@ -54,7 +66,7 @@ impl ThresholdCounter {
         reached
     }
 
-    // An error that counts: the level rises, and is checked.
+    /// Counts an error and checks the level: whether it crossed (RULES 6.2, 6.3).
     #[tactic(auto, unfolding(crate::specs::Counters::after_error))]
     pub fn count_error(&mut self) -> bool
         ensures counter { self.new ≡ (after_error self.old).counter }
@@ -64,12 +76,14 @@ impl ThresholdCounter {
         self.check_and_reset()
     }
 
+    /// Whether the level is above 0.
     pub fn is_active(self) -> bool
         ensures { result ≡ active self }
     {
         0 < self.threshold_cnt
     }
 
+    /// How many errors were given to the counter.
     pub fn cumulative_count(self) -> u32
         ensures { result ≡ self.cumulative_cnt }
     {
@@ -77,7 +91,7 @@ impl ThresholdCounter {
     }
 }
 
-// The kinds of error that have a threshold counter, in the order of the counters.
+/// The kinds of error that have a threshold counter, in the order in which thresholds are given.
 #[derive(Clone, Copy, PartialEq, Eq)]
 pub enum CounterKind {
     Collision,
@@ -89,15 +103,20 @@ pub enum CounterKind {
     HeartbeatTimeout,
 }
 
-// What an error does to the counters.
+/// What an error does to the counters (RULES 6.3, 6.5).
 #[derive(Clone, Copy, PartialEq, Eq)]
 pub enum ErrorEffect {
+    /// It goes to the counter of its kind.
     Counts(CounterKind),
+    /// It raises the count of lost links, is logged and signalled.
     LosesLink,
+    /// It is logged and signalled, and no count rises.
     IsLogged,
+    /// It changes nothing.
     Nothing,
 }
 
+/// What an error does to the counters.
 pub fn effect_of(error: DllError) -> ErrorEffect
     ensures { effect_of result ≡ effect error }
 {
@@ -111,12 +130,12 @@ pub fn effect_of(error: DllError) -> ErrorEffect
         DllError::HeartbeatTimeout { .. } => ErrorEffect::Counts(CounterKind::HeartbeatTimeout),
         DllError::LossOfLink => ErrorEffect::LosesLink,
         DllError::PdoMapVersion { .. } | DllError::PdoPayloadShort { .. } => ErrorEffect::IsLogged,
-        // Errors of a managing node, and those that no counter has.
+        // Errors of a managing node, and those that have no counter.
         _ => ErrorEffect::Nothing,
     }
 }
 
-// Something for each kind of counter.
+/// A value for each kind that has a counter.
 #[derive(Clone, Copy, PartialEq, Eq)]
 pub struct ByKind<T> {
     pub collision: T,
@@ -129,7 +148,7 @@ pub struct ByKind<T> {
 }
 
 impl<T: Copy> ByKind<T> {
-    // For each kind what `of` gives for it.
+    /// For each kind the value that `of` gives for it.
     pub fn new<F: Fn(CounterKind) -> T>(of: F) -> Self
         requires { F.IsAlwaysCallable of }
         ensures { (k : CounterKind) → F.post of k (of_kind k result) }
@@ -145,7 +164,7 @@ impl<T: Copy> ByKind<T> {
         }
     }
 
-    // That of a kind.
+    /// The value of a kind.
     pub fn of(self, kind: CounterKind) -> T
         ensures { result ≡ of_kind kind self }
     {
@@ -160,7 +179,7 @@ impl<T: Copy> ByKind<T> {
         }
     }
 
-    // Those of the seven kinds, in their order.
+    /// The values of the seven kinds, in their order.
     pub fn each(self) -> [T; 7]
         ensures { result ≡ map (λ k. of_kind k self) counter_kinds }
     {
@@ -176,17 +195,18 @@ impl<T: Copy> ByKind<T> {
     }
 }
 
-// The thresholds of the seven counters. One of 0 is never reached.
+/// The thresholds of the seven counters, each 0 to 1,000,000; one of 0 is never reached.
 pub type Thresholds = ByKind<u32>;
 
 impl ByKind<u32> {
-    // One for all kinds; in the Rust it is 15.
+    /// The same threshold for all kinds; the original has 15.
     pub fn same_for_all(threshold: u32) -> Self
         ensures { result ≡ same_for_all threshold }
     {
         Self::new(|_| threshold)
     }
 
+    /// Whether each threshold is at most 1,000,000.
     #[tactic(auto, unfolding(crate::specs::Counters::thresholds_fit))]
     pub fn is_within_limit(self) -> bool
         ensures { result ≡ thresholds_fit self }
@@ -195,27 +215,30 @@ impl ByKind<u32> {
     }
 }
 
-// The DLL error counters of a controlled node.
+/// The error counters of a controlled node.
 #[derive(Clone, Copy, PartialEq, Eq)]
 pub struct CnErrorCounters {
     pub counters: ByKind<ThresholdCounter>,
-    // Never reset.
+    /// How many links were lost; nothing sets it back.
     pub loss_of_link_cumulative: u32,
 }
 
-// What document 01 says that an error answers: what NMT is asked for, whether the error status changed, and what goes to
-// the handler. The three are read apart, so they are no enum.
+/// What an error answers. Callers read the three apart, so this is no enum.
 #[derive(Clone, Copy, PartialEq, Eq)]
 pub struct ErrorTaken {
+    /// What the NMT machine is asked to do: nothing, or ResetCommunication.
     pub action: NmtAction,
+    /// Whether the error is signalled; what a tick does then, RULES 7.9 says.
     pub signal: bool,
+    /// The error, where it is logged.
     pub logged: DllErrors,
 }
 
 impl ErrorTaken {
-    // Nothing is asked for, signalled or logged.
+    /// No action, no signal, nothing logged.
     pub fn unsignalled() -> Self
-        ensures { result ≡ record { action = NmtAction.None; signal = false; logged = DllErrors.None } }
+        ensures { result ≡
+            record { action = NmtAction.None; signal = false; logged = DllErrors.None } }
     {
         Self {
             action: NmtAction::None,
@@ -224,7 +247,7 @@ impl ErrorTaken {
         }
     }
 
-    // The error is logged and signals.
+    /// This action; the error is signalled and logged.
     pub fn signalled(action: NmtAction, error: DllError) -> Self
         ensures { result ≡ record { action = action; signal = true; logged = DllErrors.One error } }
     {
@@ -235,9 +258,15 @@ impl ErrorTaken {
         }
     }
 
-    // The error counted: only a crossing asks for a reset, signals and is logged.
+    /// The answer to an error that was counted: only a crossing asks for ResetCommunication, is
+    /// signalled and logged.
     pub fn counted(crossed: bool, error: DllError) -> Self
-        ensures { result ≡ record { action = pick crossed NmtAction.ResetCommunication NmtAction.None; signal = crossed; logged = pick crossed (DllErrors.One error) DllErrors.None } }
+        ensures { result ≡
+            record {
+              action = pick crossed NmtAction.ResetCommunication NmtAction.None;
+              signal = crossed;
+              logged = pick crossed (DllErrors.One error) DllErrors.None;
+            } }
     {
         if crossed {
             Self::signalled(NmtAction::ResetCommunication, error)
@@ -248,6 +277,7 @@ impl ErrorTaken {
 }
 
 impl CnErrorCounters {
+    /// Counters with these thresholds, and all levels and counts 0.
     pub fn new(thresholds: Thresholds) -> Self
         ensures { result ≡ new_counters thresholds }
     {
@@ -257,7 +287,7 @@ impl CnErrorCounters {
         }
     }
 
-    // That of a kind is replaced.
+    // Replaces the counter of a kind.
     #[tactic(auto, unfolding(crate::specs::Counters::replaced))]
     fn replace(&mut self, kind: CounterKind, by: ThresholdCounter)
         ensures { self.new ≡ replaced kind by self.old }
@@ -266,7 +296,7 @@ impl CnErrorCounters {
         self.counters = ByKind::new(|k| if k == kind { by } else { before.of(k) });
     }
 
-    // An error that counts for a kind. A crossing asks for a reset, signals and is logged.
+    // Gives an error to the counter of a kind.
     #[tactic(auto, unfolding(crate::specs::Counters::counted_error))]
     fn count(&mut self, kind: CounterKind, error: DllError) -> ErrorTaken
         ensures counters { self.new ≡ (counted_error kind self.old error).counters }
@@ -278,6 +308,8 @@ impl CnErrorCounters {
         ErrorTaken::counted(reached, error)
     }
 
+    /// Takes an error, and says whether it asks for an action, is signalled and is logged
+    /// (RULES 6.2 to 6.6). A kind without a counter of its own is handled as RULES 6.5 says.
     #[tactic(auto, unfolding(crate::specs::Counters::handled))]
     pub fn handle_error(&mut self, error: DllError) -> ErrorTaken
         ensures counters { self.new ≡ (handled self.old error).counters }
@@ -294,7 +326,7 @@ impl CnErrorCounters {
         }
     }
 
-    // Each level above 0 lowered by 1.
+    // Takes 1 from each level above 0.
     #[tactic(auto, unfolding(crate::specs::Counters::lowered))]
     fn decrement(&mut self)
         ensures { self.new ≡ lowered self.old }
@@ -307,7 +339,7 @@ impl CnErrorCounters {
         });
     }
 
-    // Field by field: all levels are tested without a jump.
+    // Whether a level is above 0. Field by field, so that all are tested without a jump.
     #[tactic(auto, unfolding(crate::specs::Counters::any_active))]
     fn is_any_active(self) -> bool
         ensures { result ≡ any_active self }
@@ -321,7 +353,8 @@ impl CnErrorCounters {
             || self.counters.heartbeat_timeout.is_active()
     }
 
-    // Whether it cleared the last level.
+    /// A completed cycle takes 1 from each level above 0. Answers whether one was above 0 before
+    /// and none is after (RULES 6.4).
     #[tactic(auto, unfolding(crate::specs::Counters::completed))]
     pub fn on_cycle_complete(&mut self) -> bool
         ensures counters { self.new ≡ (completed self.old).counters }

@@ -1,5 +1,6 @@
-// The error counters at a sequence of errors and completed cycles: the answer to each call, with the levels, the counts of errors
-// and of crossings after it, one form a line. The stored output was printed by the Rust (compare/), so a run shows that both agree.
+//! Gives the error counters 2000 errors and completed cycles and prints, one form a line, the
+//! answer to each, with the levels, the counts of errors and of crossings after it. The stored
+//! output was printed by the original Rust (compare/), so a run shows that both agree.
 #![tactic(auto)]
 
 ghost use Rattle.std.specs.Prelude.{◌≡◌};
@@ -57,8 +58,8 @@ fn print_cycle(out: &mut Output, counters: &mut CnErrorCounters) {
     say_counters(out, *counters);
 }
 
-// A number below 22 is an error of that kind; a third of the calls complete a cycle, so that levels both cross the threshold and
-// come down to 0.
+// A number below 22 is an error of that kind; the others, a third of the calls, complete a cycle,
+// so that levels both cross the threshold and come down to 0.
 fn print_call(out: &mut Output, counters: &mut CnErrorCounters, number: u64) {
     // Kind 18, UnexpectedEventInState, carries a state and an event, others a node or nothing.
     let carried = if number == 18 { 0x6D } else { 17 };

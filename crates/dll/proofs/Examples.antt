@@ -1,4 +1,4 @@
--- Document 01's worked example of a DLL event.
+-- An example of a DLL event (RULES 11.4, the fifth).
 -- Assumes nothing.
 use mathlib.Core.Path.{◌≡◌, refl}
 use mathlib.Core.List.{[], ◌∷◌}

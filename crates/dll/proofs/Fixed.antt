@@ -1,4 +1,5 @@
--- The outcome that the contract speaks of fixes the whole answer: no two answers have the same outcome.
+-- The outcome that the contract speaks of fixes the whole answer: no two answers have the same
+-- outcome.
 -- Assumes nothing.
 use mathlib.Core.Path.{◌≡◌, ap}
 use Rattle.types.proofs.Reported.{reported_fixes}

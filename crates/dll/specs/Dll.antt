@@ -1,5 +1,5 @@
--- What a DLL event does in each state of the cycle: 24 pairs, and the NMT states in which they hold. The transitions' names are DS 301's
--- (Section 4.2.4.5).
+-- What a DLL event does in each state of the cycle (RULES 5.1): 24 pairs, and the NMT states in
+-- which they hold. The names DLL_CT are DS 301's (Section 4.2.4.5).
 -- Assumes nothing.
 use Rattle.std.specs.Prelude.{ℕ, List, [], ◌∷◌, Bool}
 use Rattle.types.specs.Pick.{pick, either, read_by}
@@ -32,10 +32,11 @@ cs_state_number WaitSoa = 3
 abbrev pub cs_states : List DllCsState
 cs_states = NonCyclic ∷ WaitSoc ∷ WaitPreq ∷ WaitSoa ∷ []
 
+-- the state at a place, or the refusal UnknownNumber
 abbrev pub read_cs_state : ℕ → Result DllCsState Refusal
 read_cs_state n = read_by cs_state_number Ok (Err UnknownNumber) cs_states n
 
--- what an event leaves and reports
+-- what an event leaves and answers: the state and the errors
 pub record CsOutcome : Type 0 where
   pub state : DllCsState
   pub errors : List DllError
@@ -43,9 +44,11 @@ pub record CsOutcome : Type 0 where
 abbrev pub goes : DllCsState → List DllError → CsOutcome
 goes s es = record { state = s; errors = es }
 
+-- the pair has no row: the state stays, and the pair is reported
 abbrev pub unexpected : DllCsState → DllCsEvent → CsOutcome
 unexpected s e = goes s (UnexpectedEventInState (cs_state_number s) (cs_event_number e) ∷ [])
 
+-- an event in NonCyclic
 abbrev pub non_cyclic : DllCsEvent → CsOutcome
 non_cyclic Soc = goes WaitPreq []  -- DLL_CT01
 non_cyclic Preq = unexpected NonCyclic Preq
@@ -54,6 +57,7 @@ non_cyclic Soa = unexpected NonCyclic Soa
 non_cyclic Asnd = unexpected NonCyclic Asnd
 non_cyclic SocTimeout = unexpected NonCyclic SocTimeout
 
+-- an event in WaitSoc
 abbrev pub wait_soc : DllCsEvent → CsOutcome
 wait_soc Soc = goes WaitPreq []  -- DLL_CT01
 wait_soc Preq = goes WaitSoc (LossOfSoc ∷ [])  -- DLL_CT04
@@ -62,7 +66,7 @@ wait_soc Soa = goes WaitSoc (LossOfSoc ∷ [])  -- DLL_CT04
 wait_soc Asnd = goes WaitSoc []  -- DLL_CT04
 wait_soc SocTimeout = goes WaitSoc (LossOfSoc ∷ [])  -- DLL_CT04
 
--- a loss is reported at Soa only where a PReq was expected
+-- an event in WaitPreq; at Soa a LossOfPreq is reported only where a PReq was expected
 abbrev pub wait_preq : DllCsEvent → Bool → CsOutcome
 wait_preq Soc expected = goes WaitPreq (LossOfSoa ∷ [])  -- DLL_CT07
 wait_preq Preq expected = goes WaitSoa []  -- DLL_CT02
@@ -71,6 +75,7 @@ wait_preq Soa expected = goes WaitSoc (pick expected (LossOfPreq ∷ []) [])  --
 wait_preq Asnd expected = goes WaitPreq (LossOfSoa ∷ [])  -- DLL_CT07
 wait_preq SocTimeout expected = goes WaitSoc (LossOfSoc ∷ LossOfSoa ∷ [])  -- DLL_CT08
 
+-- an event in WaitSoa
 abbrev pub wait_soa : DllCsEvent → CsOutcome
 wait_soa Soc = goes WaitPreq (LossOfSoa ∷ [])  -- DLL_CT09
 wait_soa Preq = goes WaitSoc (LossOfSoc ∷ LossOfSoa ∷ [])  -- DLL_CT03
@@ -79,6 +84,7 @@ wait_soa Soa = goes WaitSoc []  -- DLL_CT03
 wait_soa Asnd = goes WaitSoa (LossOfSoa ∷ [])  -- DLL_CT10
 wait_soa SocTimeout = goes WaitSoc (LossOfSoc ∷ LossOfSoa ∷ [])  -- DLL_CT03
 
+-- an event in any of the four states
 abbrev pub cyclic : DllCsState → DllCsEvent → Bool → CsOutcome
 cyclic NonCyclic e expected = non_cyclic e
 cyclic WaitSoc e expected = wait_soc e
@@ -91,7 +97,7 @@ is_cyclic s =
     either (same_state s NmtPreOperational2)
     (either (same_state s NmtReadyToOperate) (either (same_state s NmtOperational) (same_state s NmtCsStopped)))
 
--- in other NMT states the machine is NonCyclic, without errors
+-- a DLL event in an NMT state; where the pairs do not hold, the machine becomes NonCyclic
 unfoldable pub cs_processed : DllCsState → DllCsEvent → NmtState → Bool → CsOutcome
 cs_processed s e nmt expected = pick (is_cyclic nmt) (cyclic s e expected) (goes NonCyclic [])
 

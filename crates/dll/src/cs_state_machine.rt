@@ -1,23 +1,30 @@
-// The order of frames that a controlled node expects within one cycle, one function for each state.
+//! The order of frames that a controlled node expects within a cycle: one function for each state.
 ghost use Rattle.std.specs.Prelude.{◌≡◌};
-ghost use Rattle.dll.specs.Dll.{cs_state_number, read_cs_state, non_cyclic, wait_soc, wait_preq, wait_soa, cyclic, fresh_machine, cs_outcome, cs_processed};
+ghost use Rattle.types.specs.Listing.{AllInOrder};
+ghost use Rattle.dll.specs.Dll.{cs_state_number, read_cs_state};
+ghost use Rattle.dll.specs.Dll.{non_cyclic, wait_soc, wait_preq, wait_soa, cyclic};
+ghost use Rattle.dll.specs.Dll.{fresh_machine, cs_outcome, cs_processed};
 
 use types::frame::cs_state_machine::DllCsEvent;
 use types::frame::error::types::{DllError, DllErrors};
 use types::nmt::states::NmtState;
 use types::refusals::Refusal;
 
+/// A state of the cycle; numbered by its place, from 0.
 #[derive(Clone, Copy, PartialEq, Eq)]
 pub enum DllCsState {
-    // The isochronous communication is not active.
+    /// DLL_CS_NON_CYCLIC: no cycle runs.
     NonCyclic,
+    /// DLL_CS_WAIT_SOC: the SoC, which opens a cycle, comes next.
     WaitSoc,
+    /// DLL_CS_WAIT_PREQ: the cycle is open, and the PReq comes next.
     WaitPreq,
+    /// DLL_CS_WAIT_SOA: the PReq was answered, and the SoA, which closes the cycle, comes next.
     WaitSoa,
 }
 
 impl DllCsState {
-    // In the order of the enum.
+    /// All states, each once, in the order of the enum.
     pub const ALL: [DllCsState; 4] = [
         DllCsState::NonCyclic,
         DllCsState::WaitSoc,
@@ -25,7 +32,12 @@ impl DllCsState {
         DllCsState::WaitSoa,
     ];
 
-    // The state's place in the enum, from 0.
+    /// Law of `ALL`: each state stands in it once, in the order of the enum.
+    pub fn all_in_order()
+        ensures { AllInOrder cs_state_number Self.ALL }
+    {}
+
+    /// The state's place in the enum, from 0.
     pub fn as_u8(self) -> u8
         ensures { result ≡ cs_state_number self }
     {
@@ -33,6 +45,7 @@ impl DllCsState {
     }
 }
 
+/// The state at a place; refused by UnknownNumber where there is none.
 impl TryFrom<u64> for DllCsState {
     type Error = Refusal;
 
@@ -49,18 +62,21 @@ impl TryFrom<u64> for DllCsState {
     }
 }
 
+/// The DLL machine of a controlled node.
 #[derive(Clone, Copy, PartialEq, Eq)]
 pub struct DllCsStateMachine {
     pub state: DllCsState,
 }
 
+/// What a DLL event leaves and answers.
 #[derive(Clone, Copy, PartialEq, Eq)]
 pub struct DllAnswer {
     pub machine: DllCsStateMachine,
+    /// The errors to report, in order.
     pub errors: DllErrors,
 }
 
-// The next state, and the errors to report.
+// An answer from the next state and the errors to report.
 fn goes(state: DllCsState, errors: DllErrors) -> DllAnswer
     ensures { result ≡ record { machine = record { state = state }; errors = errors } }
 {
@@ -147,6 +163,7 @@ fn cyclic_event(state: DllCsState, event: DllCsEvent, expect_preq: bool) -> DllA
 }
 
 impl DllCsStateMachine {
+    /// A machine that is NonCyclic.
     pub fn new() -> Self
         ensures { result ≡ fresh_machine }
     {
@@ -155,7 +172,9 @@ impl DllCsStateMachine {
         }
     }
 
-    // An event, in an NMT state; expect_preq tells whether the managing node polls this node in this cycle.
+    /// A DLL event in an NMT state (RULES 5.1); `expect_preq` says whether the managing node polls
+    /// this node in the cycle. Outside PreOperational2, ReadyToOperate, Operational and CsStopped
+    /// the machine becomes NonCyclic, without an error.
     #[tactic(auto, unfolding(crate::specs::Dll::cs_processed))]
     pub fn process_event(
         self,
@@ -174,6 +193,7 @@ impl DllCsStateMachine {
         }
     }
 
+    /// The machine's state.
     pub fn current_state(self) -> DllCsState
         ensures { result ≡ self.state }
     {

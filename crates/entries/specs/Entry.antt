@@ -1,4 +1,5 @@
--- The error entry and its 20 bytes (DS 301, Tables 94 and 96), lowest byte first in each number.
+-- The error entry and its 20 bytes (DS 301, Tables 94 and 96; RULES 9.1 to 9.3), the lowest byte of
+-- each number first.
 -- Assumes nothing.
 use Rattle.std.specs.Prelude.{ℕ, zero, suc, ◌+◌, ◌*◌, ◌/◌, ◌%◌, ◌<◌, Bool, true, false, List, [], ◌∷◌, ◌++◌, eqb, get_or, drop}
 use Rattle.types.specs.Pick.{read_by}
@@ -14,6 +15,7 @@ use Rattle.types.specs.declared.refusals.Refusal.{Refusal}
 use Rattle.entries.specs.declared.status_response.EntryType.{EntryType}
 use Rattle.entries.specs.declared.status_response.ErrorEntry.{ErrorEntry}
 
+-- a mode's number
 abbrev pub mode_number : ErrorEntryMode → ℕ
 mode_number Terminator = 0
 mode_number ErrorActive = 1
@@ -24,6 +26,7 @@ mode_number EventOccurred = 3
 abbrev pub modes : List ErrorEntryMode
 modes = Terminator ∷ ErrorActive ∷ ErrorCleared ∷ EventOccurred ∷ []
 
+-- the mode of a number, or the refusal UnknownNumber
 unfoldable pub read_mode : ℕ → Result ErrorEntryMode Refusal
 read_mode n = read_by mode_number Ok (Err UnknownNumber) modes n
 
@@ -31,16 +34,18 @@ read_mode n = read_by mode_number Ok (Err UnknownNumber) modes n
 unfoldable pub mode_of : ℕ → ErrorEntryMode
 mode_of n = get_or modes (n % 4) Terminator
 
+-- a mark as a bit
 abbrev pub bit : Bool → ℕ
 bit true = 1
 bit false = 0
 
--- a type as a number of 16 bits: bit 15 is the status mark, bit 14 the queue mark, bits 13 and 12 the mode, the rest the
--- profile, of which twelve bits are kept
+-- a type as 16 bits: bit 15 is the status mark, bit 14 the queue mark, bits 13 and 12 the mode, the
+-- rest the profile, of which the lowest twelve bits are kept
 unfoldable pub type_number : EntryType → ℕ
 type_number t =
     bit t.is_status_entry * 32768 + bit t.send_to_queue * 16384 + mode_number t.mode * 4096 + t.profile % 4096
 
+-- the type of a number's 16 bits
 unfoldable pub type_of : ℕ → EntryType
 type_of n =
     record {
@@ -79,8 +84,9 @@ entry_in s =
       additional_information = number_in 8 (drop 12 s);
     }
 
--- the entry of an error that crossed its threshold in the SoC check, at a time in microseconds: the queue mark, mode
--- EventOccurred, profile 2, the error's code, the time with its seconds modulo 2^32, additional information 0
+-- the entry of an error that crossed its threshold at the SoC check, at a time in µs (RULES 9.2):
+-- the queue mark, the mode EventOccurred, profile 2, the error's code, the time with its seconds
+-- modulo 2^32, additional information 0
 unfoldable pub crossing_entry : DllError → ℕ → ErrorEntry
 crossing_entry e t =
     record {

@@ -1,10 +1,12 @@
--- The error history: its list, newest first, what an entry that joins makes of it, and the loading.
+-- The error history (RULES 9.5): its list, newest first, what an entry that joins makes of it, and
+-- what a load does.
 -- Assumes nothing.
 use Rattle.std.specs.Prelude.{ℕ, ◌+◌, ◌*◌, ◌/◌, ◌%◌, min, List, ◌++◌, length, take, drop}
 use Rattle.entries.specs.Ring.{entry_at, put_at, listed, ring}
 use Rattle.entries.specs.declared.status_response.ErrorEntry.{ErrorEntry}
 use Rattle.entries.specs.declared.error_history.ErrorHistory.{ErrorHistory}
 
+-- a history by the place of its newest entry and their number
 abbrev pub error_history : ℕ → ℕ → ErrorHistory
 error_history n c = record { newest = n; count = c }
 
@@ -12,25 +14,27 @@ error_history n c = record { newest = n; count = c }
 unfoldable pub history : List ℕ → ErrorHistory → List ErrorEntry
 history m h = ring 254 m h.newest (min h.count 254)
 
--- the place before the newest: in a full history the oldest's
+-- the place before the newest, which in a full history is the oldest's
 abbrev pub place_before : ErrorHistory → ℕ
 place_before h = (h.newest + 253) % 254
 
--- an entry joins at the place before the newest, and is the newest
+-- an entry joins: it stands at the place before the newest, and is the newest
 unfoldable pub joined : ErrorHistory → ErrorHistory
 joined h = error_history (place_before h) (min (h.count + 1) 254)
 
+-- the memory after an entry joined
 unfoldable pub joined_bytes : List ℕ → ErrorHistory → ErrorEntry → List ℕ
 joined_bytes m h e = put_at m (place_before h) e
 
--- the whole entries in a run of bytes; bytes left behind the last whole one are not an entry
+-- the whole entries in a run of bytes; bytes behind the last whole one are no entry
 unfoldable pub entries_in : List ℕ → List ErrorEntry
 entries_in s = listed (entry_at s) (length s / 20)
 
--- the newest 254 whole entries of a run are taken, to the places from 0 on
+-- how many entries a load takes of a run of bytes: at most the first 254, which are the newest
 abbrev pub taken_of : List ℕ → ℕ
 taken_of s = min (length s / 20) 254
 
+-- the history after a load, and the memory, in which they stand from place 0 on
 unfoldable pub loaded : List ℕ → ErrorHistory
 loaded s = error_history 0 (taken_of s)
 

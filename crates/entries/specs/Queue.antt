@@ -1,4 +1,5 @@
--- The emergency queue: what waits, oldest first, and what a push and a hand out make of it.
+-- The emergency queue (RULES 9.4): what waits, oldest first, and what a push and a hand-out make of
+-- it.
 -- Assumes nothing.
 use Rattle.std.specs.Prelude.{ℕ, ◌+◌, ◌-◌, ◌%◌, min, Bool, true, false, List, ltb}
 use Rattle.types.specs.Pick.{pick}
@@ -8,6 +9,7 @@ use Rattle.std.specs.declared.option.Option.{Option}
 use Rattle.std.specs.declared.option.Option.TheVariants.{Some, None}
 use Rattle.entries.specs.declared.emergency_queue.EmergencyQueue.{EmergencyQueue}
 
+-- a queue by the place of its oldest entry, the number of entries that wait, and its capacity
 abbrev pub queue : ℕ → ℕ → ℕ → EmergencyQueue
 queue o l c = record { oldest = o; length = l; capacity = c }
 
@@ -22,30 +24,32 @@ capacity_of q = min q.capacity 32
 unfoldable pub waiting : List ℕ → EmergencyQueue → List ErrorEntry
 waiting m q = ring 32 m q.oldest (length_of q)
 
--- fewer wait than may: the queue is not full
+-- the queue is not full: fewer wait than may
 abbrev pub has_room : EmergencyQueue → Bool
 has_room q = ltb (length_of q) (capacity_of q)
 
--- what a push and a hand out give: the queue after it, whether the entry was kept, and the entry that was handed out
+-- after a push: the queue, and whether the entry was kept
 pub record Pushed : Type 0 where
   pub queue : EmergencyQueue
   pub kept : Bool
 
+-- after a hand-out: the queue, and the entry, if one waited
 pub record HandedOut : Type 0 where
   pub queue : EmergencyQueue
   pub entry : Option ErrorEntry
 
--- an entry is kept, at the place behind the newest, or dropped where the queue is full
+-- a push: the entry is kept, at the place behind the newest, or dropped where the queue is full
 unfoldable pub pushed : EmergencyQueue → Pushed
 pushed q =
     pick (has_room q)
     (record { queue = queue q.oldest (length_of q + 1) q.capacity; kept = true })
     (record { queue = q; kept = false })
 
+-- the memory after a push
 unfoldable pub pushed_bytes : List ℕ → EmergencyQueue → ErrorEntry → List ℕ
 pushed_bytes m q e = pick (has_room q) (put_at m ((q.oldest + length_of q) % 32) e) m
 
--- the oldest is handed out and leaves, or none where none waits; the memory stays as it is
+-- a hand-out: the oldest leaves and is the answer, or none where none waits; the memory stays
 unfoldable pub handed_out : List ℕ → EmergencyQueue → HandedOut
 handed_out m q =
     pick (ltb 0 (length_of q))

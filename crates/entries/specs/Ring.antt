@@ -1,4 +1,4 @@
--- A ring of places of 20 bytes, each with an entry, in lent bytes.
+-- A ring of places in lent bytes, each of 20 bytes with an entry.
 -- Assumes nothing.
 use Rattle.std.specs.Prelude.{ℕ, zero, suc, ◌+◌, ◌*◌, ◌%◌, List, [], ◌∷◌, ◌++◌, length, take, drop}
 use Rattle.entries.specs.Entry.{entry_bytes, entry_in}
@@ -10,23 +10,23 @@ use Rattle.std.specs.declared.option.Option.TheVariants.{Some, None}
 unfoldable pub written : List ℕ → ℕ → List ℕ → List ℕ
 written s at b = take at s ++ (b ++ drop (at + length b) s)
 
--- the entry at the i-th place, and the bytes with an entry put there
+-- the entry at place i, and the bytes with an entry put there
 abbrev pub entry_at : List ℕ → ℕ → ErrorEntry
 entry_at m i = entry_in (drop (20 * i) m)
 
 abbrev pub put_at : List ℕ → ℕ → ErrorEntry → List ℕ
 put_at m i e = written m (20 * i) (entry_bytes e)
 
--- f 0, f 1, .. up to n of them
+-- the list f 0, f 1, .., f (n - 1)
 unfoldable pub listed : {A : Type 0} → (ℕ → A) → ℕ → List A
 listed f zero = []
 listed f (suc n) = f 0 ∷ listed (λ j. f (suc j)) n
 
--- the n entries of a ring of p places from the place i on, place 0 following the last
+-- the n entries of a ring of p places from place i on; place 0 follows the last
 abbrev pub ring : ℕ → List ℕ → ℕ → ℕ → List ErrorEntry
 ring p m i n = listed (λ j. entry_at m ((i + j) % p)) n
 
--- the entry at an index of a list, and all but the first
+-- the entry at an index of a list, and the list without its first entry
 unfoldable pub nth : List ErrorEntry → ℕ → Option ErrorEntry
 nth [] k = None
 nth (e ∷ l) zero = Some e

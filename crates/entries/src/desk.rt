@@ -1,5 +1,6 @@
-// The maintenance desk's buffer (document 02, No. 4): an entry is written at a stated place of it, all other bytes kept, and
-// read from there. A place is any number of 64 bits.
+//! An entry at a place of a buffer, such as a maintenance desk keeps (RULES 9.6): a write puts its
+//! 20 bytes from the place on and keeps all others, a read takes those 20. A place counts bytes
+//! from 0 and is any number of 64 bits.
 ghost use Rattle.std.specs.Prelude.{◌≡◌, ◌+◌, leb};
 ghost use Rattle.entries.specs.Desk.{write_said, write_reply, desk_after, read_said, read_reply};
 
@@ -7,7 +8,7 @@ use crate::place;
 use crate::status_response::ErrorEntry;
 use types::refusals::Refusal;
 
-// Whether 20 bytes are there from a place on: the place plus 20 may pass 2^64.
+// Whether 20 bytes are there from a place on. The place plus 20 may be above 64 bits.
 fn has_room(length: usize, place: u64) -> bool
     ensures { result ≡ leb (place + 20) length }
 {
@@ -16,9 +17,12 @@ fn has_room(length: usize, place: u64) -> bool
         .is_some_and(|end| end <= length as u64)
 }
 
-// Writes an entry at a place: the part from there on is lent on to the writer. What is refused changes no byte.
+/// Writes an entry at a place. Refused, in this order: BufferTooShort where fewer than 20 bytes are
+/// left from the place on, ProfileLimit where the profile is above 4095; then no byte changes.
+#[tactic(auto, unfolding(crate::specs::Desk::write_reply, crate::specs::Desk::desk_after))]
 pub fn write_at(buffer: &mut [u8], place: u64, entry: ErrorEntry) -> Result<(), Refusal>
-    ensures { (write_said result ≡ write_reply buffer.old place entry) × (buffer.new ≡ desk_after buffer.old place entry) }
+    ensures { (write_said result ≡ write_reply buffer.old place entry) ×
+        (buffer.new ≡ desk_after buffer.old place entry) }
 {
     let room = has_room(buffer.len(), place);
     let small = entry.entry_type.profile <= 4095;
@@ -32,7 +36,7 @@ pub fn write_at(buffer: &mut [u8], place: u64, entry: ErrorEntry) -> Result<(), 
     Ok(())
 }
 
-// The entry at a place.
+/// The entry in the 20 bytes from a place on. Refused by BufferTooShort where fewer are left.
 #[tactic(auto, unfolding(crate::specs::Desk::read_reply))]
 pub fn read_at(buffer: &[u8], place: u64) -> Result<ErrorEntry, Refusal>
     ensures { read_said result ≡ read_reply buffer.now place }

@@ -1,4 +1,5 @@
-// The emergency queue: a ring of 32 places in lent memory, of which a queue may fill as many as its capacity says.
+//! The emergency queue (RULES 9.4): a ring of 32 places in lent memory, of which a queue may fill
+//! as many as its capacity says.
 ghost use Rattle.std.specs.Prelude.{◌≡◌};
 ghost use Rattle.entries.specs.Ring.{nth};
 ghost use Rattle.entries.specs.Queue.{queue, waiting, pushed, pushed_bytes, handed_out};
@@ -6,17 +7,20 @@ ghost use Rattle.entries.specs.Queue.{queue, waiting, pushed, pushed_bytes, hand
 use crate::place::{self, Ring};
 use crate::status_response::ErrorEntry;
 
-// Where the entries stand: the place of the oldest, how many wait, and how many may. Every value is a queue: a place
-// is read modulo 32, and a number above 32 as 32.
+/// Where the entries stand in the lent memory. Any three bytes are a queue: a place is read modulo
+/// 32, and a number of entries above 32 as 32.
 #[derive(Clone, Copy, PartialEq, Eq)]
 pub struct EmergencyQueue {
+    /// The place of the oldest entry.
     pub oldest: u8,
+    /// How many entries wait.
     pub length: u8,
+    /// How many may wait.
     pub capacity: u8,
 }
 
 impl EmergencyQueue {
-    // An empty queue.
+    /// An empty queue of this capacity.
     pub fn new(capacity: u8) -> Self
         ensures { result ≡ queue 0 0 capacity }
     {
@@ -27,7 +31,7 @@ impl EmergencyQueue {
         }
     }
 
-    // Its places in lent memory.
+    // Its ring of places.
     fn ring(self) -> Ring<32>
         ensures { (result.first ≡ self.oldest) × (result.count ≡ self.length) }
     {
@@ -37,7 +41,8 @@ impl EmergencyQueue {
         }
     }
 
-    // An entry joins behind the newest, or is dropped where the queue is full: whether it was kept.
+    /// Puts an entry behind the newest, and answers whether it was kept: where the queue is full,
+    /// it is dropped, and no byte changes.
     #[tactic(auto, unfolding(crate::specs::Queue::pushed, crate::specs::Queue::pushed_bytes))]
     pub fn push_back(&mut self, memory: &mut [u8; 640], entry: ErrorEntry) -> bool
         ensures queue { self.new ≡ (pushed self.old).queue }
@@ -55,7 +60,7 @@ impl EmergencyQueue {
         true
     }
 
-    // The oldest entry leaves the queue; of an empty one, none does.
+    /// The oldest entry, which leaves the queue; of an empty queue, none.
     #[tactic(auto, unfolding(crate::specs::Queue::handed_out))]
     pub fn hand_out(&mut self, memory: &[u8; 640]) -> Option<ErrorEntry>
         ensures queue { self.new ≡ (handed_out memory.now self.old).queue }
@@ -72,7 +77,7 @@ impl EmergencyQueue {
         Some(entry)
     }
 
-    // The entry that waits at an index, the oldest at 0.
+    /// The entry at an index of those that wait, the oldest at 0.
     #[tactic(auto, unfolding(crate::specs::Queue::waiting))]
     pub fn get(self, memory: &[u8; 640], index: usize) -> Option<ErrorEntry>
         ensures { result ≡ nth (waiting memory.now self) index }

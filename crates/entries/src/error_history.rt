@@ -1,21 +1,25 @@
-// The error history, object 0x1003: a ring of 254 places in lent memory, read newest first from the newest's place on.
+//! The error history, object 0x1003 (RULES 9.5): a ring of 254 places in lent memory, read newest
+//! first from the newest's place on.
 ghost use Rattle.std.specs.Prelude.{◌≡◌};
 ghost use Rattle.entries.specs.Ring.{nth};
-ghost use Rattle.entries.specs.History.{error_history, history, joined, joined_bytes, loaded, loaded_bytes};
+ghost use Rattle.entries.specs.History.{error_history, history};
+ghost use Rattle.entries.specs.History.{joined, joined_bytes, loaded, loaded_bytes};
 
 use crate::place::{self, Ring};
 use crate::status_response::ErrorEntry;
 
-// Where the entries stand: the place of the newest, and how many there are. Every value is a history: a place is read
-// modulo 254, and a count above 254 as 254.
+/// Where the entries stand in the lent memory. Any two bytes are a history: a place is read modulo
+/// 254, and a count above 254 as 254.
 #[derive(Clone, Copy, PartialEq, Eq)]
 pub struct ErrorHistory {
+    /// The place of the newest entry.
     pub newest: u8,
+    /// How many entries there are.
     pub count: u8,
 }
 
 impl ErrorHistory {
-    // An empty history.
+    /// An empty history.
     pub fn new() -> Self
         ensures { result ≡ error_history 0 0 }
     {
@@ -25,10 +29,12 @@ impl ErrorHistory {
         }
     }
 
-    // The history from the bytes of entries, newest first: the newest 254 whole entries are taken.
+    /// Loads a history from the bytes of entries, newest first. Of more than 254 entries the newest
+    /// 254 are kept; bytes behind the last whole entry are no entry.
     #[tactic(auto, unfolding(crate::specs::History::loaded, crate::specs::History::loaded_bytes))]
     pub fn load(memory: &mut [u8; 5080], entries: &[u8]) -> Self
-        ensures { (result ≡ loaded entries.now) × (memory.new ≡ loaded_bytes memory.old entries.now) }
+        ensures { (result ≡ loaded entries.now) ×
+            (memory.new ≡ loaded_bytes memory.old entries.now) }
     {
         let count = (entries.len() / 20).min(254);
         let taken = 20 * count;
@@ -39,7 +45,7 @@ impl ErrorHistory {
         }
     }
 
-    // Its places in lent memory.
+    // Its ring of places.
     fn ring(self) -> Ring<254>
         ensures { (result.first ≡ self.newest) × (result.count ≡ self.count) }
     {
@@ -49,7 +55,7 @@ impl ErrorHistory {
         }
     }
 
-    // The entry at an index, the newest at 0.
+    /// The entry at an index, the newest at 0.
     #[tactic(auto, unfolding(crate::specs::History::history))]
     pub fn get(self, memory: &[u8; 5080], index: usize) -> Option<ErrorEntry>
         ensures { result ≡ nth (history memory.now self) index }
@@ -57,13 +63,14 @@ impl ErrorHistory {
         self.ring().get(memory, index)
     }
 
-    // An entry joins at the place before the newest, and no other moves.
+    /// Puts an entry at the place before the newest; no other entry moves. In a full history that
+    /// is the oldest's place.
     #[tactic(auto, unfolding(crate::specs::History::joined, crate::specs::History::joined_bytes))]
     pub fn write_error_to_history(&mut self, memory: &mut [u8; 5080], entry: ErrorEntry)
         ensures history { self.new ≡ joined self.old }
         ensures bytes { memory.new ≡ joined_bytes memory.old self.old entry }
     {
-        // The place before the newest: in a full history the oldest's.
+        // 253 places on from the newest in a ring of 254.
         let newest = self.ring().place(253);
         place::put_entry(memory, 20 * newest, entry);
         let count = (self.count as usize + 1).min(254);

@@ -1,5 +1,7 @@
-// The error entry (EPSG DS 301, Table 94) and its 20 bytes, also in a desk's buffer; the emergency queue, in which an entry waits until it is
-// handed out; and the error history, newest first. Both are rings of places of 20 bytes in memory that the caller lends.
+//! The error entry (EPSG DS 301, Table 94) and its 20 bytes, also at a place of a buffer; the
+//! emergency queue, in which an entry waits until it is handed out; and the error history, newest
+//! first (RULES 9). Queue and history are rings of places of 20 bytes in memory that the caller
+//! lends.
 #![tactic(auto)]
 
 pub mod desk;

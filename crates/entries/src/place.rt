@@ -1,5 +1,6 @@
-// Entries in lent bytes, at a place that the caller keeps within them, and rings of such places.
-ghost use Rattle.std.specs.Prelude.{◌≡◌, ◌++◌, ◌+◌, ◌*◌, ◌^◌, ◌%◌, ◌≤◌, ◌<◌, min, length, take, drop};
+//! Entries in lent bytes, at a place that the caller keeps within them, and rings of such places.
+ghost use Rattle.std.specs.Prelude.{◌≡◌, ◌++◌, ◌+◌, ◌*◌, ◌^◌, ◌%◌, ◌≤◌, ◌<◌};
+ghost use Rattle.std.specs.Prelude.{min, length, take, drop};
 ghost use Rattle.entries.specs.Entry.{entry_bytes, entry_in};
 ghost use Rattle.entries.specs.Ring.{written, ring, nth};
 
@@ -24,7 +25,7 @@ fn get_bytes<const N: usize>(s: &[u8], at: usize) -> [u8; N]
     bytes
 }
 
-// Writes an entry into the first 20 bytes.
+/// Writes an entry into the first 20 bytes.
 pub(crate) fn write_entry(part: &mut [u8], entry: ErrorEntry)
     requires { 20 ≤ length part.old }
     ensures { part.new ≡ entry_bytes entry ++ drop 20 part.old }
@@ -37,7 +38,7 @@ pub(crate) fn write_entry(part: &mut [u8], entry: ErrorEntry)
     put_bytes(part, 12, entry.additional_information.to_le_bytes());
 }
 
-// Writes an entry at a place: the part from there on is lent to the writer.
+/// Writes an entry into the 20 bytes from a place on.
 pub(crate) fn put_entry(s: &mut [u8], at: usize, entry: ErrorEntry)
     requires { at + 20 ≤ length s.old }
     ensures { s.new ≡ written s.old at (entry_bytes entry) }
@@ -45,7 +46,7 @@ pub(crate) fn put_entry(s: &mut [u8], at: usize, entry: ErrorEntry)
     write_entry(&mut s[at..], entry);
 }
 
-// The entry at a place.
+/// The entry in the 20 bytes from a place on.
 pub(crate) fn read_entry(s: &[u8], at: usize) -> ErrorEntry
     requires { at + 20 ≤ length s.now }
     ensures { result ≡ entry_in (drop at s.now) }
@@ -66,22 +67,25 @@ pub(crate) fn read_entry(s: &[u8], at: usize) -> ErrorEntry
     }
 }
 
-// A ring of so many places of an entry in lent bytes: the place of its first, and how many are filled. Every value is a
-// ring: a place is read modulo PLACES, and a count above it as PLACES.
+/// A ring of PLACES places of an entry in lent bytes. Any two bytes are a ring: a place is read
+/// modulo PLACES, and a count above it as PLACES.
 #[derive(Clone, Copy)]
 pub(crate) struct Ring<const PLACES: usize> {
+    /// The place of the first entry.
     pub(crate) first: u8,
+    /// How many places have an entry.
     pub(crate) count: u8,
 }
 
 impl<const PLACES: usize> Ring<PLACES> {
+    /// How many places have an entry, at most PLACES.
     pub(crate) fn len(self) -> usize
         ensures { result ≡ min self.entry.count PLACES }
     {
         (self.count as usize).min(PLACES)
     }
 
-    // The place of the entry at an index.
+    /// The place of the entry at an index.
     pub(crate) fn place(self, index: usize) -> usize
         requires { (0 < PLACES) × (index ≤ PLACES) × (PLACES ≤ 256) }
         ensures { result ≡ (self.entry.first + index) % PLACES }
@@ -89,9 +93,11 @@ impl<const PLACES: usize> Ring<PLACES> {
         (self.first as usize + index) % PLACES
     }
 
+    /// The entry at an index, if there is one.
     pub(crate) fn get(self, memory: &[u8], index: usize) -> Option<ErrorEntry>
         requires { (20 * PLACES ≤ length memory.now) × (0 < PLACES) × (PLACES ≤ 256) }
-        ensures { result ≡ nth (ring PLACES memory.now self.entry.first (min self.entry.count PLACES)) index }
+        ensures { result ≡
+            nth (ring PLACES memory.now self.entry.first (min self.entry.count PLACES)) index }
     {
         if index < self.len() {
             Some(read_entry(memory, 20 * self.place(index)))

@@ -6,12 +6,12 @@ use Rattle.entries.specs.declared.status_response.ErrorEntryMode.TheVariants.{Ev
 use Rattle.entries.specs.declared.status_response.ErrorEntry.{ErrorEntry}
 use Rattle.forms.specs.Generator.{drawn}
 
--- the last of the k numbers that follow x
+-- the generator's state after k numbers from x
 abbrev pub last : ℕ → ℕ → ℕ
 last zero x = x
 last (suc k) x = last k (drawn x)
 
--- a pattern p with a byte of each of these numbers, from place i on
+-- the pattern p with a byte of each of the k numbers that follow x, from place i on
 abbrev pub filled : ℕ → ℕ → ℕ → List ℕ → List ℕ
 filled zero i x p = p
 filled (suc k) i x p = filled k (i + 1) (drawn x) (set p i (drawn x / 65536 % 256))

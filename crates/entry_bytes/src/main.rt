@@ -1,5 +1,6 @@
-// What is read in patterns of 20 bytes and written of that, what is read at places of a longer one, and the error history while entries join it, one
-// form a line. The stored output was printed by the Rust (compare/), so a run shows that both agree.
+//! Prints what is read in patterns of 20 bytes and written again, what is read at places of a
+//! longer run, and the error history while entries join it, one form a line. The stored output was
+//! printed by the original Rust (compare/), so a run shows that both agree.
 #![tactic(auto)]
 
 ghost use Rattle.std.specs.Prelude.{◌≡◌};
@@ -44,6 +45,7 @@ fn say_entry(out: &mut Output, entry: ErrorEntry) {
     );
 }
 
+// What is read in a pattern, and written of it.
 fn print_entry(out: &mut Output, pattern: &[u8]) {
     match desk::read_at(pattern, 0) {
         Ok(entry) => {
@@ -60,7 +62,8 @@ fn print_entry(out: &mut Output, pattern: &[u8]) {
 
 // Fills the pattern with the next bytes of the generator.
 fn fill(pattern: &mut [u8; 20], generator: &mut Generator)
-    ensures { (generator.new.x ≡ last 20 generator.old.x) × (pattern.new ≡ filled 20 0 generator.old.x pattern.old) }
+    ensures { (generator.new.x ≡ last 20 generator.old.x) ×
+        (pattern.new ≡ filled 20 0 generator.old.x pattern.old) }
 {
     for byte in pattern.iter_mut() {
         *byte = (generator.next() % 256) as u8;
@@ -76,6 +79,7 @@ fn print_patterns(out: &mut Output) {
     }
 }
 
+// What is read at a place of a buffer.
 fn print_read(out: &mut Output, buffer: &[u8], place: u64) {
     write!(out, "(read {place}");
     match desk::read_at(buffer, place) {
@@ -85,7 +89,8 @@ fn print_read(out: &mut Output, buffer: &[u8], place: u64) {
     writeln!(out, ")");
 }
 
-// At the front, behind it, at the last place that has 20 bytes, behind that, at the end and past it.
+// Reads at the front, behind it, at the last place with 20 bytes, behind that, at the end and past
+// it.
 fn print_reads(out: &mut Output) {
     let buffer =
         b"\x03\x07\x0B\x0F\x13\x17\x1B\x1F\x23\x27\x2B\x2F\x33\x37\x3B\x3F\x43\x47\x4B\x4F\x53\x57\x5B\x5F\x63\x67\x6B\x6F\x73\x77\x7B\x7F\x83\x87\x8B\x8F\x93\x97\x9B\x9F\xA3\xA7\xAB\xAF\xB3\xB7\xBB\xBF\xC3\xC7\xCB\xCF\xD3\xD7\xDB\xDF\xE3\xE7\xEB\xEF";

@@ -13,7 +13,8 @@ use Rattle.counters.specs.declared.counters.CounterKind.TheVariants.{LossOfSoc, 
 use Rattle.entries.specs.Ring.{listed}
 use Rattle.entries.specs.Queue.{queue, waiting}
 use Rattle.entries.specs.History.{error_history, history}
-use Rattle.std.specs.declared.option.Option.TheVariants.{Some, None}
+use Rattle.std.specs.declared.option.Option.TheVariants.{Some}
+use Rattle.head.specs.declared.state.Deadline.TheVariants.{At, Nothing}
 use Rattle.head.specs.Head.{Head, soc_watch, head_with_earliest}
 use Rattle.head.specs.Places as at
 use Rattle.head.specs.Words.{head_of}
@@ -66,7 +67,7 @@ awaiting_stands t c d ws long s ws' e =
 pub cycling_stands :
     (deadline level lost : ℕ) (ws : List ℕ) →
     ws ≡
-    counter_written (soc_written (set (resting_words NmtOperational false true (values 0 lost 0 0 0)) at.dll 1) (soc_watch 10000 true (Some deadline) false)) LossOfSoc
+    counter_written (soc_written (set (resting_words NmtOperational false true (values 0 lost 0 0 0)) at.dll 1) (soc_watch 10000 true (At deadline) false)) LossOfSoc
     (counter_of lost level 15 0) →
     Stands ws (cycling deadline level lost)
 unfolding head_of resting_words read_state
@@ -79,7 +80,7 @@ pub crossed_placed :
     ws ≡
     history_written
     (queue_written
-    (counter_written (soc_written (set (resting_words NmtPreOperational1 false true (values 1 2 1 0 1)) at.dll 1) (soc_watch 10000 false None true)) LossOfSoc
+    (counter_written (soc_written (set (resting_words NmtPreOperational1 false true (values 1 2 1 0 1)) at.dll 1) (soc_watch 10000 false Nothing true)) LossOfSoc
     (counter_of 2 0 15 1))
     (queue 0 1 1))
     (error_history 253 1) →

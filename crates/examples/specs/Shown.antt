@@ -1,5 +1,5 @@
--- What the program's functions have to show: words that stand for a head of the table, a call that was compared with what is stated, and an
--- example that came as the table states it.
+-- What the program's functions ensure: that words stand for a head of the examples, that a call was
+-- compared with what an example states, and that an example came as it is stated.
 -- Assumes nothing.
 use Rattle.std.specs.Prelude.{ℕ, ◌≡◌, Bool, true, List, [], ◌∷◌, set, replicate}
 use Rattle.types.specs.declared.nmt.states.NmtState.{NmtState}
@@ -40,15 +40,16 @@ resting_words s enabled ready od =
     (thresholds_written (identity_written (nmt_written (replicate 60 0) (machine s enabled ready)) (machine s enabled ready)) (new_counters (same_for_all 15))) od)
     at.capacity 1
 
--- Of a call c on the words ws with the memory q and m, which left ws', q' and m' and the run l, and was compared with an answer and
--- with a head: what is left is the plain head's, and r is true exactly where the plain head's answer is the one stated and the head that is
--- left is the one stated.
+-- A call c on the words ws with the memory q and m left ws', q', m' and the run l, and was compared
+-- with the answer a and with a head: what is left is the plain head's, and r is true exactly where
+-- the plain head's answer is a and the head that is left is the one stated.
 pub record Came (ws q m : List ℕ) (c : Call) (a : Answer) (stated : List ℕ) (ws' q' m' : List ℕ) (l : Run) (r : Bool) : Type 0 where
   pub head : plain (head_of ws') q' m' ≡ (step (plain (head_of ws) q m) c).head
   pub places : rings (head_of ws') q' m' ≡ joins_all (rings (head_of ws) q m) (step (plain (head_of ws) q m) c).crossings
   pub lent : l ≡ (step (plain (head_of ws) q m) c).lent
   pub tells : Exactly r (((step (plain (head_of ws) q m) c).answer ≡ a) × (head_of ws' ≡ head_of stated))
 
+-- the last step of some, behind the step s
 abbrev last_of : Step → List Coming → Step
 last_of s [] = s
 last_of s (x ∷ xs) = last_of x.all xs
@@ -57,13 +58,13 @@ last_of s (x ∷ xs) = last_of x.all xs
 abbrev pub last : Example → Step
 last e = last_of (answers e.before taken no_run) e.after
 
--- Of an example of the table: what is left stands for the head and the run that it states last, and all that was compared came as
--- it states.
+-- An example came as it is stated: what is left stands for the head and the run that it states
+-- last, and all that was compared was the same.
 pub record Shown (e : Example) (ws q m : List ℕ) (l : Run) (r : Bool) : Type 0 where
   pub head : plain (head_of ws) q m ≡ (last e).head
   pub lent : l ≡ (last e).lent
   pub same : r ≡ true
 
--- the same of an example of ticks, by what it ran on and how many of its nodes are watched
+-- the same for an example of ticks, by what it ran on and how many of its nodes are watched
 abbrev pub ShownOn : Example → Bench → ℕ → Bool → Type 0
 ShownOn e b k r = Shown e b.head b.queue b.history (run (nodes_of b.nodes) k) r

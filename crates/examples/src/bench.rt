@@ -1,7 +1,8 @@
-// What an example of ticks runs on: a head, and what is lent to its calls.
+//! What an example of ticks runs on.
 use head::state::Head;
 use watched::nodes::NodeWords;
 
+/// A head, and what is lent to its calls.
 #[derive(Drop)]
 pub struct Bench {
     pub head: Head,

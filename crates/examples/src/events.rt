@@ -1,4 +1,5 @@
-// The examples of NMT and DLL events, and of losses given to the counters: each with the document's words, as the table states it.
+//! The examples 1 to 7 of RULES 11.4: NMT and DLL events, and errors given to the counters. Each
+//! answers whether all came as the specs of `node` state it.
 ghost use Rattle.std.specs.Prelude.{ℕ, List};
 ghost use Rattle.node.specs.Steps.{no_run};
 ghost use Rattle.node.specs.Examples as table;
@@ -16,7 +17,7 @@ use types::nmt::flags::FeatureFlags;
 use types::nmt::states::NmtState;
 use watched::nodes::NodeWords;
 
-// Fresh, SwReset: five states entered, NotActive; not ready any more (document 02, No. 7).
+/// A fresh head takes SwReset: five states passed, NotActive, not ready.
 pub fn sw_reset(head: &mut Head, after: &mut Head, nodes: &mut NodeWords) -> bool
     ensures { (q m : List ℕ) → Shown table.sw_reset head.new q m no_run result }
 {
@@ -34,7 +35,7 @@ pub fn sw_reset(head: &mut Head, after: &mut Head, nodes: &mut NodeWords) -> boo
     started & nmt_comes(head, 5, DllErrors::None, ResetSequence::Whole, after)
 }
 
-// NotActive, Timeout: 0x1E.
+/// NotActive takes Timeout: BasicEthernet, 0x1E.
 pub fn timeout(head: &mut Head, after: &mut Head) -> bool
     ensures { (q m : List ℕ) → Shown table.timeout head.new q m no_run result }
 {
@@ -43,7 +44,8 @@ pub fn timeout(head: &mut Head, after: &mut Head) -> bool
     nmt_comes(head, 10, DllErrors::None, ResetSequence::None, after)
 }
 
-// PreOperational2, withdrawn, EnableReadyToOperate: stays, enabled; ready word: 0x6D.
+/// PreOperational2, not enabled: a withdrawal; EnableReadyToOperate, which leaves it there,
+/// enabled; the ready word: ReadyToOperate, 0x6D.
 pub fn enable(head: &mut Head, after: &mut Head) -> bool
     ensures { (q m : List ℕ) → Shown table.enable head.new q m no_run result }
 {
@@ -56,7 +58,7 @@ pub fn enable(head: &mut Head, after: &mut Head) -> bool
     withdrawn & enabled & nmt_comes(head, 15, DllErrors::None, ResetSequence::None, after)
 }
 
-// ReadyToOperate, EnterPreOperational2: stays, error (0x6D, 2).
+/// ReadyToOperate takes EnterPreOperational2: it stays, with the error (0x6D, 2).
 pub fn no_row(head: &mut Head, after: &mut Head) -> bool
     ensures { (q m : List ℕ) → Shown table.no_row head.new q m no_run result }
 {
@@ -74,7 +76,7 @@ pub fn no_row(head: &mut Head, after: &mut Head) -> bool
     )
 }
 
-// Operational, NonCyclic, SocTimeout: error (0, 5).
+/// Operational, NonCyclic, takes SocTimeout: the error (0, 5).
 pub fn no_cycle(head: &mut Head, after: &mut Head) -> bool
     ensures { (q m : List ℕ) → Shown table.no_cycle head.new q m no_run result }
 {
@@ -89,7 +91,7 @@ pub fn no_cycle(head: &mut Head, after: &mut Head) -> bool
     )
 }
 
-// Two SoC losses, one cycle between: 15, crossing.
+/// Two lost SoCs, one completed cycle between: the level comes to 15 and crosses.
 pub fn one_between(head: &mut Head, after: &mut Head) -> bool
     ensures { (q m : List ℕ) → Shown table.one_between head.new q m no_run result }
 {
@@ -102,7 +104,7 @@ pub fn one_between(head: &mut Head, after: &mut Head) -> bool
     lost & lowered & raises_to(head, 15) & error_comes(head, 6, true, after)
 }
 
-// Two cycles between: 14, none.
+/// Two lost SoCs, two completed cycles between: the level is 14, no crossing.
 pub fn two_between(head: &mut Head, after: &mut Head) -> bool
     ensures { (q m : List ℕ) → Shown table.two_between head.new q m no_run result }
 {

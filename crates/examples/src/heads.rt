@@ -1,4 +1,5 @@
-// The words of the table's heads: node 1, basic timeout 5, a queue of 1, cycle 1000, tolerance 100,000 ns.
+//! The words of the heads that the examples state: node 1, basic timeout 5 µs, a queue of 1, cycle
+//! 1,000 µs, tolerance 100,000 ns, thresholds 15.
 ghost use Rattle.std.specs.Prelude.{◌≡◌, set};
 ghost use Rattle.counters.specs.Counters.{counter_of};
 ghost use Rattle.entries.specs.Queue.{queue};
@@ -9,7 +10,8 @@ ghost use Rattle.head.specs.Words.{head_of};
 ghost use Rattle.head.specs.Written.{soc_written};
 ghost use Rattle.watched.specs.Nodes.{nodes_of};
 ghost use Rattle.watched.specs.Watched.{run};
-ghost use Rattle.node.specs.Examples.{machine, values, counters_of, resting, counting, cycling, crossing_tick, no_nodes, watching_one, awaiting};
+ghost use Rattle.node.specs.Examples.{machine, values, counters_of, resting, counting, cycling};
+ghost use Rattle.node.specs.Examples.{crossing_tick, no_nodes, watching_one, awaiting};
 ghost use Rattle.examples.specs.Shown.{placed, Stands, resting_words};
 
 use counters::counters::{CnErrorCounters, CounterKind, ThresholdCounter, Thresholds};
@@ -20,7 +22,7 @@ use head::parts::{
     clear, set_capacity, set_counter, set_dll, set_earliest, set_history, set_identity, set_nmt,
     set_od, set_queue, set_soc, set_thresholds,
 };
-use head::state::{Dictionary, Head, SocWatch};
+use head::state::{Deadline, Dictionary, Head, SocWatch};
 use nmt::cn_state_machine::{CnNmtStateMachine, Position};
 use types::nmt::flags::FeatureFlags;
 use types::nmt::states::NmtState;
@@ -28,7 +30,7 @@ use types::types::NodeId;
 use watched::nodes::NodeWords;
 use watched::record::NodeRecord;
 
-// The error register and the counters 1, 2, 3 and 5.
+/// The dictionary's values, with this error register and these counters 1, 2, 3 and 5.
 pub fn values(
     error_register: u8,
     counter_1: u32,
@@ -55,7 +57,7 @@ fn machine(position: Position) -> CnNmtStateMachine
     CnNmtStateMachine::new(NodeId(1), FeatureFlags(0), 5).at(position)
 }
 
-// In a position, NonCyclic, levels and counts 0, the check off, with these values.
+// A head at a position, NonCyclic, levels and counts 0, the check off, with these values.
 fn write(head: &mut Head, position: Position, od: Dictionary)
     ensures { head.new ≡ resting_words position.state position.enabled position.ready od }
 {
@@ -69,6 +71,7 @@ fn write(head: &mut Head, position: Position, od: Dictionary)
     set_capacity(head, 1);
 }
 
+/// A head that rests at a position: NonCyclic, levels, counts and values 0, the check off.
 pub fn resting(head: &mut Head, state: NmtState, enabled: bool, ready: bool)
     ensures { Stands head.new (resting state enabled ready) }
 {
@@ -80,6 +83,7 @@ pub fn resting(head: &mut Head, state: NmtState, enabled: bool, ready: bool)
     write(head, position, values(0, 0, 0, 0, 0));
 }
 
+// Operational, not enabled, ready.
 const OPERATIONAL: Position = Position {
     state: NmtState::NmtOperational,
     enabled: false,
@@ -97,7 +101,8 @@ fn counter(occurrences: u32, crossings: u32, level: u32) -> ThresholdCounter
     }
 }
 
-// Operational, with occurrences, crossings and level of LossOfSoc, occurrences and level of HeartbeatTimeout.
+/// A head at Operational, with so many errors and crossings and this level of LossOfSoc, and errors
+/// and level of HeartbeatTimeout.
 pub fn counting(head: &mut Head, socs: u32, crossings: u32, soc: u32, beats: u32, beat: u32)
     ensures { Stands head.new (counting (counters_of socs crossings soc beats beat)) }
 {
@@ -107,7 +112,8 @@ pub fn counting(head: &mut Head, socs: u32, crossings: u32, soc: u32, beats: u32
     set_counter(head, CounterKind::HeartbeatTimeout, counter(beats, 0, beat));
 }
 
-// The same where a watched node would be late at a time, with occurrences and level of HeartbeatTimeout.
+/// The same where a watched node would be late at a time, with errors and level of
+/// HeartbeatTimeout.
 pub fn awaiting(head: &mut Head, earliest: u64, beats: u32, beat: u32)
     ensures { Stands head.new (awaiting earliest (counters_of 0 0 0 beats beat)) }
 {
@@ -115,9 +121,10 @@ pub fn awaiting(head: &mut Head, earliest: u64, beats: u32, beat: u32)
     set_earliest(head, Some(earliest));
 }
 
-// WaitSoc, with the last SoC at 10,000.
-fn write_cycle(head: &mut Head, check: bool, next_tick_us: Option<u64>, changed: bool)
-    ensures { head.new ≡ soc_written (set head.old at.dll 1) (soc_watch 10000 check next_tick_us changed) }
+// Puts a head at WaitSoc, with the last SoC at 10,000.
+fn write_cycle(head: &mut Head, check: bool, next_tick_us: Deadline, changed: bool)
+    ensures { head.new ≡
+        soc_written (set head.old at.dll 1) (soc_watch 10000 check next_tick_us changed) }
 {
     set_dll(
         head,
@@ -136,17 +143,19 @@ fn write_cycle(head: &mut Head, check: bool, next_tick_us: Option<u64>, changed:
     );
 }
 
-// Operational, WaitSoc, the check on, with a deadline; the level of LossOfSoc, and its occurrences, which are counter 1.
+/// A head at Operational, WaitSoc, the check on, with a deadline, the level of LossOfSoc and its
+/// errors, which are counter 1 too.
 pub fn cycling(head: &mut Head, deadline: u64, level: u32, lost: u32)
     ensures { Stands head.new (cycling deadline level lost) }
 {
     let od = values(0, lost, 0, 0, 0);
     write(head, OPERATIONAL, od);
-    write_cycle(head, true, Some(deadline), false);
+    write_cycle(head, true, Deadline::At(deadline), false);
     set_counter(head, CounterKind::LossOfSoc, counter(lost, 0, level));
 }
 
-// After the crossing: PreOperational1, the check off, no deadline, one entry in queue and history.
+/// The head after the crossing: PreOperational1, the check off, no deadline, one entry in queue and
+/// history.
 pub fn crossed(head: &mut Head)
     ensures { head_of head.new ≡ placed crossing_tick.all.head (queue 0 1 1) (error_history 253 1) }
 {
@@ -156,7 +165,7 @@ pub fn crossed(head: &mut Head)
         ..OPERATIONAL
     };
     write(head, position, od);
-    write_cycle(head, false, None, true);
+    write_cycle(head, false, Deadline::Nothing, true);
     set_counter(head, CounterKind::LossOfSoc, counter(2, 1, 0));
     set_queue(
         head,
@@ -175,14 +184,14 @@ pub fn crossed(head: &mut Head)
     );
 }
 
-// No node is watched: every place is cleared.
+/// Clears every place: no node is watched.
 pub fn watch_none(nodes: &mut NodeWords)
     ensures { run (nodes_of nodes.new) 0 ≡ no_nodes }
 {
     *nodes = [0; 96];
 }
 
-// Node 5 with timeout 50.
+/// Node 5 with timeout 50 µs, last heard at a time.
 pub fn node_five(last_heard: u64) -> NodeRecord
     ensures { result ≡ record { node = 5; timeout = 50; last_heard = last_heard } }
 {
@@ -193,7 +202,7 @@ pub fn node_five(last_heard: u64) -> NodeRecord
     }
 }
 
-// Node 5, last heard at a time, and no other.
+/// Watches node 5, last heard at a time, and no other.
 pub fn watching(nodes: &mut NodeWords, last_heard: u64)
     ensures { run (nodes_of nodes.new) 1 ≡ watching_one last_heard }
 {

@@ -1,5 +1,6 @@
-// Document 01's bench examples marked ●, run on the real head: for each its number, and whether all that it states came so. That it does is
-// proved of each function, against the table of `node`.
+//! Runs the twelve examples of RULES 11.4 on a head in words and prints for each its number and
+//! `same` where all that it states came so, else `differs`. It is proved that each answers `same`,
+//! against the examples in the specs of `node`.
 #![tactic(auto)]
 
 mod answers;
@@ -16,6 +17,7 @@ use crate::bench::Bench;
 use forms::output::Output;
 use std::io;
 
+// An example's line.
 fn say(out: &mut Output, number: u8, same: bool) {
     let outcome = if same { "same" } else { "differs" };
     writeln!(out, "{number} {outcome}");
@@ -33,7 +35,7 @@ fn main(rt: HostRuntime) -> io::Result<()> {
     let bench = &mut bench;
     let mut after = [0; 60];
     let after = &mut after;
-    // One by one: a list of closures would need dyn values.
+    // One by one, since a list of different closures would need dyn values.
     say(
         out,
         1,

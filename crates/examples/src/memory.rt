@@ -1,4 +1,4 @@
-// Whether the queue and the history hold one entry, and no other.
+//! Whether the queue and the history hold one entry, and no other.
 ghost use Rattle.std.specs.Prelude.{◌≡◌, [], ◌∷◌};
 ghost use Rattle.entries.specs.Queue.{waiting};
 ghost use Rattle.entries.specs.History.{history};
@@ -9,7 +9,10 @@ use entries::status_response::ErrorEntry;
 use head::parts::{history_of, queue_of};
 use head::state::Head;
 
-// Two of one shape: the two rings are other types, and a trait for both would be longer than these.
+// Two functions of one shape: the two rings are different types, and a trait for both would be
+// longer.
+
+/// Whether this entry alone waits in the queue.
 pub fn waits(head: &Head, queue: &[u8; 640], stated: ErrorEntry) -> bool
     ensures { Exactly result (waiting queue.now (queue_of head.now) ≡ stated ∷ []) }
 {
@@ -17,6 +20,7 @@ pub fn waits(head: &Head, queue: &[u8; 640], stated: ErrorEntry) -> bool
     (places.get(queue, 0) == Some(stated)) & places.get(queue, 1).is_none()
 }
 
+/// Whether the history has this entry alone.
 pub fn is_recorded(head: &Head, memory: &[u8; 5080], stated: ErrorEntry) -> bool
     ensures { Exactly result (history memory.now (history_of head.now) ≡ stated ∷ []) }
 {

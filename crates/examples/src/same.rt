@@ -1,4 +1,4 @@
-// Whether two heads are the same, part by part.
+//! Whether two heads are the same.
 ghost use Rattle.std.specs.Prelude.{◌≡◌};
 ghost use Rattle.head.specs.Words.{head_of};
 ghost use Rattle.examples.specs.Same.{Exactly};
@@ -6,6 +6,7 @@ ghost use Rattle.examples.specs.Same.{Exactly};
 use head::parts::{dll_of, earliest_of, errors_of, history_of, nmt_of, od_of, queue_of, soc_of};
 use head::state::Head;
 
+/// Whether two heads are the same, part by part.
 pub fn same_head(a: &Head, b: &Head) -> bool
     ensures { Exactly result (head_of a.now ≡ head_of b.now) }
 {

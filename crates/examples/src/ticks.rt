@@ -1,4 +1,5 @@
-// The examples of ticks: each with the document's words, as the table states it.
+//! The examples 8 to 12 of RULES 11.4: ticks, times in µs. Each answers whether all came as the
+//! specs of `node` state it.
 ghost use Rattle.std.specs.Prelude.{◌≡◌};
 ghost use Rattle.node.specs.Examples as table;
 ghost use Rattle.examples.specs.Shown.{Stands, ShownOn};
@@ -13,8 +14,11 @@ use head::state::Head;
 use types::common::NetTime;
 use types::frame::error::types::{DllError, DllErrors};
 
-// This and the next two differ in numbers only, but each is proved against its own entry of the table.
-// .. deadline 10,500, tick 10,500: deadline 11,100.
+// `early`, `at_limit` and `above_limit` differ in numbers only, but each is proved against its own
+// example.
+
+/// Operational, WaitSoc, check on, levels 0, last SoC 10,000, deadline 10,500, tick at 10,500:
+/// deadline 11,100.
 pub fn early(bench: &mut Bench, after: &mut Head) -> bool
     ensures { ShownOn table.early bench.new 0 result }
 {
@@ -24,7 +28,7 @@ pub fn early(bench: &mut Bench, after: &mut Head) -> bool
     tick_comes(bench, 0, 10500, DllErrors::None, after)
 }
 
-// Tick 11,100, deadline 11,100: no loss, deadline 12,100.
+/// The same with the deadline 11,100, tick at 11,100: no loss, deadline 12,100.
 pub fn at_limit(bench: &mut Bench, after: &mut Head) -> bool
     ensures { ShownOn table.at_limit bench.new 0 result }
 {
@@ -34,9 +38,10 @@ pub fn at_limit(bench: &mut Bench, after: &mut Head) -> bool
     tick_comes(bench, 0, 11100, DllErrors::None, after)
 }
 
-// 11,101 instead: loss, level 8, deadline 12,100.
+/// The same, tick at 11,101: a loss, level 8, deadline 12,100.
 pub fn above_limit(bench: &mut Bench, after: &mut Head) -> bool
-    ensures { ShownOn table.above_limit bench.new 0 result × Stands bench.new.head (table.cycling 12100 8 1) }
+    ensures { ShownOn table.above_limit bench.new 0 result ×
+        Stands bench.new.head (table.cycling 12100 8 1) }
 {
     watch_none(&mut bench.nodes);
     cycling(&mut bench.head, 11100, 0, 0);
@@ -59,7 +64,8 @@ fn crossing_entry() -> ErrorEntry
     }
 }
 
-// Then 12,100: crossing; entry 0x8245, 0 s 12,100,000 ns; PreOperational1, check off, no deadline.
+/// Then a tick at 12,100: a crossing, with the entry 0x8245 at 0 s 12,100,000 ns; PreOperational1,
+/// check off, no deadline.
 pub fn then_crossing(bench: &mut Bench, after: &mut Head) -> bool
     ensures { ShownOn table.then_crossing bench.new 0 result }
 {
@@ -72,7 +78,8 @@ pub fn then_crossing(bench: &mut Bench, after: &mut Head) -> bool
         & is_recorded(&bench.head, &bench.history, entry)
 }
 
-// Timeout 50, heard 100: 150 in time, 151 late. The earliest moment (document 02, No. 1) is then 151, and behind the last tick 202.
+/// Operational, a node with timeout 50 that was heard at 100: in time at 150, late at 151. The
+/// earliest moment is 151, and 202 after the last tick.
 pub fn late(bench: &mut Bench, after: &mut Head) -> bool
     ensures { ShownOn table.late bench.new 1 result }
 {

@@ -1,4 +1,4 @@
--- The errors of an answer as they are printed.
+-- The errors of an answer as the programs print them.
 -- Assumes nothing.
 use Rattle.std.specs.Prelude.{ℕ, List, [], ◌++◌, codes, decimal}
 use Rattle.types.specs.declared.frame.error.types.DllError.{DllError}
@@ -9,10 +9,11 @@ use Rattle.types.specs.declared.types.NodeId.{NodeId}
 use Rattle.types.specs.Errors.{error_kind_of}
 use Rattle.forms.specs.Hex.{hex_form}
 
--- what an error carries, behind a space: its node, or its state in hexadecimal and its event
+-- a node in decimal, behind a space
 abbrev pub node_text : NodeId → List ℕ
 node_text n = codes " " ++ decimal n.0
 
+-- what an error carries: its node, or its state in hexadecimal and its event, or nothing
 abbrev pub carried_text : DllError → List ℕ
 carried_text (UnexpectedEventInState s e) = codes " " ++ (hex_form 2 s ++ (codes " " ++ decimal e))
 carried_text (LossOfPres n) = node_text n
@@ -37,10 +38,11 @@ carried_text MultipleMn = []
 carried_text AddressConflict = []
 carried_text MevAsndTimeout = []
 
--- an error: the number of its kind in decimal, and what it carries
+-- an error: its kind's number in decimal, and what it carries
 abbrev pub error_text : DllError → List ℕ
 error_text e = codes " (" ++ (decimal (error_kind_of e) ++ (carried_text e ++ codes ")"))
 
+-- the errors of an answer, one behind another
 abbrev pub errors_text : DllErrors → List ℕ
 errors_text errors.None = []
 errors_text (errors.One a) = error_text a

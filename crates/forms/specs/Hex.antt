@@ -12,6 +12,6 @@ abbrev pub hex_digits : ℕ → ℕ → List ℕ
 hex_digits zero n = []
 hex_digits (suc k) n = hex_digits k (n / 16) ++ (glyph (n % 16) ∷ [])
 
--- `0x` and the digits
+-- `0x` and the last k digits of n
 abbrev pub hex_form : ℕ → ℕ → List ℕ
 hex_form k n = 48 ∷ 120 ∷ hex_digits k n

@@ -1,4 +1,5 @@
-// The errors of an answer as the programs print them: each its kind, with what it carries.
+//! The errors of an answer as the programs print them: each by its kind's number and what it
+//! carries.
 ghost use Rattle.std.specs.Prelude.{Some};
 ghost use Rattle.forms.specs.Errors.{error_text, errors_text};
 
@@ -7,11 +8,12 @@ use std::fmt;
 use std::fmt::Display;
 use types::frame::error::types::{DllError, DllErrors};
 
-// One error, as ` (18 0x1C 7)` or ` (21 240)`.
+/// One error, as ` (18 0x1C 7)` or ` (21 240)`: behind the kind's number its state in hexadecimal
+/// and its event, or its node.
 #[derive(Clone, Copy)]
 pub struct ErrorForm(pub DllError);
 
-// All of them, one behind another.
+/// All errors of an answer, one behind another.
 #[derive(Clone, Copy)]
 pub struct ErrorsForm(pub DllErrors);
 

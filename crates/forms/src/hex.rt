@@ -1,11 +1,11 @@
-// Numbers in hexadecimal, with capitals and a fixed number of digits.
+//! Numbers in hexadecimal, with capitals and a fixed number of digits.
 ghost use Rattle.std.specs.Prelude.{◌≡◌, ◌%◌, Some};
 ghost use Rattle.forms.specs.Hex.{glyph, hex_digits, hex_form};
 
 use std::fmt;
 use std::fmt::Display;
 
-// A byte as 0x and two digits.
+/// A byte that is printed as 0x and two digits.
 #[derive(Clone, Copy)]
 pub struct HexByte(pub u8);
 
@@ -17,7 +17,7 @@ fn digit(n: u64) -> u8
     if d < 10 { b'0' + d } else { b'A' + (d - 10) }
 }
 
-// The last hexadecimal digits of n.
+/// The last N hexadecimal digits of n, as ASCII.
 pub fn digits<const N: usize>(n: u64) -> [u8; N]
     ensures { result ≡ hex_digits N n }
 {
@@ -30,7 +30,7 @@ pub fn digits<const N: usize>(n: u64) -> [u8; N]
     digits
 }
 
-// 0x and the last two hexadecimal digits of n.
+/// 0x and the last two hexadecimal digits of n, as ASCII.
 pub fn hex2(n: u64) -> [u8; 4]
     ensures { result ≡ hex_form 2 n }
 {
@@ -38,7 +38,7 @@ pub fn hex2(n: u64) -> [u8; 4]
     [b'0', b'x', a, b]
 }
 
-// 0x and the last four hexadecimal digits of n.
+/// 0x and the last four hexadecimal digits of n, as ASCII.
 pub fn hex4(n: u64) -> [u8; 6]
     ensures { result ≡ hex_form 4 n }
 {

@@ -1,4 +1,6 @@
-// Numbers as the programs print them, and where a program prints. A program's output can't be in a contract; the bytes that it writes can.
+//! What the programs share: numbers and errors as they are printed, the output that they print to,
+//! and the generator of a long comparison. What reaches standard output can't stand in a contract;
+//! the bytes that are written can.
 #![tactic(auto)]
 
 pub mod errors;

@@ -1,10 +1,10 @@
-// What is written where the writer's bytes can be seen, and behind a write that failed.
+//! What is written where the writer's bytes can be seen, and behind a write that failed.
 use crate::find::find;
 use crate::output::Output;
 use std::io;
 use std::io::{ErrorKind, Write};
 
-// Has room for so many bytes.
+// A writer with room for so many bytes.
 #[derive(Drop)]
 struct Short {
     room: usize,

@@ -20,13 +20,15 @@ use Rattle.entries.specs.History.{error_history}
 use Rattle.entries.specs.declared.error_history.ErrorHistory.{ErrorHistory}
 use Rattle.std.specs.declared.option.Option.{Option}
 use Rattle.std.specs.declared.option.Option.TheVariants.{Some, None}
+use Rattle.head.specs.declared.state.Deadline.{Deadline}
+use Rattle.head.specs.declared.state.Deadline.TheVariants.{At, Nothing}
 use Rattle.head.specs.declared.state.Object.{Object}
 use Rattle.head.specs.declared.state.Object.TheVariants.{CycleTime, Tolerance}
 use Rattle.head.specs.declared.state.Statistic.{Statistic}
 use Rattle.head.specs.declared.state.Statistic.TheVariants.{Counter1, Counter2, Counter3, Counter5}
 use Rattle.head.specs.Head.{forgetting, Head, soc_watch, with_register, with_object, with_statistic, head_with_nmt, head_with_dll, head_with_errors, head_with_soc, head_with_values, head_with_od, head_with_queue, head_with_earliest}
 use Rattle.head.specs.Places as at
-use Rattle.head.specs.Words.{word, yes, one, time_of, state_of, nmt_of, dll_state, counter_at, errors_of, deadline_of, head_of}
+use Rattle.head.specs.Words.{word, yes, one, time_of, state_of, nmt_of, dll_state, counter_at, errors_of, deadline_of, moment_there, head_of}
 use Rattle.head.specs.Written.{forgotten_written, nmt_written, counter_written, levels_written, earliest_written, soc_written, queue_written, object_written, history_written}
 use Rattle.head.proofs.Whole.{whole}
 
@@ -81,7 +83,7 @@ SocRead l h c g d a b ws =
 abbrev NoDeadlineRead : ℕ → ℕ → ℕ → ℕ → List ℕ → Type 0
 NoDeadlineRead l h c g ws =
     head_of (set (set (set (set (set ws at.last_soc l) (at.last_soc + 1) h) at.check c) at.changed g) at.due 0)
-    ≡ head_with_soc (head_of ws) (soc_watch (time_of l h) (yes c) None (yes g))
+    ≡ head_with_soc (head_of ws) (soc_watch (time_of l h) (yes c) Nothing (yes g))
 
 abbrev QueueRead : ℕ → ℕ → List ℕ → Type 0
 QueueRead o n ws =
@@ -102,7 +104,7 @@ HistoryRead a b ws =
 
 abbrev EarliestRead : ℕ → ℕ → ℕ → List ℕ → Type 0
 EarliestRead d a b ws =
-    head_of (set (set (set ws at.awaited d) at.earliest a) (at.earliest + 1) b) ≡ head_with_earliest (head_of ws) (deadline_of (yes d) (time_of a b))
+    head_of (set (set (set ws at.awaited d) at.earliest a) (at.earliest + 1) b) ≡ head_with_earliest (head_of ws) (moment_there (yes d) (time_of a b))
 
 abbrev NoEarliestRead : List ℕ → Type 0
 NoEarliestRead ws = head_of (set ws at.awaited 0) ≡ head_with_earliest (head_of ws) None
@@ -192,12 +194,12 @@ module _ (ws : List ℕ) (long : length ws ≡ 60) where
   no_deadline_read l h c g = whole (NoDeadlineRead l h c g) ws long refl
 
   -- any watch
-  pub soc_written_lem : (l : ℕ) (on : Bool) (d : Option ℕ) (changed : Bool) → head_of (soc_written ws (soc_watch l on d changed)) ≡ head_with_soc (head_of ws) (soc_watch l on d changed)
-  soc_written_lem l on (Some t) changed =
+  pub soc_written_lem : (l : ℕ) (on : Bool) (d : Deadline) (changed : Bool) → head_of (soc_written ws (soc_watch l on d changed)) ≡ head_with_soc (head_of ws) (soc_watch l on d changed)
+  soc_written_lem l on (At t) changed =
       soc_read _ _ _ _ 1 _ _
-      ∙ (λ i. head_with_soc (head_of ws) (soc_watch (time_back l i) (yes_one on i) (Some (time_back t i)) (yes_one changed i)))
-  soc_written_lem l on None changed =
-      no_deadline_read _ _ _ _ ∙ (λ i. head_with_soc (head_of ws) (soc_watch (time_back l i) (yes_one on i) None (yes_one changed i)))
+      ∙ (λ i. head_with_soc (head_of ws) (soc_watch (time_back l i) (yes_one on i) (At (time_back t i)) (yes_one changed i)))
+  soc_written_lem l on Nothing changed =
+      no_deadline_read _ _ _ _ ∙ (λ i. head_with_soc (head_of ws) (soc_watch (time_back l i) (yes_one on i) Nothing (yes_one changed i)))
 
   pub forgotten_written_lem : head_of (forgotten_written ws) ≡ forgetting (head_of ws)
   unfolding head_of

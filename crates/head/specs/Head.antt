@@ -8,7 +8,9 @@ use Rattle.counters.specs.declared.counters.CnErrorCounters.{CnErrorCounters}
 use Rattle.entries.specs.declared.emergency_queue.EmergencyQueue.{EmergencyQueue}
 use Rattle.entries.specs.declared.error_history.ErrorHistory.{ErrorHistory}
 use Rattle.std.specs.declared.option.Option.{Option}
-use Rattle.std.specs.declared.option.Option.TheVariants.{None}
+use Rattle.std.specs.declared.option.Option.TheVariants.{Some, None}
+use Rattle.head.specs.declared.state.Deadline.{Deadline}
+use Rattle.head.specs.declared.state.Deadline.TheVariants.{At, Nothing}
 use Rattle.head.specs.declared.state.Object.{Object}
 use Rattle.head.specs.declared.state.Object.TheVariants.{CycleTime, Tolerance}
 use Rattle.head.specs.declared.state.Statistic.{Statistic}
@@ -28,7 +30,12 @@ pub record Head : Type 0 where
   -- "The head shows the earliest moment at which a watched node would be late" (document 02, No. 1)
   pub earliest : Option ℕ
 
-abbrev pub soc_watch : ℕ → Bool → Option ℕ → Bool → SocWatch
+-- the moment of a deadline, where there is one
+abbrev pub moment_in : Deadline → Option ℕ
+moment_in (At t) = Some t
+moment_in Nothing = None
+
+abbrev pub soc_watch : ℕ → Bool → Deadline → Bool → SocWatch
 soc_watch t on d changed =
     record {
       last_soc_reception_time_us = t;
@@ -85,7 +92,7 @@ of_parts n d e s o q h x = record { nmt = n; dll = d; errors = e; soc = s; od = 
 
 -- what a reset forgets of the watch: the deadline and the check
 abbrev pub forgotten : SocWatch → SocWatch
-forgotten s = soc_watch s.last_soc_reception_time_us false None s.error_status_changed
+forgotten s = soc_watch s.last_soc_reception_time_us false Nothing s.error_status_changed
 
 -- the head with one of its parts replaced
 module _ (h : Head) where

@@ -25,6 +25,8 @@ use Rattle.entries.specs.Queue.{queue}
 use Rattle.entries.specs.History.{error_history}
 use Rattle.entries.specs.declared.emergency_queue.EmergencyQueue.{EmergencyQueue}
 use Rattle.entries.specs.declared.error_history.ErrorHistory.{ErrorHistory}
+use Rattle.head.specs.declared.state.Deadline.{Deadline}
+use Rattle.head.specs.declared.state.Deadline.TheVariants.{At, Nothing}
 use Rattle.head.specs.declared.state.SocWatch.{SocWatch}
 use Rattle.head.specs.declared.state.Dictionary.{Dictionary}
 use Rattle.head.specs.Head.{Head}
@@ -79,9 +81,9 @@ counter_at ws i = counter_of (word ws i) (word ws (i + 1)) (word ws (i + 2)) (wo
 abbrev pub errors_of : List ℕ → CnErrorCounters
 errors_of ws = by_kind (λ (k : CounterKind). counter_at ws (at.counter k)) (word ws at.links)
 
-abbrev pub deadline_of : Bool → ℕ → Option ℕ
-deadline_of true t = Some t
-deadline_of false t = None
+abbrev pub deadline_of : Bool → ℕ → Deadline
+deadline_of true t = At t
+deadline_of false t = Nothing
 
 abbrev pub soc_of : List ℕ → SocWatch
 soc_of ws =
@@ -114,8 +116,12 @@ queue_of ws = queue (word ws at.oldest % 256) (word ws at.queued % 256) (word ws
 abbrev pub history_of : List ℕ → ErrorHistory
 history_of ws = error_history (word ws at.newest % 256) (word ws at.count % 256)
 
+abbrev pub moment_there : Bool → ℕ → Option ℕ
+moment_there true t = Some t
+moment_there false t = None
+
 abbrev pub earliest_of : List ℕ → Option ℕ
-earliest_of ws = deadline_of (yes (word ws at.awaited)) (time_at ws at.earliest)
+earliest_of ws = moment_there (yes (word ws at.awaited)) (time_at ws at.earliest)
 
 unfoldable pub head_of : List ℕ → Head
 head_of ws =

@@ -16,8 +16,11 @@ use Rattle.entries.specs.declared.emergency_queue.EmergencyQueue.{EmergencyQueue
 use Rattle.entries.specs.declared.error_history.ErrorHistory.{ErrorHistory}
 use Rattle.std.specs.declared.option.Option.{Option}
 use Rattle.std.specs.declared.option.Option.TheVariants.{Some, None}
+use Rattle.head.specs.declared.state.Deadline.{Deadline}
+use Rattle.head.specs.declared.state.Deadline.TheVariants.{Nothing}
 use Rattle.head.specs.declared.state.Dictionary.{Dictionary}
 use Rattle.head.specs.declared.state.SocWatch.{SocWatch}
+use Rattle.head.specs.Head.{moment_in}
 use Rattle.head.specs.Places as at
 use Rattle.head.specs.Words.{one}
 
@@ -60,8 +63,8 @@ abbrev pub moment_written : List ℕ → ℕ → ℕ → Option ℕ → List ℕ
 moment_written ws there i (Some t) = time_written (slice_set ws there 1) i t
 moment_written ws there i None = slice_set ws there 0
 
-abbrev pub deadline_written : List ℕ → Option ℕ → List ℕ
-deadline_written ws d = moment_written ws at.due at.deadline d
+abbrev pub deadline_written : List ℕ → Deadline → List ℕ
+deadline_written ws d = moment_written ws at.due at.deadline (moment_in d)
 
 abbrev pub earliest_written : List ℕ → Option ℕ → List ℕ
 earliest_written ws d = moment_written ws at.awaited at.earliest d
@@ -75,7 +78,7 @@ soc_written ws s =
 
 -- what a reset forgets: no deadline, the check off, the DLL machine at NonCyclic
 abbrev pub forgotten_written : List ℕ → List ℕ
-forgotten_written ws = slice_set (slice_set (deadline_written ws None) at.check 0) at.dll (cs_state_number NonCyclic)
+forgotten_written ws = slice_set (slice_set (deadline_written ws Nothing) at.check 0) at.dll (cs_state_number NonCyclic)
 
 -- the capacity stays
 abbrev pub queue_written : List ℕ → EmergencyQueue → List ℕ

@@ -3,10 +3,10 @@ ghost use Rattle.std.specs.Prelude.{◌≡◌, ℕ, ◌+◌, ◌%◌, ◌≤◌,
 ghost use Rattle.counters.specs.Counters.{of_kind};
 ghost use Rattle.dll.specs.Dll.{cs_state_number};
 ghost use Rattle.head.specs.Places as at;
-ghost use Rattle.head.specs.Words.{word, yes, one, time_at, state_of, nmt_of, dll_state, counter_at, errors_of, deadline_of, soc_of, object_at, od_of, queue_of, history_of, earliest_of};
+ghost use Rattle.head.specs.Words.{word, yes, one, time_at, state_of, nmt_of, dll_state, counter_at, errors_of, moment_there, soc_of, object_at, od_of, queue_of, history_of, earliest_of};
 ghost use Rattle.head.specs.Written.{forgotten_written, nmt_written, counter_written, each_written, levels_written, time_written, moment_written, deadline_written, earliest_written, soc_written, queue_written, history_written, identity_written, thresholds_written, object_written, od_written, WritesThere};
 
-use crate::state::{Dictionary, Head, Object, SocWatch, Statistic};
+use crate::state::{Deadline, Dictionary, Head, Object, SocWatch, Statistic};
 use counters::counters::{ByKind, CnErrorCounters, CounterKind, ThresholdCounter};
 use dll::cs_state_machine::{DllCsState, DllCsStateMachine};
 use entries::emergency_queue::EmergencyQueue;
@@ -88,7 +88,7 @@ fn set_time(head: &mut Head, place: usize, time: u64)
 // A moment that may be missing: whether it is there, and its time.
 fn moment_at(head: &Head, there: usize, place: usize) -> Option<u64>
     requires { (there < 60) × (place < 59) }
-    ensures { result ≡ deadline_of (yes (word head.now there)) (time_at head.now place) }
+    ensures { result ≡ moment_there (yes (word head.now there)) (time_at head.now place) }
 {
     (head[there] != 0).then_some(time_at(head, place))
 }
@@ -254,10 +254,10 @@ pub fn soc_of(head: &Head) -> SocWatch
 }
 
 // Where there is no deadline, its time stays as it was.
-pub fn set_deadline(head: &mut Head, deadline: Option<u64>)
+pub fn set_deadline(head: &mut Head, deadline: Deadline)
     ensures { head.new ≡ deadline_written head.old deadline }
 {
-    set_moment(head, DUE, DEADLINE, deadline);
+    set_moment(head, DUE, DEADLINE, deadline.moment());
 }
 
 pub fn set_soc(head: &mut Head, soc: SocWatch)
@@ -363,10 +363,10 @@ pub fn set_history(head: &mut Head, history: ErrorHistory)
 }
 
 // The deadline, opened by its caller.
-pub fn deadline_at(head: &Head) -> Option<u64>
+pub fn deadline_at(head: &Head) -> Deadline
     ensures { result ≡ (soc_of head.now).next_tick_us }
 {
-    moment_at(head, DUE, DEADLINE)
+    moment_at(head, DUE, DEADLINE).map_or(Deadline::Nothing, Deadline::At)
 }
 
 pub fn check_of(head: &Head) -> bool

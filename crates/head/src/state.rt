@@ -1,14 +1,35 @@
 // What a head keeps of CnContext.
+ghost use Rattle.std.specs.Prelude.{◌≡◌};
+ghost use Rattle.head.specs.Head.{moment_in};
 
 // The words of a head; specs/Places.antt says which is what.
 pub type Head = [u32; 60];
+
+/// When the watch over the cycle wakes: at a moment in µs, which passes at the first tick at or after it, or not at all.
+#[derive(Clone, Copy, PartialEq, Eq)]
+pub enum Deadline {
+    At(u64),
+    Nothing,
+}
+
+impl Deadline {
+    /// The moment in µs, where there is one.
+    pub fn moment(self) -> Option<u64>
+        ensures { result ≡ moment_in self }
+    {
+        match self {
+            Deadline::At(time) => Some(time),
+            Deadline::Nothing => None,
+        }
+    }
+}
 
 // The watch over the cycle.
 #[derive(Clone, Copy, PartialEq, Eq)]
 pub struct SocWatch {
     pub last_soc_reception_time_us: u64,
     pub soc_timeout_check_active: bool,
-    pub next_tick_us: Option<u64>,
+    pub next_tick_us: Deadline,
     pub error_status_changed: bool,
 }
 

@@ -10,7 +10,7 @@ use lib.ListN.{length, get_or, take, drop}
 use lib.Seq.{length-take-le}
 use borrow.Author.Tests.{ltb-true, lt-ltb, le-ltb, eqb-true}
 use Rattle.types.specs.Pick.{pick, both, all_of}
-use Rattle.types.specs.Types.{node, is_node}
+use Rattle.types.specs.Types.{is_node}
 use Rattle.types.proofs.Tests.{both_first, both_second}
 use Rattle.types.specs.declared.refusals.Refusal.{Refusal}
 use Rattle.types.specs.declared.refusals.Refusal.TheVariants.{WatchedNodes}

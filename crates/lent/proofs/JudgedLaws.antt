@@ -37,7 +37,7 @@ use Rattle.heartbeats.specs.PartsIn.{TicksIn}
 use Rattle.heartbeats.proofs.Beatings.{all_looked_fit}
 use Rattle.tick.specs.TickWords.{tick_words}
 use Rattle.tick.specs.TickIn.{is_still, TickedOn, StillTicks}
-use Rattle.tick.proofs.Tickings.{run_unformed, run_late, run_before, run_accepted}
+use Rattle.tick.proofs.Tickings.{run_unformed, run_late, run_before, run_accepted, still_on}
 use Rattle.types.specs.declared.frame.error.types.DllErrors.{DllErrors}
 use Rattle.lent.specs.declared.run.Findings.{Findings}
 use Rattle.lent.specs.declared.run.Setting.{Setting}
@@ -134,11 +134,11 @@ module _ (ws q m : List ℕ) (vs : List WatchedNode) (k t : ℕ) (g : Findings) 
     pub tick_unasked :
         C ≡ false → (x : Option ℕ) → x ≡ moment_of s.soonest → (a : Result DllErrors Refusal) (ws' q' m' : List ℕ) → StillTicks ws q m t x a ws' q' m' → TickedOn ws q m R t a ws' q' m' R
     tick_unasked c x g a ws' q' m' h =
-        h R known.well (ap (λ (c : Bool). is_still c t (watched_of vs k)) c)
+        still_on ws q m t x R known.well (ap (λ (c : Bool). is_still c t (watched_of vs k)) c)
         (g
         ∙ ap moment_of
         (ap (λ (f : Findings). f.soonest) known.found ∙ soonest_all (for_tick ws t) (watched_of vs k)
-        ∙ ap (λ (c : Bool). soonest never (map (settled (pick c (Looked t) Nothing)) (watched_of vs k))) c ∙ ap (soonest never) (settled_none (watched_of vs k))))
+        ∙ ap (λ (c : Bool). soonest never (map (settled (pick c (Looked t) Nothing)) (watched_of vs k))) c ∙ ap (soonest never) (settled_none (watched_of vs k)))) a ws' q' m' h
 
     pub tick_late : in_time t ≡ false → TickedOn ws q m R t (Err TimeLimit) ws q m R
     tick_late b = run_late ws q m R t known.well b

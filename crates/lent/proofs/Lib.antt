@@ -1,6 +1,7 @@
 pub mod SeenLaws
 pub mod SettleLaws
 pub mod BeatLaws
+pub mod BitLaws
 pub mod JudgedLaws
 pub mod ArrivalLaws
 pub mod Links

@@ -11,6 +11,7 @@ use contract.Lifetimes.{Lfts}
 use contract.Monad.{Fun, fact}
 use denote.Triple.Entry.{Args}
 use denote.Triple.Clauses.{AtExit}
+use Prim.Native.Nat.{ℕ}
 use Rattle.std.specs.declared.result.Result.{Result}
 use Rattle.types.specs.declared.refusals.Refusal.{Refusal}
 use Rattle.types.specs.declared.frame.error.types.DllErrors.{DllErrors}
@@ -19,6 +20,8 @@ use Rattle.node.specs.Heard.{HeardOn}
 use Rattle.partners.specs.Partners.{AddedOn, RemovedOn}
 use Rattle.start.specs.Started.{StartedOn}
 use Rattle.tick.specs.TickIn.{TickedOn}
+use Rattle.bitmap.specs.Bitmap.{BitsWritten}
+use Rattle.lent.specs.contracts.bits.bitmap as bits
 use Rattle.lent.specs.contracts.calls.heard as heard
 use Rattle.lent.specs.contracts.calls.start as start
 use Rattle.lent.specs.contracts.ticks.process_tick as tick
@@ -58,8 +61,16 @@ module _ {M : Type 1} {𝓤 : Ura M} (𝓛 : Logic 𝓤) (mem : Memory → SProp
       (RemovedOn a.0.now (run_of a.1.1.0.now a.1.0.now) a.1.1.1.0 o x.0.now (run_of x.1.1.0.now x.1.0.now))
   remove_ensures κs a o x = refl
 
+  pub bits_ensures :
+      (κs : Lfts 2) (a : Args bits.signature κs) (o : Result ℕ Refusal) (x : AtExit bits.ended κs) →
+      (bits.clauses 𝓛 mem run κs a).ensures tt o x ≡ fact 𝓤 (BitsWritten (run_of a.0.now a.1.0) a.1.1.0.now o x.1.1.0.now)
+  bits_ensures κs a o x = refl
+
   pub heard_asks_nothing : (κs : Lfts 2) (a : Args heard.signature κs) → (heard.clauses 𝓛 mem run κs a).requires tt ≡ emp 𝓤
   heard_asks_nothing κs a = refl
+
+  pub bits_asks_nothing : (κs : Lfts 2) (a : Args bits.signature κs) → (bits.clauses 𝓛 mem run κs a).requires tt ≡ emp 𝓤
+  bits_asks_nothing κs a = refl
 
   pub start_asks_nothing : (κs : Lfts 2) (a : Args start.signature κs) → (start.clauses 𝓛 mem run κs a).requires tt ≡ emp 𝓤
   start_asks_nothing κs a = refl

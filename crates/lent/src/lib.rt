@@ -4,6 +4,7 @@
 #![tactic(auto)]
 
 pub mod arrivals;
+pub mod bits;
 pub mod calls;
 pub mod counter;
 pub mod run;

@@ -1,9 +1,9 @@
--- What a clause says of a judge: a closure that is lent a value and told what was found.
+-- What a contract says of a judge: a closure that is lent a value and given what was found.
 use Rattle.std.specs.Prelude.{◌≡◌}
 use Rattle.std.specs.Fn.{Once}
 use denote.Ref.{MutBor}
 
--- at a `&mut` to x, and at s, it may give r and leave x' there
+-- lent a `&mut` to x, and given s, it may answer r and leave x'
 pub record Judges {J P S R : Type 0} (g : Once J (MutBor P × (S × Unit {0})) (R × (MutBor P × Unit {0}))) (judge : J) (x : P) (s : S) (r : R) (x' : P) : Type 0 where
   pub shown : MutBor P
   pub shows : shown.now ≡ x

@@ -1,13 +1,17 @@
-// What a call does to what is lent to it, each once for all types and all steps: a closure says what a step does, and what it ensures tells what the call does.
-//
-//   change         a value becomes what the step makes of it
-//   change_answer  the same, and the step's answer is handed on
-//   fold           something carried over the records, from the first to the last; none is written
-//   scan           each record becomes what the step makes of it and of what is carried to it, from the first to the last
-//   scan_back      the same from the last to the first
-//   judged         a fold finds something out, the judge goes by it, and a scan sets what the judge says
-//
-// The contract of a walk holds of every function, or pair of functions, that the step computes: a caller names it, and says that what the step ensures is it.
+//! How a call changes a value or records that are lent to it, once for all types: a closure says
+//! what a step does, and the contract says what the call does by what the closure ensures.
+//!
+//! - `change`: a value becomes what the step makes of it
+//! - `change_answer`: the same, and the step's answer is handed on
+//! - `fold`: a value carried over the records, from the first to the last; no record is written
+//! - `scan`: each record becomes what the step makes of it and of the value carried to it, from the
+//!   first to the last
+//! - `scan_back`: the same from the last to the first
+//! - `judged`: a fold over the records, a judge that is given its result, and a scan that starts
+//!   with what the judge gives
+//!
+//! The contract of a walk holds for every function, or pair of functions, that the step computes. A
+//! caller names the function and shows that what the step ensures is it.
 #![tactic(auto)]
 
 ghost use Rattle.std.specs.Prelude.{◌≡◌};
@@ -15,7 +19,7 @@ ghost use Rattle.lentlaws.specs.Fold.{folded};
 ghost use Rattle.lentlaws.specs.Judged.{Judges};
 ghost use Rattle.lentlaws.specs.Scan.{scanned, scanned_back};
 
-// A value, by a function of it.
+/// Sets a value to what the step makes of it.
 pub fn change<S: Copy, F: Fn(S) -> S>(lent: &mut S, step: F)
     requires { F.IsAlwaysCallable step }
     ensures { F.post step lent.old lent.new }
@@ -23,7 +27,7 @@ pub fn change<S: Copy, F: Fn(S) -> S>(lent: &mut S, step: F)
     *lent = step(*lent);
 }
 
-// A value, by a function of it that answers too.
+/// Sets a value to the first of what the step makes of it, and answers the second.
 pub fn change_answer<S: Copy, X, F: Fn(S) -> (S, X)>(lent: &mut S, step: F) -> X
     requires { F.IsAlwaysCallable step }
     ensures { F.post step lent.old (lent.new, result) }
@@ -33,18 +37,22 @@ pub fn change_answer<S: Copy, X, F: Fn(S) -> (S, X)>(lent: &mut S, step: F) -> X
     answer
 }
 
-// The records, in order.
+/// What the step carries over the records, from `first` on and in order. No record is written.
 pub fn fold<E: Copy, A, F: Fn(A, E) -> A>(xs: &[E], first: A, step: F) -> A
     requires { F.IsAlwaysCallable step }
-    ensures { (f : A → E → A) → ((a : A) (x : E) (b : A) → F.post step a x b → b ≡ f a x) → result ≡ folded f first xs.now }
+    ensures { (f : A → E → A) → ((a : A) (x : E) (b : A) → F.post step a x b → b ≡ f a x) →
+        result ≡ folded f first xs.now }
 {
     xs.iter().fold(first, |carried, x| step(carried, *x))
 }
 
-// Each record, in order: the step gives what it becomes, and what is carried on.
+/// Sets each record, from the first to the last: of what is carried to a record, `first` at the
+/// start, and of the record the step gives what it becomes and what is carried on.
 pub fn scan<E: Copy, A: Copy, F: Fn(A, E) -> (E, A)>(xs: &mut [E], first: A, step: F)
     requires { F.IsAlwaysCallable step }
-    ensures { (sets : A → E → E) (carries : A → E → A) → ((a : A) (x : E) (r : E × A) → F.post step a x r → r ≡ (sets a x, carries a x)) → xs.new ≡ scanned sets carries first xs.old }
+    ensures { (sets : A → E → E) (carries : A → E → A) →
+        ((a : A) (x : E) (r : E × A) → F.post step a x r → r ≡ (sets a x, carries a x)) →
+        xs.new ≡ scanned sets carries first xs.old }
 {
     let mut carried = first;
     for x in xs.iter_mut() {
@@ -54,10 +62,13 @@ pub fn scan<E: Copy, A: Copy, F: Fn(A, E) -> (E, A)>(xs: &mut [E], first: A, ste
     }
 }
 
-// Each record, from the last: by its place, since of a `rev` of `iter_mut` no proof knows the elements.
+/// The same from the last record to the first, with `last` at the start. It goes by places, since
+/// nothing is known of the elements of `iter_mut().rev()`.
 pub fn scan_back<E: Copy, A: Copy, F: Fn(A, E) -> (E, A)>(xs: &mut [E], last: A, step: F)
     requires { F.IsAlwaysCallable step }
-    ensures { (sets : A → E → E) (carries : A → E → A) → ((a : A) (x : E) (r : E × A) → F.post step a x r → r ≡ (sets a x, carries a x)) → xs.new ≡ scanned_back sets carries last xs.old }
+    ensures { (sets : A → E → E) (carries : A → E → A) →
+        ((a : A) (x : E) (r : E × A) → F.post step a x r → r ≡ (sets a x, carries a x)) →
+        xs.new ≡ scanned_back sets carries last xs.old }
 {
     let mut carried = last;
     for i in (0..xs.len()).rev() {
@@ -67,8 +78,10 @@ pub fn scan_back<E: Copy, A: Copy, F: Fn(A, E) -> (E, A)>(xs: &mut [E], last: A,
     }
 }
 
-// A call that goes by the records: a walk finds out what it judges by, the judge is lent a value and answers, and a walk sets what the judge says. Of several values
-// that are lent, a tuple of their references is the one: the contract tells what is left of each.
+/// A call that depends on the records and sets them: `see` is carried over the records from `first`
+/// on, `judge` is lent a value and given what was found, and answers the call's answer and what
+/// `set` then carries over the records. Several lent values are given as a tuple of references; the
+/// contract says what is left of each.
 pub fn judged<E: Copy, P, S, Y: Copy, X, F, J, T>(
     lent: &mut P,
     xs: &mut [E],
@@ -87,7 +100,8 @@ where
     ensures { (f : S → E → S) (sets : Y → E → E) (carries : Y → E → Y) →
         ((a : S) (x : E) (b : S) → F.post see a x b → b ≡ f a x) →
         ((a : Y) (x : E) (r : E × Y) → T.post set a x r → r ≡ (sets a x, carries a x)) →
-        (y : Y) × Judges J.FnOnce judge lent.old (folded f first xs.old) (result, y) lent.new × (xs.new ≡ scanned sets carries y xs.old) }
+        (y : Y) × Judges J.FnOnce judge lent.old (folded f first xs.old) (result, y) lent.new ×
+        (xs.new ≡ scanned sets carries y xs.old) }
 {
     let found = fold(xs, first, see);
     let (answer, setting) = judge(lent, found);

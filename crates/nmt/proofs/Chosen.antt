@@ -1,5 +1,6 @@
--- What `chosen` needs of the table that the rule asks for: the entry of every state, event, enabled and ready is the rule's, and reading the entry is what
--- the rule makes of the event. That the table is this one antt computes, in the proof of `chosen`.
+-- What `chosen` needs of the table: the entry of every state, event, enabled and ready is that of
+-- the rules, and reading the entry gives what the rules make of the event. That the table in src/
+-- is this one is computed in the proof of `chosen`.
 -- Assumes nothing.
 use Prim.Native.Nat.{ℕ}
 use mathlib.Core.Path.{◌≡◌, refl, ap, ◌∙◌}
@@ -8,7 +9,7 @@ use mathlib.Core.List.{List, [], ◌∷◌, map}
 use lib.ListN.{get_or}
 use mir.Val.{bool_byte}
 use Rattle.types.specs.Pick.{pick}
-use Rattle.types.specs.States.{states}
+use Rattle.types.specs.States.{states, state_place}
 use Rattle.types.specs.Events.{event_number, events}
 use Rattle.types.specs.declared.nmt.events.NmtEvent.{NmtEvent}
 use Rattle.types.specs.declared.nmt.states.NmtState.{NmtState}
@@ -17,7 +18,7 @@ use Rattle.types.specs.declared.frame.error.types.DllError.{DllError}
 use Rattle.types.proofs.Cases.{everywhere, NmtStates, NmtEvents}
 use Rattle.nmt.specs.Resets.{Passed, is_reset, reset_sequence}
 use Rattle.nmt.specs.Nmt.{Move, Goes, Stays, Enables, Readies, Unexpected, Outcome, row_of, with, enter, enabled, ready, without_reset, applied, reset_by, processed}
-use Rattle.nmt.specs.Table.{place, state_at, packed, unpacked, reports, entry_of, standing, ruled}
+use Rattle.nmt.specs.Table.{state_at, packed, unpacked, reports, entry_of, standing, ruled}
 use Rattle.nmt.specs.declared.cn_state_machine.CnNmtStateMachine.{CnNmtStateMachine}
 use Rattle.nmt.specs.declared.table.Entry.{Entry}
 use Rattle.nmt.proofs.Laws.{reset_enters, plain_passes}
@@ -84,7 +85,7 @@ module _ (m : CnNmtStateMachine) (e : NmtEvent) where
   unfolding ruled processed
   ruled_read = by_reset_lem (is_reset e) refl
 
--- a machine that follows the entry of the rule meets the rule
+-- a machine that goes by the entry of the rules goes by the rules
 pub follows :
     (m : CnNmtStateMachine) (e : NmtEvent) (x : Entry) (es : List DllError) (p : Passed) →
     x ≡ ruled m.current_state e m.ready_to_operate_enabled m.app_ready →
@@ -93,7 +94,7 @@ pub follows :
     ◌≡◌ {A = Outcome} (record { machine = with m x.position.state x.position.enabled x.position.ready; errors = es; reset = p }) (processed m e)
 follows m e x es p asked reported passed = rw (reported, passed) (ap (read m e) asked) ∙ ruled_read m e
 
--- the table that the rule asks for
+-- the table of the rules
 abbrev flags : List Bool
 flags = false ∷ true ∷ []
 
@@ -103,8 +104,8 @@ entries s e = map (λ enabled. map (λ ready. packed (ruled s e enabled ready)) 
 abbrev table : List (List (List (List ℕ)))
 table = map (λ s. map (entries s) events) states
 
-at_state : {B : Type 0} (f : NmtState → B) (d : B) (s : NmtState) → get_or (map f states) (place s) d ≡ f s
-at_state f d = everywhere NmtStates (λ s. get_or (map f states) (place s) d) f refl refl
+at_state : {B : Type 0} (f : NmtState → B) (d : B) (s : NmtState) → get_or (map f states) (state_place s) d ≡ f s
+at_state f d = everywhere NmtStates (λ s. get_or (map f states) (state_place s) d) f refl refl
 
 at_event : {B : Type 0} (f : NmtEvent → B) (d : B) (e : NmtEvent) → get_or (map f events) (event_number e) d ≡ f e
 at_event f d = everywhere NmtEvents (λ e. get_or (map f events) (event_number e) d) f refl refl
@@ -116,7 +117,7 @@ at_flag f d false = refl
 -- where a state, an event, enabled and ready stand in it, there is their entry
 pub each_entry :
     (s : NmtState) (e : NmtEvent) (on up : Bool) (d1 : List (List (List ℕ))) (d2 : List (List ℕ)) (d3 : List ℕ) (d4 : ℕ) →
-    unpacked (get_or (get_or (get_or (get_or table (place s) d1) (event_number e) d2) (bool_byte on) d3) (bool_byte up) d4) ≡ ruled s e on up
+    unpacked (get_or (get_or (get_or (get_or table (state_place s) d1) (event_number e) d2) (bool_byte on) d3) (bool_byte up) d4) ≡ ruled s e on up
 each_entry s e on up d1 d2 d3 d4 =
     ap unpacked
     (ap (λ l. get_or (get_or (get_or l (event_number e) d2) (bool_byte on) d3) (bool_byte up) d4) (at_state (λ s. map (entries s) events) d1 s) ∙

@@ -1,4 +1,4 @@
--- Document 01's worked examples of NMT events, proved together over one table of them.
+-- Examples of NMT events (RULES 11.4), proved together over one table of them.
 -- Assumes nothing.
 use mathlib.Core.Path.{◌≡◌, refl}
 use mathlib.Core.Bool.{Bool, true, false}

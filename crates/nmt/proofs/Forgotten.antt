@@ -1,5 +1,6 @@
--- Document 02, No. 7: "the table of No. 2 follows". Beside the rule by which a reset leaves the readiness, 120 of the 912 entries are others: those of a
--- reset event where ready was on, 5 events, 12 states, enabled or not.
+-- What it changes in the table that a reset clears ready: beside a reset that leaves ready as it
+-- was, 120 of the 912 entries differ, those of the 5 reset events in 12 states, enabled or not,
+-- where the machine was ready.
 -- Assumes nothing.
 use Prim.Native.Nat.{ℕ, ◌+◌}
 use mathlib.Core.Path.{◌≡◌, refl}
@@ -16,7 +17,7 @@ use Rattle.nmt.specs.Nmt.{Outcome, row_of, enter, enter_all, applied, reset_by, 
 use Rattle.nmt.specs.Table.{packed, entry_of, standing, ruled}
 use Rattle.nmt.specs.declared.cn_state_machine.CnNmtStateMachine.{CnNmtStateMachine}
 
--- document 01's rule: a reset enters its states, and that is all
+-- a reset that enters its states and leaves ready as it was
 abbrev keeping : CnNmtStateMachine → NmtEvent → Outcome
 keeping m e =
     pick (is_reset e) (record { machine = enter_all m (states_entered e); errors = []; reset = reset_sequence e })

@@ -1,5 +1,5 @@
--- What `chosen` ensures, as its contract in src/ is read: whatever it returned is the entry that the rule asks for, of every state, event, enabled and
--- ready; and it asks nothing of its caller.
+-- What `chosen` ensures, as its contract in src/ is read: it returns the entry of the rules for
+-- every state, event, enabled and ready, and it asks nothing of its caller.
 -- Assumes nothing.
 use mathlib.Core.Path.{◌≡◌}
 use Rattle.nmt.specs.Table.{ruled}

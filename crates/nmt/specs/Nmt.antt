@@ -1,5 +1,6 @@
--- What an NMT event does to a controlled node's machine: the pairs of state and event that have a row, as document 01 and the Rust's match have them
--- (NMT_CT2 to NMT_CT12 are DS 301's names, by the Rust's comments), and what each row's move means.
+-- What an NMT event does to a controlled node's machine (RULES 4.1 to 4.4): the pairs of state and
+-- event that have a row, and what each row's move means. NMT_CT2 to NMT_CT12 are DS 301's names of
+-- the transitions, as the original's comments have them.
 -- Assumes nothing.
 use Rattle.std.specs.Prelude.{ℕ, List, [], ◌∷◌, ◌++◌, Bool, true, false}
 use Rattle.types.specs.Pick.{pick, both, either}
@@ -18,7 +19,7 @@ use Rattle.nmt.specs.Resets.{Passed, is_reset, states_entered, reset_sequence, p
 use Rattle.nmt.specs.declared.cn_state_machine.CnNmtStateMachine.{CnNmtStateMachine}
 use Rattle.nmt.specs.declared.cn_state_machine.NmtAnswer.{NmtAnswer}
 
--- what a pair of state and event asks for
+-- what the row of a state and an event does
 pub data Move : Type 0 where
   -- enter the state
   Goes : NmtState → Move
@@ -31,6 +32,7 @@ pub data Move : Type 0 where
   -- no row: keep the state and report the pair
   Unexpected : Move
 
+-- a row of the machine's table
 pub record Row : Type 0 where
   pub state : NmtState
   pub event : NmtEvent
@@ -62,7 +64,7 @@ cyclic_rows =
     row NmtPreOperational2 StartNode (Enables NmtOperational) ∷
     -- NMT_CT6
     row NmtPreOperational2 CnConfigurationComplete Readies ∷
-    -- said again, they change nothing
+    -- given again, they change nothing and are no error
     row NmtReadyToOperate EnableReadyToOperate Stays ∷
     row NmtReadyToOperate CnConfigurationComplete Stays ∷
     -- NMT_CT7
@@ -82,11 +84,12 @@ cyclic_rows =
     row NmtCsStopped Error (Goes NmtPreOperational1) ∷
     []
 
--- the move of the pair's row
+-- the move of a state and an event by their row among some; Unexpected where they have none
 abbrev pub look : List Row → NmtState → NmtEvent → Move
 look [] s e = Unexpected
 look (r ∷ rs) s e = pick (both (same_state s r.state) (same_event e r.event)) r.does (look rs s e)
 
+-- the move of a state and an event
 unfoldable pub row_of : NmtState → NmtEvent → Move
 row_of s e = look (boot_up_rows ++ cyclic_rows) s e
 
@@ -121,17 +124,19 @@ enter m s =
     (pick (either (same_state s NmtPreOperational2) (same_state s NmtReadyToOperate)) m.ready_to_operate_enabled false)
     m.app_ready
 
+-- some states entered, one after the other
 abbrev pub enter_all : CnNmtStateMachine → List NmtState → CnNmtStateMachine
 enter_all m [] = m
 enter_all m (s ∷ ss) = enter_all (enter m s) ss
 
+-- the machine with enabled set, and with ready set
 abbrev pub enabled : CnNmtStateMachine → CnNmtStateMachine
 enabled m = with m m.current_state true m.app_ready
 
 abbrev pub ready : CnNmtStateMachine → CnNmtStateMachine
 ready m = with m m.current_state m.ready_to_operate_enabled true
 
--- what an event leaves and reports
+-- what an event leaves and answers: the machine, its errors, and what a reset passes
 pub record Outcome : Type 0 where
   pub machine : CnNmtStateMachine
   pub errors : List DllError
@@ -144,6 +149,7 @@ outcome a = record { machine = a.machine; errors = reported a.errors; reset = pa
 abbrev pub without_reset : CnNmtStateMachine → List DllError → Outcome
 without_reset m es = record { machine = m; errors = es; reset = record { states = []; ranges = [] } }
 
+-- what a move makes of a machine and an event
 unfoldable pub applied : CnNmtStateMachine → NmtEvent → Move → Outcome
 applied m e (Goes s) = without_reset (enter m s) []
 applied m e Stays = without_reset m []
@@ -151,12 +157,14 @@ applied m e (Enables s) = without_reset (pick m.app_ready (enter (enabled m) s) 
 applied m e Readies = without_reset (pick m.ready_to_operate_enabled (enter (ready m) NmtReadyToOperate) (ready m)) []
 applied m e Unexpected = without_reset m (UnexpectedEventInState (state_number m.current_state) (event_number e) ∷ [])
 
+-- the machine with ready cleared
 abbrev pub unready : CnNmtStateMachine → CnNmtStateMachine
 unready m = with m m.current_state m.ready_to_operate_enabled false
 
--- a reset enters its states one after the other, without errors; document 02, No. 7: "what was ready before must not count as ready after"
+-- a reset enters its states one after the other, without errors, and clears ready (RULES 4.4, 4.5)
 unfoldable pub reset_by : CnNmtStateMachine → NmtEvent → Outcome
 reset_by m e = record { machine = unready (enter_all m (states_entered e)); errors = []; reset = reset_sequence e }
 
+-- an NMT event: a reset, or the move of its row
 unfoldable pub processed : CnNmtStateMachine → NmtEvent → Outcome
 processed m e = pick (is_reset e) (reset_by m e) (applied m e (row_of m.current_state e))

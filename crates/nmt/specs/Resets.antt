@@ -1,4 +1,5 @@
--- The reset events: the states that each enters and the index ranges to restore, in order.
+-- The reset events (RULES 4.4): the states that each enters and the index ranges to restore, in
+-- order.
 -- Assumes nothing.
 use Rattle.std.specs.Prelude.{ℕ, List, [], ◌∷◌, ◌++◌, Bool, true, false}
 use Rattle.types.specs.Pick.{pick, read_by}
@@ -22,6 +23,7 @@ reset_states =
     NmtNotActive ∷
     []
 
+-- a reset event and the first state that it enters
 pub record ResetRow : Type 0 where
   pub event : NmtEvent
   pub first : NmtState
@@ -29,7 +31,7 @@ pub record ResetRow : Type 0 where
 abbrev pub resets : NmtEvent → NmtState → ResetRow
 resets e s = record { event = e; first = s }
 
--- each reset event, and the state that it starts at
+-- the five reset events
 abbrev pub reset_rows : List ResetRow
 reset_rows =
     resets Reset NmtGsInitialising ∷
@@ -39,12 +41,12 @@ reset_rows =
     resets ResetConfiguration NmtGsResetConfiguration ∷
     []
 
--- the states from s on
+-- the part of a list of states from s on
 abbrev pub from : NmtState → List NmtState → List NmtState
 from s [] = []
 from s (t ∷ ts) = pick (same_state s t) (t ∷ ts) (from s ts)
 
--- what the row of an event gives, or `none` where the event is no reset
+-- f of the event's row, or `none` where the event is no reset
 abbrev pub by_reset : {A : Type 0} → (ResetRow → A) → A → NmtEvent → A
 by_reset f none e = read_by (λ (r : ResetRow). event_number r.event) f none reset_rows (event_number e)
 
@@ -58,25 +60,28 @@ states_entered e = by_reset (λ r. from r.first reset_states) [] e
 abbrev pub range : ℕ → ℕ → IndexRange
 range a b = record { first = a; last = b }
 
--- the ranges to restore after a state was entered: after 0x29, 0x2000 to 0x5FFF and 0x6000 to 0x9FFF; after 0x39, 0x1000 to 0x1FFF
+-- the ranges to restore after a state was entered: 0x2000 to 0x5FFF and 0x6000 to 0x9FFF after
+-- 0x29, 0x1000 to 0x1FFF after 0x39
 abbrev pub restored_after : NmtState → List IndexRange
 restored_after s =
     pick (same_state s NmtGsResetApplication) (range 0x2000 0x5FFF ∷ range 0x6000 0x9FFF ∷ [])
     (pick (same_state s NmtGsResetCommunication) (range 0x1000 0x1FFF ∷ []) [])
 
+-- the ranges to restore after some states were entered, in order
 abbrev pub ranges_restored : List NmtState → List IndexRange
 ranges_restored [] = []
 ranges_restored (s ∷ ss) = restored_after s ++ ranges_restored ss
 
--- the states entered and the ranges to restore
+-- what a reset passes: the states entered and the ranges to restore
 pub record Passed : Type 0 where
   pub states : List NmtState
   pub ranges : List IndexRange
 
+-- what an event passes; of an event that is no reset both lists are empty
 unfoldable pub reset_sequence : NmtEvent → Passed
 reset_sequence e = record { states = states_entered e; ranges = ranges_restored (states_entered e) }
 
--- what a `ResetSequence` says: the states from its first one on, and the ranges that they restore
+-- what a `ResetSequence` stands for: the states from its first one on, and the ranges they restore
 abbrev pub entered_states : ResetSequence → List NmtState
 entered_states sequence.None = []
 entered_states sequence.Whole = reset_states

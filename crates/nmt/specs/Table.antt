@@ -1,46 +1,35 @@
--- The NMT choice as a table: an entry is what an event leaves of a state, enabled and ready, and whether the pair is reported. How it is packed,
--- and which entry the rule asks for.
+-- The NMT machine's choice as a table (RULES 4.7). An entry says what an event makes of a state,
+-- enabled and ready, and whether the pair is reported. Here: how an entry is packed, and which
+-- entry the rules give.
 -- Assumes nothing.
 use Rattle.std.specs.Prelude.{ℕ, ◌+◌, ◌/◌, ◌%◌, List, [], ◌∷◌, Bool, true, false, eqb}
 use Rattle.types.specs.Pick.{pick, read_by}
-use Rattle.types.specs.States.{states, state_number}
+use Rattle.types.specs.States.{states, state_number, state_place}
 use Rattle.types.specs.Events.{event_number, events}
 use Rattle.types.specs.declared.nmt.events.NmtEvent.{NmtEvent}
 use Rattle.types.specs.declared.nmt.events.NmtEvent.TheVariants.{StartNode}
 use Rattle.types.specs.declared.nmt.states.NmtState.{NmtState}
-use Rattle.types.specs.declared.nmt.states.NmtState.TheVariants.{NmtGsOff, NmtGsInitialising, NmtGsResetApplication, NmtGsResetCommunication, NmtGsResetConfiguration, NmtNotActive, NmtPreOperational1, NmtPreOperational2, NmtReadyToOperate, NmtOperational, NmtCsStopped, NmtBasicEthernet}
+use Rattle.types.specs.declared.nmt.states.NmtState.TheVariants.{NmtGsOff}
 use Rattle.types.specs.declared.frame.error.types.DllError.{DllError}
 use Rattle.types.specs.declared.frame.error.types.DllError.TheVariants.{UnexpectedEventInState}
 use Rattle.nmt.specs.Nmt.{Outcome, processed}
 use Rattle.nmt.specs.declared.cn_state_machine.CnNmtStateMachine.{CnNmtStateMachine}
 use Rattle.nmt.specs.declared.table.Entry.{Entry}
 
--- a state's place in its enum, from 0
-abbrev pub place : NmtState → ℕ
-place NmtGsOff = 0x0
-place NmtGsInitialising = 0x1
-place NmtGsResetApplication = 0x2
-place NmtGsResetCommunication = 0x3
-place NmtGsResetConfiguration = 0x4
-place NmtNotActive = 0x5
-place NmtPreOperational1 = 0x6
-place NmtPreOperational2 = 0x7
-place NmtReadyToOperate = 0x8
-place NmtOperational = 0x9
-place NmtCsStopped = 0xA
-place NmtBasicEthernet = 0xB
-
+-- the state at a place; GsOff where no state has the place
 unfoldable pub state_at : ℕ → NmtState
-state_at k = read_by place (λ s. s) NmtGsOff states k
+state_at k = read_by state_place (λ s. s) NmtGsOff states k
 
--- an event's number is its place in its enum
+-- the event at a place, which is its number; StartNode where no event has the place
 unfoldable pub event_at : ℕ → NmtEvent
 event_at k = read_by event_number (λ e. e) StartNode events k
 
--- the packing: the place of the next state, 16 where ready, 32 where enabled, 64 where the pair is reported
+-- an entry as a number: the place of the next state, plus 16 where ready, 32 where enabled, 64
+-- where the pair is reported
 abbrev pub packed : Entry → ℕ
-packed x = place x.position.state + pick x.position.ready 16 0 + pick x.position.enabled 32 0 + pick x.unexpected 64 0
+packed x = state_place x.position.state + pick x.position.ready 16 0 + pick x.position.enabled 32 0 + pick x.unexpected 64 0
 
+-- the entry that a number stands for
 unfoldable pub unpacked : ℕ → Entry
 unpacked k =
     record {
@@ -48,11 +37,11 @@ unpacked k =
       unexpected = eqb (k / 64 % 2) 1;
     }
 
--- what an entry reports: the pair that has no row
+-- the errors of an entry: the pair, where it has no row
 abbrev pub reports : Bool → NmtState → NmtEvent → List DllError
 reports unexpected s e = pick unexpected (UnexpectedEventInState (state_number s) (event_number e) ∷ []) []
 
--- what an outcome has for an entry; the only error that it can report names the pair
+-- the entry of an outcome, whose only error can be that of the pair
 abbrev pub some : List DllError → Bool
 some [] = false
 some (e ∷ es) = true
@@ -76,6 +65,6 @@ standing s enabled ready =
       app_ready = ready;
     }
 
--- the entry that the rule asks for
+-- the entry that the rules give
 unfoldable pub ruled : NmtState → NmtEvent → Bool → Bool → Entry
 ruled s e enabled ready = entry_of (processed (standing s enabled ready) e)

@@ -1,4 +1,4 @@
-// The NMT state machine of a controlled node: an event's choice is an entry of the table.
+//! The NMT machine of a controlled node: an event moves it as its entry in the table says.
 ghost use Rattle.std.specs.Prelude.{◌≡◌};
 ghost use Rattle.types.specs.Errors.{reported};
 ghost use Rattle.nmt.specs.Resets.{passed, reset_sequence};
@@ -13,34 +13,44 @@ use types::nmt::flags::FeatureFlags;
 use types::nmt::states::NmtState;
 use types::types::NodeId;
 
-// All of a machine that an event goes by and changes.
+/// All of a machine that an event depends on and changes.
 #[derive(Clone, Copy, PartialEq, Eq)]
 pub struct Position {
     pub state: NmtState,
+    /// The managing node has allowed ReadyToOperate.
     pub enabled: bool,
+    /// The application is ready.
     pub ready: bool,
 }
 
+/// The NMT machine of a controlled node (RULES 1.1).
 #[derive(Clone, Copy, PartialEq, Eq)]
 pub struct CnNmtStateMachine {
     pub current_state: NmtState,
+    /// The node's own number.
     pub node_id: NodeId,
+    /// Kept, and read by no rule.
     pub feature_flags: FeatureFlags,
+    /// In µs: how long a tick lets NotActive last before BasicEthernet; 0 sets no limit (RULES
+    /// 7.5).
     pub basic_ethernet_timeout: u32,
-    // The managing node has enabled ReadyToOperate.
+    /// The managing node has allowed ReadyToOperate.
     pub ready_to_operate_enabled: bool,
-    // The application has finished its configuration.
+    /// The application has finished its configuration.
     pub app_ready: bool,
 }
 
+/// What an NMT event leaves and answers.
 #[derive(Clone, Copy, PartialEq, Eq)]
 pub struct NmtAnswer {
     pub machine: CnNmtStateMachine,
+    /// None, or the one error UnexpectedEventInState.
     pub errors: DllErrors,
+    /// The states passed and the ranges to restore, where the event is a reset.
     pub reset: ResetSequence,
 }
 
-// What is reported: the pair, where it has no row.
+// The errors of an event: UnexpectedEventInState where the pair of state and event has no row.
 fn reported_of(unexpected: bool, state: NmtState, event: NmtEvent) -> DllErrors
     ensures { reported result ≡ reports unexpected state event }
 {
@@ -53,6 +63,7 @@ fn reported_of(unexpected: bool, state: NmtState, event: NmtEvent) -> DllErrors
 }
 
 impl CnNmtStateMachine {
+    /// A machine at GsInitialising, not enabled, ready; the timeout in µs.
     pub fn new(node_id: NodeId, feature_flags: FeatureFlags, basic_ethernet_timeout: u32) -> Self
         ensures { result ≡ new_machine node_id feature_flags basic_ethernet_timeout }
     {
@@ -66,7 +77,7 @@ impl CnNmtStateMachine {
         }
     }
 
-    // The same machine in a position.
+    /// The machine at another position; its node, flags and timeout stay.
     pub fn at(self, position: Position) -> Self
         ensures { result ≡ with self position.state position.enabled position.ready }
     {
@@ -78,8 +89,9 @@ impl CnNmtStateMachine {
         }
     }
 
-    // State, enabled and ready as the table has them, and what the pair reports; a reset, with its states and ranges, is told by the
-    // event alone.
+    /// An NMT event (RULES 4.1 to 4.4). State, enabled and ready become those of the table's entry,
+    /// which also says whether the pair is reported. The event alone decides what a reset passes
+    /// and restores.
     pub fn process_event(self, event: NmtEvent) -> NmtAnswer
         ensures { outcome result ≡ processed self event }
     {

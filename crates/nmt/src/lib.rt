@@ -1,5 +1,6 @@
-// The NMT state machine of a controlled node (EPSG DS 301, Section 7.1), by value: an event gives the next machine, the
-// errors to report and, of a reset, the states entered and the index ranges to restore.
+//! The NMT state machine of a controlled node (EPSG DS 301, Section 7.1; RULES 4), by value: an
+//! event gives the next machine, the errors to report and, of a reset, the states passed and the
+//! index ranges to restore.
 #![tactic(auto)]
 
 pub mod cn_state_machine;

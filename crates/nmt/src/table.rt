@@ -1,21 +1,24 @@
-// The NMT choice as a table: an entry for each state, event, enabled and ready, and how an entry is packed.
+//! The NMT machine's choice as a table (RULES 4.7): an entry for each state, event, enabled and
+//! ready, packed in a byte.
 ghost use Rattle.std.specs.Prelude.{◌≡◌};
-ghost use Rattle.nmt.specs.Table.{place, state_at, unpacked, ruled};
+ghost use Rattle.types.specs.States.{state_place};
+ghost use Rattle.nmt.specs.Table.{state_at, unpacked, ruled};
 
 use crate::cn_state_machine::Position;
 use types::nmt::events::NmtEvent;
 use types::nmt::states::NmtState;
 
-// What an event leaves.
+/// What an event leaves.
 #[derive(Clone, Copy, PartialEq, Eq)]
 pub struct Entry {
     pub position: Position,
-    // The pair of state and event has no row, and is reported.
+    /// The pair of state and event has no row, and is reported.
     pub unexpected: bool,
 }
 
-// An entry in a byte: the low digit is the next state's place in its enum, 0x0 to 0xB; the high one is 1 where it is ready then,
-// 2 where enabled, 4 where the pair is reported.
+// An entry in a byte: the low hexadecimal digit is the next state's place, 0x0 to 0xB; the high one
+// is the sum of 1 where the machine is ready then, 2 where it is enabled, 4 where the pair is
+// reported.
 #[tactic(auto, unfolding(crate::specs::Table::unpacked))]
 fn unpack(entry: u8) -> Entry
     ensures { result ≡ unpacked entry }
@@ -30,7 +33,7 @@ fn unpack(entry: u8) -> Entry
     }
 }
 
-// The entry of a state, an event, enabled and ready.
+/// The entry of a state, an event, enabled and ready.
 pub fn chosen(state: NmtState, event: NmtEvent, enabled: bool, ready: bool) -> Entry
     ensures { result ≡ ruled state event enabled ready }
 {
@@ -38,9 +41,9 @@ pub fn chosen(state: NmtState, event: NmtEvent, enabled: bool, ready: bool) -> E
     unpack(TABLE[place(state)][event][usize::from(enabled)][usize::from(ready)])
 }
 
-// A state's place in the table.
+// A state's place in the table, from 0, in the order of the enum.
 fn place(state: NmtState) -> usize
-    ensures { result ≡ place state }
+    ensures { result ≡ state_place state }
 {
     match state {
         NmtState::NmtGsOff => 0x0,
@@ -58,7 +61,7 @@ fn place(state: NmtState) -> usize
     }
 }
 
-// No state has a place above 0xB; there it is GsOff.
+/// The state at a place of the table; GsOff where the place is above 0xB, which no state has.
 #[tactic(auto, unfolding(crate::specs::Table::state_at))]
 pub fn state_at(place: u8) -> NmtState
     ensures { result ≡ state_at place }
@@ -80,9 +83,9 @@ pub fn state_at(place: u8) -> NmtState
     }
 }
 
-// The table: a block for each state, a line for each event, and in it four entries. Those where it is not enabled stand left, those where it is
-// enabled right; of both, the first is that where it is not ready. It is a `static`, which is read where it lies: an array constant would be written to
-// the stack, all of it, at each event.
+// A block for each state, a line for each event, four entries in a line: not enabled on the left,
+// enabled on the right, and in each pair not ready before ready. It is a `static`, which is read
+// where it lies: a constant array would be written to the stack as a whole at each event.
 static TABLE: [[[[u8; 2]; 2]; 19]; 12] = [
     // GsOff, 0x00
     [

@@ -17,6 +17,7 @@ use Rattle.types.specs.declared.nmt.events.NmtEvent.{NmtEvent}
 use Rattle.std.specs.declared.result.Result.TheVariants.{Ok}
 use Rattle.std.specs.declared.option.Option.{Option}
 use Rattle.std.specs.declared.option.Option.TheVariants.{Some, None}
+use Rattle.head.specs.declared.state.Deadline.TheVariants.{At, Nothing}
 use Rattle.types.specs.declared.frame.cs_state_machine.DllCsEvent.{DllCsEvent}
 use Rattle.types.specs.declared.frame.error.types.DllError.{DllError}
 use Rattle.nmt.specs.Resets.{Passed, is_reset}
@@ -222,10 +223,10 @@ module _ (h : Head) (m : List ℕ) (values : DictionaryUpdate) (o : Dictionary) 
 
 -- the watch armed, by whether there is a cycle
 module _ (s : SocWatch) (o : Dictionary) (t y : ℕ) (e : y ≡ cycle_of o) where
-  pub armed_on : 0 < y → (l : ℕ) → l ≡ limit_of o → soc_watch t (ltb 0 y) (Some (t + l)) s.error_status_changed ≡ armed s o t
+  pub armed_on : 0 < y → (l : ℕ) → l ≡ limit_of o → soc_watch t (ltb 0 y) (At (t + l)) s.error_status_changed ≡ armed s o t
   unfolding armed
   armed_on h l f = rw (f, ← e, lt-ltb 0 y h)
 
-  pub armed_off : y ≤ 0 → soc_watch t (ltb 0 y) None s.error_status_changed ≡ armed s o t
+  pub armed_off : y ≤ 0 → soc_watch t (ltb 0 y) Nothing s.error_status_changed ≡ armed s o t
   unfolding armed
   armed_off h = rw (← e, le-ltb 0 y h)

@@ -20,7 +20,8 @@ use Rattle.counters.specs.Marks.{Mark, crosses, error_marks}
 use Rattle.entries.specs.Entry.{crossing_entry}
 use Rattle.entries.specs.declared.status_response.ErrorEntry.{ErrorEntry}
 use Rattle.std.specs.declared.option.Option.{Option}
-use Rattle.std.specs.declared.option.Option.TheVariants.{Some, None}
+use Rattle.head.specs.declared.state.Deadline.{Deadline}
+use Rattle.head.specs.declared.state.Deadline.TheVariants.{At, Nothing}
 use Rattle.head.specs.declared.state.SocWatch.{SocWatch}
 use Rattle.head.specs.declared.state.Dictionary.{Dictionary}
 use Rattle.head.proofs.Laws.{state_is}
@@ -42,7 +43,7 @@ record Watch : Type 0 where
   state : NmtState
   last : ℕ
   check : Bool
-  deadline : Option ℕ
+  deadline : Deadline
   cycle : Option ℕ
   tolerance : Option ℕ
 
@@ -128,11 +129,11 @@ next_soon : (l t k o : ℕ) → l + ((t - l) / k + 1) * k + o ≤ max t l + (k +
 next_soon l t k o = omega (arith, ahead (t - l) k)
 
 -- a deadline is one moment
-abbrev due_of : Option ℕ → ℕ
-due_of (Some n) = n
-due_of None = 0
+abbrev due_of : Deadline → ℕ
+due_of (At n) = n
+due_of Nothing = 0
 
-none_due : {A : Type 0} {d : Option ℕ} {e : ℕ} → d ≡ None → d ≡ Some e → A
+none_due : {A : Type 0} {d : Deadline} {e : ℕ} → d ≡ Nothing → d ≡ At e → A
 none_due f g = absurd (true≢false (let e = sym f ∙ g in cc))
 
 -- the latest that a new deadline may be, and what a tick leaves whose deadline was used up
@@ -141,12 +142,12 @@ most w t = max t (min w.last latest) + (value_or 0 w.cycle + value_or 100000 w.t
 
 record Renewed (w : Watch) (t : ℕ) (s : SocWatch) : Type 0 where
   wakes : OffOrLater t s
-  soon : (e : ℕ) → s.next_tick_us ≡ Some e → e ≤ most w t
+  soon : (e : ℕ) → s.next_tick_us ≡ At e → e ≤ most w t
 
-renewed_at : (p : Plain) (t n : ℕ) → n ≤ most (watch p) t → t < n → Renewed (watch p) t (with_deadline p (Some n)).soc
+renewed_at : (p : Plain) (t n : ℕ) → n ≤ most (watch p) t → t < n → Renewed (watch p) t (with_deadline p (At n)).soc
 renewed_at p t n f g = record { wakes = later n refl g; soon = λ e h. subst (λ (e : ℕ). e ≤ most (watch p) t) (ap due_of h) f }
 
-rescheduled_renewed : (p : Plain) (t : ℕ) → p.soc.next_tick_us ≡ None → Renewed (watch p) t (rescheduled p t).soc
+rescheduled_renewed : (p : Plain) (t : ℕ) → p.soc.next_tick_us ≡ Nothing → Renewed (watch p) t (rescheduled p t).soc
 rescheduled_renewed p t n =
     tested (λ (g : Plain). Renewed (watch p) t g.soc) _
     (λ h.
@@ -154,14 +155,14 @@ rescheduled_renewed p t n =
     (next_later (last_soc p) t (cycle_of p.od) (tolerance_of p.od / 1000) (ltb-true 0 (cycle_of p.od) h)))
     (λ h. record { wakes = off refl; soon = λ e g. none_due n g })
 
-within_renewed : (p : Plain) (t : ℕ) → p.soc.next_tick_us ≡ None → Renewed (watch p) t (within_limit p t).soc
+within_renewed : (p : Plain) (t : ℕ) → p.soc.next_tick_us ≡ Nothing → Renewed (watch p) t (within_limit p t).soc
 within_renewed p t n =
     tested (λ (g : Plain). Renewed (watch p) t g.soc) _
     (λ h.
     renewed_at p t (last_soc p + limit_of p.od) (omega arith) (ltb-true t (last_soc p + limit_of p.od) (both_second (ltb 0 (cycle_of p.od)) _ h)))
     (λ h. rescheduled_renewed p t n)
 
-lost_renewed : (p : Plain) (t : ℕ) → p.soc.next_tick_us ≡ None → Renewed (watch p) t (lost p t).head.soc
+lost_renewed : (p : Plain) (t : ℕ) → p.soc.next_tick_us ≡ Nothing → Renewed (watch p) t (lost p t).head.soc
 lost_renewed p t n =
     let k = deal_all t (with_dll p (soc_timeout p).state) (soc_timeout p).errors in
     let f = deal_all_lem t (with_dll p (soc_timeout p).state) (soc_timeout p).errors in
@@ -170,7 +171,7 @@ lost_renewed p t n =
     (λ h. subst (λ (w : Watch). Renewed w t (rescheduled k.head t).soc) (f.stays h) (rescheduled_renewed k.head t (f.deadline ∙ n)))
 
 -- the check of the SoC, with the check on and the deadline used up
-check_renewed : (p : Plain) (t : ℕ) → p.soc.soc_timeout_check_active ≡ true → p.soc.next_tick_us ≡ None → Renewed (watch p) t (soc_check p t).head.soc
+check_renewed : (p : Plain) (t : ℕ) → p.soc.soc_timeout_check_active ≡ true → p.soc.next_tick_us ≡ Nothing → Renewed (watch p) t (soc_check p t).head.soc
 unfolding soc_check
 check_renewed p t c n =
     subst
@@ -187,11 +188,11 @@ not_there p f = by (at_not_active p) refl
     by false h = refl
 
 -- by the deadline d
-deadline_sleeps : (p : Plain) (t d : ℕ) → Watching p d → Sleeps p t d (by_deadline p t (Some d)).head.soc
+deadline_sleeps : (p : Plain) (t d : ℕ) → Watching p d → Sleeps p t d (by_deadline p t (At d)).head.soc
 deadline_sleeps p t d w =
     tested (λ (k : Ticked). Sleeps p t d k.head.soc) _
     (λ h.
-    let g = with_deadline p None in
+    let g = with_deadline p Nothing in
     let s =
     subst (λ (b : Bool). Renewed (watch g) t (pick {A = Ticked} b (timed_out g) (soc_check g t)).head.soc) (sym (not_there p w.outside))
     (check_renewed g t w.check refl) in
@@ -213,7 +214,7 @@ tick_sleeps p t ws d w =
       check = ap (λ (w : Watch). w.check) same ∙ w.check;
       deadline = stood;
     }) in
-    subst (λ (x : Option ℕ). Sleeps p t d (by_deadline b.head t x).head.soc) (sym stood)
+    subst (λ (x : Deadline). Sleeps p t d (by_deadline b.head t x).head.soc) (sym stood)
     (record { wakes = s.wakes; soon = λ g e x. subst (λ (w : Watch). e ≤ most w t) same (s.soon g e x) }))
   where
     b : Ticked
@@ -222,11 +223,11 @@ tick_sleeps p t ws d w =
     f : Handles p b
     f = heartbeats_handle p t ws
 
-    stood : b.head.soc.next_tick_us ≡ Some d
+    stood : b.head.soc.next_tick_us ≡ At d
     stood = f.deadline ∙ w.deadline
 
 -- AN ARM
-arm_sets : (s : SocWatch) (o : Dictionary) (t : ℕ) → 0 < cycle_of o → (armed s o t).next_tick_us ≡ Some (t + limit_of o)
+arm_sets : (s : SocWatch) (o : Dictionary) (t : ℕ) → 0 < cycle_of o → (armed s o t).next_tick_us ≡ At (t + limit_of o)
 unfolding armed
 arm_sets s o t c = rw (lt-ltb 0 (cycle_of o) c)
 

@@ -20,6 +20,7 @@ use Rattle.counters.specs.declared.counters.CnErrorCounters.{CnErrorCounters}
 use Rattle.entries.specs.declared.status_response.ErrorEntry.{ErrorEntry}
 use Rattle.entries.specs.declared.status_response.ErrorEntryMode.TheVariants.{EventOccurred}
 use Rattle.std.specs.declared.option.Option.TheVariants.{Some, None}
+use Rattle.head.specs.declared.state.Deadline.TheVariants.{At, Nothing}
 use Rattle.head.specs.declared.state.Dictionary.{Dictionary}
 use Rattle.watched.specs.Watched.{watched_node, Run, holding}
 use Rattle.node.specs.Plain.{Plain, Call, nmt_event, dll_event, error, cycle_complete, withdraw, heard, tick, Start, Answer, taken, nmt_answer, dll_answer, error_answer, cycle_answer, tick_answer, made, no_event, Step}
@@ -103,17 +104,17 @@ counters_of socs crossings soc beats beat =
 -- without a cycle yet: DLL NonCyclic, levels and counts 0, check off
 abbrev pub resting : NmtState → Bool → Bool → Plain
 resting s enabled ready =
-    plain_of (machine s enabled ready) NonCyclic (counters_of 0 0 0 0 0) (soc_watch 0 false None false) (values 0 0 0 0 0) 1 [] [] None
+    plain_of (machine s enabled ready) NonCyclic (counters_of 0 0 0 0 0) (soc_watch 0 false Nothing false) (values 0 0 0 0 0) 1 [] [] None
 
 -- Operational, DLL NonCyclic, with these counters
 abbrev pub counting : CnErrorCounters → Plain
 counting e =
-    plain_of (machine NmtOperational false true) NonCyclic e (soc_watch 0 false None false) (values 0 0 0 0 0) 1 [] [] None
+    plain_of (machine NmtOperational false true) NonCyclic e (soc_watch 0 false Nothing false) (values 0 0 0 0 0) 1 [] [] None
 
 -- Operational, WaitSoc, check on, last SoC 10,000, a deadline; the level of LossOfSoc, and its occurrences, which are counter 1
 abbrev pub cycling : ℕ → ℕ → ℕ → Plain
 cycling deadline level lost =
-    plain_of (machine NmtOperational false true) WaitSoc (counters_of lost 0 level 0 0) (soc_watch 10000 true (Some deadline) false)
+    plain_of (machine NmtOperational false true) WaitSoc (counters_of lost 0 level 0 0) (soc_watch 10000 true (At deadline) false)
     (values 0 lost 0 0 0) 1 [] [] None
 
 -- what is to come: the state's number, the head, the answer
@@ -301,7 +302,7 @@ crossing_tick =
       all =
           record {
             head =
-                plain_of (machine NmtPreOperational1 false true) WaitSoc (counters_of 2 1 0 0 0) (soc_watch 10000 false None true)
+                plain_of (machine NmtPreOperational1 false true) WaitSoc (counters_of 2 1 0 0 0) (soc_watch 10000 false Nothing true)
                 (values 1 2 1 0 1) 1 (entry ∷ []) (entry ∷ []) None;
             answer = tick_answer (error.LossOfSoc ∷ []);
             lent = no_nodes;

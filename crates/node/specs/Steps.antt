@@ -13,6 +13,7 @@ use Rattle.std.specs.declared.result.Result.{Result}
 use Rattle.std.specs.declared.option.Option.{Option}
 use Rattle.std.specs.declared.result.Result.TheVariants.{Ok, Err}
 use Rattle.std.specs.declared.option.Option.TheVariants.{Some, None}
+use Rattle.head.specs.declared.state.Deadline.TheVariants.{At, Nothing}
 use Rattle.types.specs.declared.refusals.Refusal.{Refusal}
 use Rattle.types.specs.declared.frame.cs_state_machine.DllCsEvent.{DllCsEvent}
 use Rattle.types.specs.declared.frame.error.types.DllError.{DllError}
@@ -114,7 +115,7 @@ leaves p r = answers (up_to_date p r) taken r
 unfoldable pub fresh : Start → Plain
 fresh s =
     plain_of (Nmt.new_machine (node s.node) (flags s.flags) s.timeout) NonCyclic (new_counters s.thresholds)
-    (soc_watch 0 false None false) s.od s.capacity [] [] None
+    (soc_watch 0 false Nothing false) s.od s.capacity [] [] None
 
 -- numbers 1, 2 and 3; then "14, a threshold above the limit, after number 3 at start" (document 02, No. 6)
 abbrev pub start_tests : Start → List (Test ℕ)
@@ -280,5 +281,5 @@ arm_tests t = must (in_time t) 5 ∷ []
 unfoldable pub armed : SocWatch → Dictionary → ℕ → SocWatch
 armed s o t =
     pick (ltb 0 (cycle_of o))
-    (soc_watch t true (Some (t + limit_of o)) s.error_status_changed)
-    (soc_watch t false None s.error_status_changed)
+    (soc_watch t true (At (t + limit_of o)) s.error_status_changed)
+    (soc_watch t false Nothing s.error_status_changed)

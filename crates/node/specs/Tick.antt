@@ -20,8 +20,8 @@ use Rattle.counters.specs.Counters.{handled, HandledError}
 use Rattle.counters.specs.Marks.{Mark, crosses, error_marks}
 use Rattle.entries.specs.Entry.{crossing_entry}
 use Rattle.entries.specs.declared.status_response.ErrorEntry.{ErrorEntry}
-use Rattle.std.specs.declared.option.Option.{Option}
-use Rattle.std.specs.declared.option.Option.TheVariants.{Some, None}
+use Rattle.head.specs.declared.state.Deadline.{Deadline}
+use Rattle.head.specs.declared.state.Deadline.TheVariants.{At, Nothing}
 use Rattle.head.specs.declared.state.SocWatch.{SocWatch}
 use Rattle.head.specs.declared.state.Dictionary.{Dictionary}
 use Rattle.watched.specs.declared.nodes.WatchedNode.{WatchedNode}
@@ -167,7 +167,7 @@ heartbeats p t ws = pick (checks_heartbeats p.nmt.current_state) (beat_all p (la
 abbrev pub looked_at : Plain → ℕ → Run → Run
 looked_at p t r = pick (checks_heartbeats p.nmt.current_state) (changing (map (looked t)) r) r
 
-abbrev pub with_deadline : Plain → Option ℕ → Plain
+abbrev pub with_deadline : Plain → Deadline → Plain
 with_deadline p d =
     with_soc p
     (soc_watch p.soc.last_soc_reception_time_us p.soc.soc_timeout_check_active d p.soc.error_status_changed)
@@ -180,7 +180,7 @@ basic_timeout p = p.nmt.basic_ethernet_timeout
 
 -- "At NotActive without a deadline, one is set at now + basic timeout, if that is above 0, and the tick ends."
 abbrev pub sets_basic : Plain → ℕ → Plain
-sets_basic p t = pick (ltb 0 (basic_timeout p)) (with_deadline p (Some (t + basic_timeout p))) p
+sets_basic p t = pick (ltb 0 (basic_timeout p)) (with_deadline p (At (t + basic_timeout p))) p
 
 -- "At NotActive the event Timeout follows and the check goes off, if the basic timeout is above 0; the tick ends either way."
 abbrev pub times_out : Plain → Plain
@@ -259,12 +259,12 @@ next_deadline p t =
 
 abbrev pub rescheduled : Plain → ℕ → Plain
 rescheduled p t =
-    pick (ltb 0 (cycle_of p.od)) (with_deadline p (Some (next_deadline p t))) (with_soc p (check_off p.soc))
+    pick (ltb 0 (cycle_of p.od)) (with_deadline p (At (next_deadline p t))) (with_soc p (check_off p.soc))
 
 -- "Within the limit, with cycle above 0, the deadline is last SoC + limit if that is after now."
 abbrev pub within_limit : Plain → ℕ → Plain
 within_limit p t =
-    pick (both (ltb 0 (cycle_of p.od)) (ltb t (last_soc p + limit_of p.od))) (with_deadline p (Some (last_soc p + limit_of p.od)))
+    pick (both (ltb 0 (cycle_of p.od)) (ltb t (last_soc p + limit_of p.od))) (with_deadline p (At (last_soc p + limit_of p.od)))
     (rescheduled p t)
 
 -- "Elapsed strictly above the limit": a loss
@@ -292,9 +292,9 @@ soc_check p t =
 abbrev pub used_up : Plain → ℕ → Ticked
 used_up p t = pick (at_not_active p) (timed_out p) (soc_check p t)
 
-abbrev pub by_deadline : Plain → ℕ → Option ℕ → Ticked
-by_deadline p t None = goes_on (pick (at_not_active p) (sets_basic p t) p)
-by_deadline p t (Some d) = pick (leb d t) (used_up (with_deadline p None) t) (goes_on p)
+abbrev pub by_deadline : Plain → ℕ → Deadline → Ticked
+by_deadline p t Nothing = goes_on (pick (at_not_active p) (sets_basic p t) p)
+by_deadline p t (At d) = pick (leb d t) (used_up (with_deadline p Nothing) t) (goes_on p)
 
 -- the tick: the heartbeats, and what follows where no crossing ended it
 unfoldable pub tick_taken : Plain → ℕ → List WatchedNode → Ticked

@@ -3,7 +3,7 @@
 -- Assumes nothing.
 use Rattle.std.specs.Prelude.{ℕ, ◌+◌, ◌/◌, ◌≤◌, ◌<◌, max, ◌≡◌, true, false}
 use Rattle.types.specs.declared.nmt.states.NmtState.TheVariants.{NmtNotActive}
-use Rattle.std.specs.declared.option.Option.TheVariants.{Some}
+use Rattle.head.specs.declared.state.Deadline.TheVariants.{At}
 use Rattle.head.specs.declared.state.SocWatch.{SocWatch}
 use Rattle.head.specs.declared.state.Dictionary.{Dictionary}
 use Rattle.node.specs.Plain.{Plain}
@@ -14,19 +14,19 @@ use Rattle.node.specs.Tick.{last_soc}
 pub record Watching (p : Plain) (d : ℕ) : Type 0 where
   pub outside : p.nmt.current_state ≡ NmtNotActive → ⊥
   pub check : p.soc.soc_timeout_check_active ≡ true
-  pub deadline : p.soc.next_tick_us ≡ Some d
+  pub deadline : p.soc.next_tick_us ≡ At d
 
 -- "afterwards the check is off, or a deadline stands that is later than now", which is t
 pub data OffOrLater (t : ℕ) (s : SocWatch) : Type 0 where
   off : s.soc_timeout_check_active ≡ false → OffOrLater t s
-  later : (d : ℕ) → s.next_tick_us ≡ Some d → t < d → OffOrLater t s
+  later : (d : ℕ) → s.next_tick_us ≡ At d → t < d → OffOrLater t s
 
 -- Of a tick at t on the head p, whose deadline was d, which left the watch s.
 pub record Sleeps (p : Plain) (t d : ℕ) (s : SocWatch) : Type 0 where
   pub wakes : OffOrLater t s
   -- "If the old one was used up, the new one is at most cycle plus tolerance in µs after the later of now and the last SoC."
   -- Used up is one that has passed. (Where a heartbeat crossing ended the tick before, it still stands, and is within this too.)
-  pub soon : d ≤ t → (e : ℕ) → s.next_tick_us ≡ Some e → e ≤ max t (last_soc p) + (cycle_of p.od + tolerance_of p.od / 1000)
+  pub soon : d ≤ t → (e : ℕ) → s.next_tick_us ≡ At e → e ≤ max t (last_soc p) + (cycle_of p.od + tolerance_of p.od / 1000)
 
 -- "Raising the tolerance by d ns": from the values o to the values o', with the same cycle, as they are read
 pub record Raised (d : ℕ) (o o' : Dictionary) : Type 0 where
@@ -37,7 +37,7 @@ pub record Raised (d : ℕ) (o o' : Dictionary) : Type 0 where
 pub record Moves (d : ℕ) (s s' : SocWatch) : Type 0 where
   pub from : ℕ
   pub to : ℕ
-  pub stood : s.next_tick_us ≡ Some from
-  pub stands : s'.next_tick_us ≡ Some to
+  pub stood : s.next_tick_us ≡ At from
+  pub stands : s'.next_tick_us ≡ At to
   pub never_earlier : from ≤ to
   pub at_most : to ≤ from + (d + 999) / 1000

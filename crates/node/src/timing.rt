@@ -2,7 +2,7 @@
 ghost use Rattle.std.specs.Prelude.{◌≡◌, ◌-◌, ◌≤◌, ◌/◌, min};
 ghost use Rattle.node.specs.Steps.{cycle_of, tolerance_of, limit_of, armed};
 
-use head::state::{Dictionary, SocWatch};
+use head::state::{Deadline, Dictionary, SocWatch};
 use watched::time::{LATEST_TIME, Time};
 
 // How long ago a moment is, at least 0.
@@ -48,7 +48,11 @@ pub(crate) fn armed(soc: SocWatch, od: Dictionary, time: Time) -> SocWatch
     SocWatch {
         last_soc_reception_time_us: time.us,
         soc_timeout_check_active: on,
-        next_tick_us: if on { Some(time.us + limit(od)) } else { None },
+        next_tick_us: if on {
+            Deadline::At(time.us + limit(od))
+        } else {
+            Deadline::Nothing
+        },
         ..soc
     }
 }

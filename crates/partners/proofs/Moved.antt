@@ -123,16 +123,16 @@ module _ (ns : List ℕ) (long : length ns ≡ 96) (i : ℕ) (few : i ≤ 32) wh
       length-append kept none ∙ omega (arith, kept_long, z, few)
 
   pub nodes_cleared :
-      (zs : List ℕ) → zs ≡ replicate (length (mid_of (3 * i) (96 - 3 * i) ns)) 0 →
-      nodes_of (put_mid (3 * i) (96 - 3 * i) ns zs) ≡ take i (nodes_of ns) ++ replicate (32 - i) no_node
-  nodes_cleared zs e =
-      let m : length (mid_of (3 * i) (96 - 3 * i) ns) ≡ 96 - 3 * i = length-take-le (96 - 3 * i) (drop (3 * i) ns) (omega (arith, rest)) in
-      let n : length (mid_of (3 * i) (96 - 3 * i) ns) ≡ 3 * (32 - i) = omega (arith, m, few) in
+      {n : ℕ} {zs : List ℕ} → zs ≡ replicate (length (mid_of (3 * i) n ns)) 0 → n ≡ 96 - 3 * i →
+      nodes_of (put_mid (3 * i) n ns zs) ≡ take i (nodes_of ns) ++ replicate (32 - i) no_node
+  nodes_cleared {n} {zs} e f =
+      let m : length (mid_of (3 * i) n ns) ≡ n = length-take-le n (drop (3 * i) ns) (omega (arith, rest, f)) in
+      let l : length (mid_of (3 * i) n ns) ≡ 3 * (32 - i) = omega (arith, m, f, few) in
       let t : take (3 * i) ns ≡ words_of kept = ap (take (3 * i)) (words_of_lem ns long) ∙ words_take i (nodes_of ns) (omega (arith, places ns, few)) in
-      let z : zs ≡ words_of none = e ∙ ap (λ (j : ℕ). replicate j 0) n ∙ words_none (32 - i) in
-      let r : drop (96 - 3 * i) (drop (3 * i) ns) ≡ [] = drop_all (96 - 3 * i) (drop (3 * i) ns) (omega (arith, rest)) in
-      let l : zs ++ drop (96 - 3 * i) (drop (3 * i) ns) ≡ words_of none = (λ j. z j ++ r j) ∙ append-nil (words_of none) in
-      let w : put_mid (3 * i) (96 - 3 * i) ns zs ≡ words_of (kept ++ none) = (λ j. t j ++ l j) ∙ sym (words_append kept none) in
+      let z : zs ≡ words_of none = e ∙ rw l (words_none (32 - i)) in
+      let r : drop n (drop (3 * i) ns) ≡ [] = drop_all n (drop (3 * i) ns) (omega (arith, rest, f)) in
+      let l : zs ++ drop n (drop (3 * i) ns) ≡ words_of none = (λ j. z j ++ r j) ∙ append-nil (words_of none) in
+      let w : put_mid (3 * i) n ns zs ≡ words_of (kept ++ none) = (λ j. t j ++ l j) ∙ sym (words_append kept none) in
       ap nodes_of w ∙ nodes_of_words (kept ++ none) cleared_long
 
 -- where a node is to stand: what is left gives what the whole gives

@@ -2,8 +2,8 @@
 // itself. What matches answers the rest of the line, behind it; what does not, None.
 #![tactic(auto)]
 
-ghost use Rattle.std.specs.Prelude.{◌≡◌, ◌≤◌, ◌<◌, option_copied};
-ghost use Rattle.patterns.specs.Patterns.{grown, number, digits_at, number_at, numbers_in, carries_byte, byte_or_any, largest_of, is_missing, matched, read_number, match_one, match_at};
+ghost use Rattle.std.specs.Prelude.{◌≡◌, ◌≢◌, ◌≤◌, ◌<◌, option_copied};
+ghost use Rattle.patterns.specs.Patterns.{kept, grown, number, digits_at, number_at, numbers_in, carries_byte, byte_or_any, largest_of, is_missing, matched, read_number, match_one, match_at};
 
 use answers::NOTHING;
 
@@ -11,8 +11,16 @@ use answers::NOTHING;
 // history have.
 pub type Given = [u64; 18];
 
-// In place of a value that a load does not name, and of the number of bytes where it names no history.
+/// In place of a value that a load does not name, and of the number of bytes where it names no history.
 pub const KEPT: u64 = 8589934592;
+
+/// Law of `KEPT`: no value that a load names is it, neither a number of 32 bits nor a missing one.
+pub fn kept_is_apart()
+    ensures number { KEPT ≡ kept }
+    ensures wide { 4294967295 < KEPT }
+    ensures missing { KEPT ≢ NOTHING }
+{
+}
 
 // A number and the rest of the line behind its digits. Of one that can't be read whole there is no rest, and the number is what was read of it.
 #[derive(Clone, Copy)]

@@ -9,7 +9,7 @@ use Rattle.std.specs.declared.result.Result.{Result}
 use Rattle.std.specs.declared.result.Result.TheVariants.{Ok, Err}
 use Rattle.std.specs.Result.{is_ok}
 use Rattle.types.specs.declared.refusals.Refusal.{Refusal}
-use Rattle.types.specs.declared.refusals.Refusal.TheVariants.{NodeNumber, QueueCapacity, WatchedNodes, UnknownNumber, TimeLimit, BeforeHeard, NotWatched, ReadyToOperate, AllWatched, AlreadyWatched, BufferTooShort, ProfileLimit, NoSingleKind, ThresholdLimit, EarliestAfterLatest}
+use Rattle.types.specs.declared.refusals.Refusal.TheVariants.{NodeNumber, QueueCapacity, WatchedNodes, UnknownNumber, TimeLimit, BeforeHeard, NotWatched, ReadyToOperate, AllWatched, AlreadyWatched, BufferTooShort, ProfileLimit, NoSingleKind, ThresholdLimit, RecipeLimits, NotPreOperational2, NoWeight, FrameTooShort, OtherEtherType, OtherMessageType, EarliestAfterLatest}
 use Rattle.types.specs.Refusals.{refusal_number}
 use Rattle.node.specs.InPlace.{said}
 use Rattle.answers.specs.Numbers.{numbers_of}
@@ -30,6 +30,12 @@ above_zero BufferTooShort = refl
 above_zero ProfileLimit = refl
 above_zero NoSingleKind = refl
 above_zero ThresholdLimit = refl
+above_zero RecipeLimits = refl
+above_zero NotPreOperational2 = refl
+above_zero NoWeight = refl
+above_zero FrameTooShort = refl
+above_zero OtherEtherType = refl
+above_zero OtherMessageType = refl
 above_zero EarliestAfterLatest = refl
 
 -- whether a number is 0 that is the first of an answer

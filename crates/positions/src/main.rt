@@ -1,4 +1,5 @@
-// Every position that a head can reach by NMT events and withdrawals, one form a line (document 02, No. 12).
+//! Prints every position that a fresh head can reach by NMT events and withdrawals, one form a line
+//! (RULES 11.3).
 #![tactic(auto)]
 
 use forms::output::Output;

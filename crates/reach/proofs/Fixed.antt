@@ -1,4 +1,4 @@
--- What `lines` ensures fixes its answer: only one list of lines is as document 02 says.
+-- What `lines` ensures fixes its answer: only one list of lines meets it.
 -- Assumes nothing.
 use Prim.Native.Nat.{ℕ, ◌<◌, ◌≤◌}
 use native.Mathlib.Omega.{arith}

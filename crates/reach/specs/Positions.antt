@@ -1,4 +1,5 @@
--- "Every position a head can reach" (document 02, No. 12): what the lines must say, from the plain head's own steps.
+-- Every position that a fresh head can reach (RULES 11.3): what the lines must say, by the steps of
+-- the plain head.
 -- Assumes nothing.
 use Rattle.std.specs.Prelude.{ℕ, suc, ◌<◌, ◌≤◌, ◌≡◌, Bool, true, false, not, List, [], ◌∷◌, ◌⊎◌, eqb, ltb}
 use Rattle.types.specs.Pick.{pick, both, either}
@@ -11,20 +12,21 @@ use Rattle.node.specs.Steps.{fresh}
 use Rattle.node.specs.Run.{step}
 use Rattle.reach.specs.declared.Line.{Line}
 
--- a position: "all combinations of NMT state, enabled and ready"
+-- a position: a state, enabled and ready; and that of a head
 abbrev pub position_at : NmtState → Bool → Bool → Position
 position_at s enabled ready = record { state = s; enabled = enabled; ready = ready }
 
 abbrev pub position : Plain → Position
 position p = position_at p.nmt.current_state p.nmt.ready_to_operate_enabled p.nmt.app_ready
 
--- "A step is one withdrawal or one whole event": one of the 19 NMT events, or a withdrawal that the head takes. From the head p, so many steps lead to a head.
+-- So many steps lead from the head p to a head. A step is one whole NMT event, or a withdrawal that
+-- is taken.
 pub data Steps (p : Plain) : ℕ → Plain → Type 0 where
   none : Steps p 0 p
   event : {n : ℕ} {q : Plain} → Steps p n q → (k : ℕ) → k < 19 → Steps p (suc n) (step q (nmt_event k)).head
   withdrawal : {n : ℕ} {q : Plain} → Steps p n q → (step q withdraw).answer ≡ taken → Steps p (suc n) (step q withdraw).head
 
--- a position "that a fresh head can reach", in n steps
+-- a fresh head, whatever it was started with, reaches the position x in n steps
 pub record Reached (s : Start) (n : ℕ) (x : Position) : Type 0 where
   pub head : Plain
   pub steps : Steps (fresh s) n head
@@ -37,20 +39,22 @@ named l = l.position
 abbrev pub steps_to : Line → ℕ
 steps_to l = l.steps
 
+-- the line of a state, enabled, ready and a number of steps
 abbrev pub line_of : NmtState × Bool × Bool × ℕ → Line
 line_of r = record { position = position_at r.0 r.1 r.2; steps = r.3 }
 
--- one is among some; a position has a line among some
+-- x is one of some
 abbrev pub Among : {A : Type 0} → A → List A → Type 0
 Among x [] = ⊥
 Among x (y ∷ ys) = (x ≡ y) ⊎ Among x ys
 
+-- a position has a line among some
 pub record HasLine (x : Position) (ls : List Line) : Type 0 where
   pub line : Line
   pub among : Among line ls
   pub names : named line ≡ x
 
--- "Each stands once"
+-- each position has one line
 abbrev pub same_flag : Bool → Bool → Bool
 same_flag a b = eqb (one a) (one b)
 
@@ -65,7 +69,7 @@ abbrev pub each_once : List Line → Bool
 each_once [] = true
 each_once (l ∷ ls) = both (not (is_named (named l) ls)) (each_once ls)
 
--- "ordered by steps, then state number, then enabled, then ready": of two lines, the first of these that differs is less in the first line
+-- the lines are ordered by steps, then the state's number, then enabled, then ready
 abbrev pub key : Line → List ℕ
 key l = steps_to l ∷ state_number (named l).state ∷ one (named l).enabled ∷ one (named l).ready ∷ []
 
@@ -81,11 +85,11 @@ in_order (l ∷ m ∷ ls) = both (is_before (key l) (key m)) (in_order (m ∷ ls
 
 -- the lines, whatever a head was started with
 pub record EveryPosition (ls : List Line) : Type 0 where
-  -- "No reachable position is missing"
+  -- no position that is reached is missing
   pub complete : (s : Start) (n : ℕ) (x : Position) → Reached s n x → HasLine x ls
-  -- "no other is printed": each is reached, in the number of steps that the line says
+  -- no other has a line: each is reached, in the number of steps that the line says
   pub reached : (s : Start) (l : Line) → Among l ls → Reached s (steps_to l) (named l)
-  -- "none is reached in fewer steps"
+  -- and in no fewer steps
   pub least : (s : Start) (l : Line) → Among l ls → (n : ℕ) → Reached s n (named l) → steps_to l ≤ n
   pub once : each_once ls ≡ true
   pub ordered : in_order ls ≡ true

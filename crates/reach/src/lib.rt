@@ -1,4 +1,5 @@
-// Every position that a head can reach, and the line that the program `positions` prints of it (document 02, No. 12).
+//! Every position that a fresh head can reach by NMT events and withdrawals, and the line that the
+//! program `positions` prints for each (RULES 11.3).
 #![tactic(auto)]
 
 ghost use Rattle.std.specs.Prelude.{◌≡◌, true, Some};
@@ -11,7 +12,7 @@ use std::fmt;
 use std::fmt::Display;
 use types::nmt::states::NmtState;
 
-// A position, and the least number of steps to it from a fresh head.
+/// A position, and the least number of steps to it from a fresh head.
 #[derive(Clone, Copy)]
 pub struct Line {
     pub position: Position,
@@ -36,7 +37,7 @@ const LINES: [(NmtState, bool, bool, u8); 14] = [
     (NmtState::NmtOperational, false, false, 6),
 ];
 
-// The line of a row of the table.
+// The line of a row.
 fn line_of(row: (NmtState, bool, bool, u8)) -> Line
     ensures { result ≡ line_of row }
 {
@@ -49,13 +50,15 @@ fn line_of(row: (NmtState, bool, bool, u8)) -> Line
     Line { position, steps }
 }
 
+/// The 14 positions, in the order in which they are printed.
 pub fn lines() -> [Line; 14]
     ensures { EveryPosition result × (one_digit result ≡ true) }
 {
     LINES.map(line_of)
 }
 
-// The line as it is printed; of the steps the last digit, which is all of them below 10.
+/// A line as it is printed: `(at 0xHH (enabled N) (ready N) (steps N))` and a line feed. Of the
+/// steps the last digit is printed, which is all of them below 10.
 #[tactic(auto, using(crate::proofs::Digits::flag_glyph, crate::proofs::Digits::digit_glyph), unfolding(crate::specs::Form::line_form))]
 pub fn form(line: Line) -> [u8; 42]
     ensures { result ≡ line_form line }
@@ -75,7 +78,7 @@ pub fn form(line: Line) -> [u8; 42]
     form
 }
 
-// The same bytes, to a writer.
+/// The same bytes, to a writer.
 #[tactic(auto, using(crate::proofs::Digits::flag_text, crate::proofs::Digits::digit_text), unfolding(crate::specs::Form::line_form))]
 impl Display for Line {
     ghost output = { λ l. Some (line_form l) };

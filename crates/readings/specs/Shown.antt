@@ -1,4 +1,4 @@
--- What is printed of the kind behind a code, its place or nothing; and the flags by their places.
+-- What is printed for the kind behind a code, and the flags by their places.
 -- Assumes nothing.
 use Rattle.std.specs.Prelude.{ℕ, ◌^◌, min, List, [], ◌∷◌}
 use Rattle.types.specs.Flags.{flags}
@@ -7,13 +7,15 @@ use Rattle.types.specs.declared.nmt.flags.FeatureFlags.{FeatureFlags}
 use Rattle.std.specs.declared.option.Option.{Option}
 use Rattle.std.specs.declared.option.Option.TheVariants.{Some, None}
 
+-- the place of the kind, or nothing
 abbrev pub of_code : CodeAnswer → Option ℕ
 of_code (kind_number n) = Some n
 of_code (refused_by n) = None
 
--- the flag at place n of the sixteen: the number with that bit alone; behind the last place, the last
+-- the flag at place n of the sixteen: the number with that bit alone; above 15, the last
 abbrev pub flag_at : ℕ → FeatureFlags
 flag_at n = flags (2 ^ min n 15)
 
+-- the sixteen places
 abbrev pub places : List ℕ
 places = 0 ∷ 1 ∷ 2 ∷ 3 ∷ 4 ∷ 5 ∷ 6 ∷ 7 ∷ 8 ∷ 9 ∷ 10 ∷ 11 ∷ 12 ∷ 13 ∷ 14 ∷ 15 ∷ []

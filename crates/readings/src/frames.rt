@@ -1,8 +1,8 @@
-// The events of each kind of frame.
+//! The events of each kind of frame.
 use forms::output::Output;
 use types::types::MessageType;
 
-// The places of a kind's DLL event and NMT event.
+// A kind's number, and the places of its DLL event and its NMT event.
 fn print_frame(out: &mut Output, kind: MessageType) {
     write!(
         out,
@@ -16,6 +16,7 @@ fn print_frame(out: &mut Output, kind: MessageType) {
     }
 }
 
+/// Prints a line for each kind of frame.
 pub(crate) fn print_frames(out: &mut Output) {
     for n in 0..=255u8 {
         if let Ok(kind) = MessageType::try_from(n) {

@@ -1,4 +1,4 @@
-// The kind behind each code of 16 bits.
+//! The kind behind each code of 16 bits.
 ghost use Rattle.std.specs.Prelude.{◌≡◌};
 ghost use Rattle.types.specs.Kinds.{kind_behind};
 ghost use Rattle.readings.specs.Shown.{of_code};
@@ -6,6 +6,7 @@ ghost use Rattle.readings.specs.Shown.{of_code};
 use forms::output::Output;
 use types::frame::error::kinds::DllErrorKind;
 
+// The place of the one kind that has the code.
 fn kind(code: u64) -> Option<u8>
     ensures { result ≡ of_code (kind_behind code) }
 {
@@ -14,7 +15,7 @@ fn kind(code: u64) -> Option<u8>
         .map(DllErrorKind::place)
 }
 
-// A line for a code that names a kind, and how many codes name none.
+/// Prints a line for each code that names a kind, and how many codes name none.
 pub(crate) fn print_kinds(out: &mut Output) {
     for code in 0..=u16::MAX {
         if let Some(place) = kind(u64::from(code)) {

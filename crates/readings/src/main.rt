@@ -1,5 +1,7 @@
-// What each 8-bit number is read as, the named node numbers, the events of each kind of frame, the code of each kind of error and the kind behind each code, the feature flags and
-// times at their limits, one form a line. The stored output was printed by the Rust (compare/), so a run shows that both agree.
+//! Prints what each 8-bit number is read as, the named node numbers, the events of each kind of
+//! frame, the code of each kind of error and the kind behind each code, the feature flags, and
+//! times at their limits, one form a line. The stored output was printed by the original Rust
+//! (compare/), so a run shows that both agree.
 #![tactic(auto)]
 
 ghost use Rattle.std.specs.Prelude.{◌≡◌, map};
@@ -20,6 +22,7 @@ use types::types::{
     MessageType, NodeId,
 };
 
+// Whether each number is a node's.
 fn print_nodes(out: &mut Output) {
     for n in 0..=255u8 {
         let outcome = if NodeId::try_from(n).is_ok() {
@@ -31,7 +34,7 @@ fn print_nodes(out: &mut Output) {
     }
 }
 
-// The node numbers that have a name, in the order of their declaration.
+// The four node numbers that have a name.
 const ADDRESSES: [u8; 4] = [
     C_ADR_MN_DEF_NODE_ID,
     C_ADR_DIAG_DEF_NODE_ID,
@@ -45,7 +48,7 @@ fn print_addresses(out: &mut Output) {
     }
 }
 
-// A table of what each number is read as: the number of that, or that none is read.
+// For each number the one that it is read as, or that it is refused.
 fn print_readings<F: Fn(u8) -> Option<u8>>(out: &mut Output, name: &str, reading: F)
     requires { F.IsAlwaysCallable reading }
 {
@@ -57,13 +60,14 @@ fn print_readings<F: Fn(u8) -> Option<u8>>(out: &mut Output, name: &str, reading
     }
 }
 
+// The code of each kind of error.
 fn print_codes(out: &mut Output) {
     for kind in DllErrorKind::ALL {
         writeln!(out, "(code {} {:#06X})", kind.place(), kind.to_error_code());
     }
 }
 
-// The flags in the order of their declaration.
+// The flags, from the lowest bit on.
 fn flags() -> [FeatureFlags; 16]
     ensures { result ≡ map flag_at places }
 {

@@ -1,4 +1,4 @@
-// NetTime at ordinary values and at the limits.
+//! `NetTime` at ordinary values and at the limits.
 use forms::output::Output;
 use types::common::NetTime;
 
@@ -43,6 +43,7 @@ const TIMES: [NetTime; 4] = [
     },
 ];
 
+/// Prints the times of so many µs.
 pub(crate) fn print_times(out: &mut Output) {
     for micros in MICROS {
         let time = NetTime::from_micros(micros);
@@ -56,6 +57,7 @@ pub(crate) fn print_times(out: &mut Output) {
     }
 }
 
+/// Prints the times later by so many ns.
 pub(crate) fn print_additions(out: &mut Output) {
     for time in TIMES {
         for nanos in NANOS {
@@ -69,7 +71,7 @@ pub(crate) fn print_additions(out: &mut Output) {
     }
 }
 
-// The first time less the second.
+/// Prints the differences of two times, the first less the second, in ns.
 pub(crate) fn print_differences(out: &mut Output) {
     for a in TIMES {
         for b in TIMES {

@@ -1,4 +1,5 @@
--- "For three entries 0x8245, 0x8244, 0x8245 the output is, whole:" (document 02, No. 11), of the definition.
+-- The page of three entries, 0x8245, 0x8244 and 0x8245, and of other short inputs, computed from the
+-- definition.
 -- Assumes nothing.
 use Rattle.std.proofs.Common.{◌≡◌, ℕ, List, [], ◌∷◌, ◌++◌, replicate, refl}
 use Rattle.types.specs.Kinds.{kind_behind}

@@ -81,7 +81,7 @@ sum_none : (cs : List ℕ) → sum_of (λ c. 0) cs ≡ 0
 sum_none [] = refl
 sum_none (c ∷ cs) = let r = sum_none cs in omega arith
 
--- "The total is the sum of the printed counts"
+-- the total is the sum of the counts that are printed
 pub total_sum : (xs : List ℕ) → sum_of (occurrences xs) named_codes + others_in xs ≡ length xs
 total_sum [] = ap (λ (n : ℕ). n + 0) (sum_none named_codes)
 total_sum (x ∷ xs) =

@@ -1,9 +1,11 @@
--- What is kept of the input between two parts of it: the number of whole entries, how often each code of 16 bits occurred in them, and the
--- bytes left behind the last of them. Numbers of 64 bits begin again at 0.
+-- What is kept of the input between two parts of it: the number of whole entries, how often each
+-- code of 16 bits occurred in them, and the bytes left behind the last of them. Numbers are taken
+-- modulo 2^64.
 -- Assumes nothing.
 use Rattle.std.specs.Prelude.{ℕ, ◌+◌, ◌-◌, ◌*◌, ◌/◌, ◌%◌, List, [], ◌∷◌, ◌++◌, length, drop, replicate, slice_index, slice_set}
 use Rattle.shift.specs.Report.{codes_in, named_codes, page}
 
+-- what is kept
 pub record Kept : Type 0 where
   pub entries : ℕ
   pub counts : List ℕ
@@ -12,7 +14,7 @@ pub record Kept : Type 0 where
 abbrev pub keeping : ℕ → List ℕ → List ℕ → Kept
 keeping n cs l = record { entries = n; counts = cs; left = l }
 
--- a code occurs once more; so do some, one after another
+-- the counts after a code occurred once more, and after some did, one after another
 unfoldable pub counted : List ℕ → ℕ → List ℕ
 counted cs c = slice_set cs c ((slice_index cs c + 1) % 18446744073709551616)
 
@@ -24,11 +26,11 @@ counted_all cs (d ∷ ds) = counted_all (counted cs d) ds
 unfoldable pub behind_whole : List ℕ → List ℕ
 behind_whole s = drop (20 * (length s / 20)) s
 
--- the whole entries of a run are counted, and the bytes behind them kept
+-- a run of bytes is read: its whole entries are counted, and the bytes behind them kept
 unfoldable pub absorbed : ℕ → List ℕ → List ℕ → Kept
 absorbed n cs s = keeping ((n + length s / 20) % 18446744073709551616) (counted_all cs (codes_in s)) (behind_whole s)
 
--- a part arrives behind the bytes that are kept; so do some, one after another
+-- a part arrives behind the bytes that are kept, and some do, one after another
 abbrev pub fed : Kept → List ℕ → Kept
 fed k p = absorbed k.entries k.counts (k.left ++ p)
 
@@ -36,7 +38,7 @@ unfoldable pub fed_all : Kept → List (List ℕ) → Kept
 fed_all k [] = k
 fed_all k (p ∷ ps) = fed_all (fed k p) ps
 
--- before the first part
+-- at the start, before the first part
 unfoldable pub no_counts : List ℕ
 no_counts = replicate 65536 0
 
@@ -48,11 +50,12 @@ unfoldable pub one_run : List (List ℕ) → List ℕ
 one_run [] = []
 one_run (p ∷ ps) = p ++ one_run ps
 
--- n less how often f says that each of some codes occurred
+-- n less the counts f of some codes
 abbrev pub less : (ℕ → ℕ) → ℕ → List ℕ → ℕ
 less f n [] = n
 less f n (c ∷ cs) = less f (n - f c) cs
 
--- the page of what is kept: the codes that name no single kind are all but those that do
+-- the page of what is kept, l being how many bytes are left: the entries whose code names no single
+-- kind are all but those that are counted under one
 unfoldable pub printed : ℕ → List ℕ → ℕ → List ℕ
 printed n cs l = page n (λ c. slice_index cs c) (less (λ c. slice_index cs c) n named_codes) l

@@ -3,12 +3,12 @@
 use Rattle.std.specs.Prelude.{ℕ, ◌+◌, Bool, true, List, [], ◌∷◌, nat_lt}
 use Rattle.types.specs.Pick.{both}
 
--- of how often f says that each of some codes occurred
+-- the sum of the counts f of some codes
 abbrev pub sum_of : (ℕ → ℕ) → List ℕ → ℕ
 sum_of f [] = 0
 sum_of f (c ∷ cs) = f c + sum_of f cs
 
--- each is below the next
+-- each of some numbers is below the next
 abbrev pub ascends : List ℕ → Bool
 ascends [] = true
 ascends (c ∷ []) = true

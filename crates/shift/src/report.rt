@@ -1,4 +1,4 @@
-// The page for a shift: what a program prints cannot be in a contract, the bytes can.
+//! The page for a shift as bytes, which a contract can speak of; what a program prints it can't.
 ghost use Rattle.std.specs.Prelude.{◌≡◌, ◌+◌, ◌-◌, ◌≤◌, ◌++◌, length, slice_index, decimal};
 ghost use Rattle.shift.specs.Report.{named_codes, code_line, other_line, if_any, code_lines, page};
 ghost use Rattle.shift.specs.Feed.{less, printed};
@@ -8,10 +8,11 @@ use arrayvec::ArrayVec;
 use itoa::Buffer;
 use types::frame::error::kinds::DllErrorKind;
 
-// Room for more than the longest page has: 17 lines of 43 characters, and three others.
+/// A page, with more room than the longest has: 17 lines of at most 43 characters, and three
+/// others.
 pub type Page = ArrayVec<u8, 1024>;
 
-// The kinds with a code of their own, in the order of the codes.
+// The 17 kinds that have a code of their own, in the order of their codes.
 const ASCENDING: [DllErrorKind; 17] = [
     DllErrorKind::BadPhysicalMode,
     DllErrorKind::Collision,
@@ -32,6 +33,7 @@ const ASCENDING: [DllErrorKind; 17] = [
     DllErrorKind::HeartbeatTimeout,
 ];
 
+// Adds a text.
 fn put(page: &mut Page, text: &[u8])
     requires { length page.old.items + length text.now ≤ 1024 }
     ensures { page.new.items ≡ page.old.items ++ text.now }
@@ -39,18 +41,19 @@ fn put(page: &mut Page, text: &[u8])
     page.try_extend_from_slice(text).unwrap();
 }
 
-// A number between two texts.
+// Adds a number between two texts.
 fn put_count(page: &mut Page, before: &[u8], n: u64, behind: &[u8])
     requires { length page.old.items + (length before.now + (20 + length behind.now)) ≤ 1024 }
     ensures text { page.new.items ≡ page.old.items ++ (before.now ++ (decimal n ++ behind.now)) }
-    ensures short { length page.new.items ≤ length page.old.items + (length before.now + (20 + length behind.now)) }
+    ensures short { length page.new.items ≤
+        length page.old.items + (length before.now + (20 + length behind.now)) }
 {
     put(page, before);
     put(page, Buffer::new().format(n).as_bytes());
     put(page, behind);
 }
 
-// The line of a code, where it occurred.
+// Adds the line of a code, where it occurred.
 fn put_code(page: &mut Page, code: u16, n: u64)
     requires { length page.old.items + 43 ≤ 1024 }
     ensures text { page.new.items ≡ page.old.items ++ if_any n (code_line code n) }
@@ -64,10 +67,11 @@ fn put_code(page: &mut Page, code: u16, n: u64)
     put_count(page, b" (count ", n, b"))\n");
 }
 
-// The lines of the codes that name a kind.
+// Adds the lines of the codes that name a kind.
 fn put_codes(page: &mut Page, counts: &Counts)
     requires { length page.old.items + 731 ≤ 1024 }
-    ensures text { page.new.items ≡ page.old.items ++ code_lines (λ c. slice_index counts.now c) named_codes }
+    ensures text { page.new.items ≡
+        page.old.items ++ code_lines (λ c. slice_index counts.now c) named_codes }
     ensures short { length page.new.items ≤ length page.old.items + 731 }
 {
     for kind in ASCENDING {
@@ -76,7 +80,7 @@ fn put_codes(page: &mut Page, counts: &Counts)
     }
 }
 
-// How many entries have a code that names no kind: all but those that are counted under one.
+// How many entries have a code that names no single kind: all but those that are counted under one.
 fn others(entries: u64, counts: &Counts) -> u64
     ensures { result ≡ less (λ c. slice_index counts.now c) entries named_codes }
 {
@@ -86,6 +90,7 @@ fn others(entries: u64, counts: &Counts) -> u64
     )
 }
 
+// Adds the line of the other codes, where some occurred.
 #[tactic(auto, unfolding(crate::specs::Report::other_line))]
 fn put_others(page: &mut Page, count: u64)
     requires { length page.old.items + 37 ≤ 1024 }
@@ -99,7 +104,7 @@ fn put_others(page: &mut Page, count: u64)
 }
 
 impl Shift {
-    // The page of what is kept.
+    /// The page of the entries so far and the bytes left.
     pub fn report(&self) -> Page
         ensures { result.items ≡ printed self.now.entries self.now.counts self.now.left }
     {

@@ -1,5 +1,6 @@
-// Shift totals (document 02, No. 11): reads entries from standard input and prints the page for the shift. It is printed at the end of the
-// input and not before, so that no input that was not read to its end has a total.
+//! Shift totals (RULES 11.2): reads entries from standard input and prints the page for the shift.
+//! It is printed only at the end of the input, so that an input which was not read to its end has
+//! no total.
 #![tactic(auto)]
 
 use shift::feed::Shift;
@@ -7,7 +8,8 @@ use std::io;
 use std::io::Read;
 use std::process::ExitCode;
 
-// A proved loop has to end, and nothing says that the input does. So many reads of a buffer are fewer than 2^64 bytes, so that no count begins again at 0.
+// A proved loop has to end, and nothing says that the input does. So many reads of the buffer are
+// fewer than 2^64 bytes, so that no count begins again at 0.
 const READS: u64 = 281474976710655;
 
 // The system's words for an error, without its number.
@@ -26,6 +28,7 @@ fn fail(rt: &(impl Eprint + Alloc), what: &str, error: io::Error) -> io::Result<
     Ok(ExitCode::FAILURE)
 }
 
+// Prints the page, or says that it could not be written.
 fn print(rt: &(impl Print + Eprint + Alloc), shift: &Shift) -> io::Result<ExitCode> {
     match rt.write_all(shift.report().as_slice()) {
         Ok(()) => Ok(ExitCode::SUCCESS),

@@ -10,7 +10,7 @@ use Rattle.counters.specs.declared.counters.CnErrorCounters.{CnErrorCounters}
 use Rattle.entries.specs.Entry.{mode_number, entry_bytes}
 use Rattle.entries.specs.Desk.{Reply}
 use Rattle.entries.specs.declared.status_response.ErrorEntry.{ErrorEntry}
-use Rattle.head.specs.Head.{Head}
+use Rattle.head.specs.Head.{Head, moment_in}
 use Rattle.head.specs.Words.{one}
 use Rattle.std.specs.declared.option.Option.{Option}
 use Rattle.std.specs.declared.option.Option.TheVariants.{Some, None}
@@ -44,7 +44,7 @@ counters_shown h =
 -- the last SoC, whether the check is on, the deadline, whether the error status changed
 abbrev pub soc_shown : Head → List ℕ
 soc_shown h =
-    h.soc.last_soc_reception_time_us ∷ one h.soc.soc_timeout_check_active ∷ said_of h.soc.next_tick_us
+    h.soc.last_soc_reception_time_us ∷ one h.soc.soc_timeout_check_active ∷ said_of (moment_in h.soc.next_tick_us)
     ∷ one h.soc.error_status_changed ∷ []
 
 -- the register, cycle and tolerance, the four counters; then the queue's capacity

@@ -71,7 +71,7 @@ fn soc(head: &Head) -> [u64; 4]
     [
         soc.last_soc_reception_time_us,
         u64::from(soc.soc_timeout_check_active),
-        soc.next_tick_us.unwrap_or(NOTHING),
+        soc.next_tick_us.moment().unwrap_or(NOTHING),
         u64::from(soc.error_status_changed),
     ]
 }

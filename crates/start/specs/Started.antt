@@ -14,6 +14,7 @@ use Rattle.std.specs.Result.{IfOk}
 use Rattle.std.specs.declared.result.Result.{Result}
 use Rattle.std.specs.declared.result.Result.TheVariants.{Ok, Err}
 use Rattle.std.specs.declared.option.Option.TheVariants.{None}
+use Rattle.head.specs.declared.state.Deadline.TheVariants.{Nothing}
 use Rattle.types.specs.declared.refusals.Refusal.{Refusal}
 use Rattle.head.specs.Head.{Head, soc_watch}
 use Rattle.head.specs.Places as at
@@ -56,7 +57,7 @@ fresh_head n c s =
       nmt = Nmt.new_machine n s.feature_flags s.basic_ethernet_timeout;
       dll = fresh_machine;
       errors = new_counters s.thresholds;
-      soc = soc_watch 0 false None false;
+      soc = soc_watch 0 false Nothing false;
       od = s.od;
       queue = queue 0 0 c;
       history = error_history 0 0;
@@ -100,7 +101,9 @@ pub record StartedIn (ws ns : List ℕ) (k : ℕ) (s : Setup) (a : Result (Unit 
   pub on : StartedOn ws (run (nodes_of ns) k) s a ws' (run (nodes_of ns') k)
   pub nodes : ns' ≡ unless_refused a ns (unheard_words k ns)
 
--- Of start without the run, whose form it need not know: what it answers, and what start leaves of any run that passes number 3 or doesn't, as was said.
+-- Of start without the run, whose form it need not know: what it answers, every word of the head, and what start leaves of any run that passes number 3
+-- or doesn't, as was said.
 pub record BeginsBy (ws : List ℕ) (s : Setup) (formed : Bool) (a : Result (Unit {0}) Refusal) (ws' : List ℕ) : Type 0 where
   pub answer : a ≡ start_answer s.node s.queue_capacity formed s.thresholds
+  pub words : ws' ≡ unless_refused a ws (fresh_words (node s.node) s.queue_capacity s)
   pub on : (r : Run) → formed ≡ well_lent r → (l : Run) → l ≡ start_left a r → StartedOn ws r s a ws' l

@@ -19,7 +19,7 @@ use Rattle.types.specs.declared.nmt.states.NmtState.{NmtState}
 use Rattle.entries.specs.Queue.{capacity_of, waiting}
 use Rattle.entries.specs.History.{history}
 use Rattle.types.specs.declared.frame.cs_state_machine.DllCsEvent.TheVariants.{SocTimeout}
-use Rattle.std.specs.declared.option.Option.TheVariants.{Some, None}
+use Rattle.head.specs.declared.state.Deadline.TheVariants.{At, Nothing}
 use Rattle.head.specs.Head.{Head, head_with_dll}
 use Rattle.watched.specs.Watched.{latest}
 use Rattle.node.specs.Plain.{Plain}
@@ -40,13 +40,13 @@ module _ (h : Head) (t : ℕ) where
   next_is l y e o a b c d = rw (d, c, b, a)
 
   module _ (y : ℕ) (b : y ≡ cycle_of h.od) (g : Head) where
-    pub resched_on : 0 < y → (n : ℕ) → n ≡ next_deadline (plain h [] []) t → Becomes h (λ p. with_deadline p (Some n)) g → Becomes h (λ p. rescheduled p t) g
+    pub resched_on : 0 < y → (n : ℕ) → n ≡ next_deadline (plain h [] []) t → Becomes h (λ p. with_deadline p (At n)) g → Becomes h (λ p. rescheduled p t) g
     resched_on z n e k = (
       λ q m.
           let p : Plain = plain h q m in
           k.0 q m
-          ∙ ap (λ (n : ℕ). with_deadline p (Some n)) e
-          ∙ sym (ap (λ (c : Bool). pick c (with_deadline p (Some (next_deadline p t))) (with_soc p (check_off p.soc))) (ap (ltb 0) (sym b) ∙ lt-ltb 0 y z)),
+          ∙ ap (λ (n : ℕ). with_deadline p (At n)) e
+          ∙ sym (ap (λ (c : Bool). pick c (with_deadline p (At (next_deadline p t))) (with_soc p (check_off p.soc))) (ap (ltb 0) (sym b) ∙ lt-ltb 0 y z)),
       k.1,
     )
 
@@ -55,13 +55,13 @@ module _ (h : Head) (t : ℕ) where
       λ q m.
           let p : Plain = plain h q m in
           k.0 q m
-          ∙ sym (ap (λ (c : Bool). pick c (with_deadline p (Some (next_deadline p t))) (with_soc p (check_off p.soc))) (ap (ltb 0) (sym b) ∙ le-ltb 0 y z)),
+          ∙ sym (ap (λ (c : Bool). pick c (with_deadline p (At (next_deadline p t))) (with_soc p (check_off p.soc))) (ap (ltb 0) (sym b) ∙ le-ltb 0 y z)),
       k.1,
     )
 
     -- within the limit
     abbrev chosen : Plain → Bool → Plain
-    chosen p c = pick c (with_deadline p (Some (min p.soc.last_soc_reception_time_us latest + limit_of p.od))) (rescheduled p t)
+    chosen p c = pick c (with_deadline p (At (min p.soc.last_soc_reception_time_us latest + limit_of p.od))) (rescheduled p t)
 
     pub within_none : y ≤ 0 → Becomes h (λ p. rescheduled p t) g → Becomes h (λ p. within_limit p t) g
     within_none z k = (
@@ -77,11 +77,11 @@ module _ (h : Head) (t : ℕ) where
       tests c e =
           ap₂ both (ap (ltb 0) (sym b) ∙ lt-ltb 0 y z) (ap (ltb t) (ap₂ ◌+◌ (sym a) (sym d)) ∙ e)
 
-      pub within_ahead : t < l + n → Becomes h (λ p. with_deadline p (Some (l + n))) g → Becomes h (λ p. within_limit p t) g
+      pub within_ahead : t < l + n → Becomes h (λ p. with_deadline p (At (l + n))) g → Becomes h (λ p. within_limit p t) g
       within_ahead w k = (
         λ q m.
             let p : Plain = plain h q m in
-            k.0 q m ∙ ap (λ (x : ℕ). with_deadline p (Some x)) (ap₂ ◌+◌ a d) ∙ sym (ap (chosen p) (tests true (lt-ltb t (l + n) w))),
+            k.0 q m ∙ ap (λ (x : ℕ). with_deadline p (At x)) (ap₂ ◌+◌ a d) ∙ sym (ap (chosen p) (tests true (lt-ltb t (l + n) w))),
         k.1,
       )
 
@@ -225,12 +225,12 @@ module _ (h : Head) (q m : List ℕ) (t : ℕ) where
 
 -- NotActive
 module _ (h g : Head) (t n : ℕ) (e : n ≡ h.nmt.basic_ethernet_timeout) where
-  pub basic_on : 0 < n → Becomes h (λ p. with_deadline p (Some (t + n))) g → Becomes h (λ p. sets_basic p t) g
+  pub basic_on : 0 < n → Becomes h (λ p. with_deadline p (At (t + n))) g → Becomes h (λ p. sets_basic p t) g
   basic_on z k = (
     λ q m.
         let p : Plain = plain h q m in
-        k.0 q m ∙ ap (λ (n : ℕ). with_deadline p (Some (t + n))) e
-        ∙ sym (ap (λ (b : Bool). pick b (with_deadline p (Some (t + h.nmt.basic_ethernet_timeout))) p) (ap (ltb 0) (sym e) ∙ lt-ltb 0 n z)),
+        k.0 q m ∙ ap (λ (n : ℕ). with_deadline p (At (t + n))) e
+        ∙ sym (ap (λ (b : Bool). pick b (with_deadline p (At (t + h.nmt.basic_ethernet_timeout))) p) (ap (ltb 0) (sym e) ∙ lt-ltb 0 n z)),
     k.1,
   )
 
@@ -238,7 +238,7 @@ module _ (h g : Head) (t n : ℕ) (e : n ≡ h.nmt.basic_ethernet_timeout) where
   basic_none z = (
     λ q m.
         let p : Plain = plain h q m in
-        sym (ap (λ (b : Bool). pick b (with_deadline p (Some (t + h.nmt.basic_ethernet_timeout))) p) (ap (ltb 0) (sym e) ∙ le-ltb 0 n z)),
+        sym (ap (λ (b : Bool). pick b (with_deadline p (At (t + h.nmt.basic_ethernet_timeout))) p) (ap (ltb 0) (sym e) ∙ le-ltb 0 n z)),
     record { queue = refl; history = refl },
   )
 
@@ -263,7 +263,7 @@ module _ (h : Head) (q m : List ℕ) (t : ℕ) (r : PartLeft) where
   abbrev p₀ : Plain
   p₀ = plain h q m
 
-  module _ (z : h.soc.next_tick_us ≡ None) where
+  module _ (z : h.soc.next_tick_us ≡ Nothing) where
     pub none_stands : (b : Bool) → b ≡ at_not_active (plain h [] []) → b ≡ false → r ≡ record { head = h; logged = errors.None; ended = false } → Ticks h q m (by_deadline p₀ t h.soc.next_tick_us) r q m
     none_stands b a y e =
         ticks_as (goes_on p₀) (by_deadline p₀ t h.soc.next_tick_us)
@@ -274,27 +274,27 @@ module _ (h : Head) (q m : List ℕ) (t : ℕ) (r : PartLeft) where
         ticks_as (goes_on (sets_basic p₀ t)) (by_deadline p₀ t h.soc.next_tick_us)
         (ap (by_deadline p₀ t) z ∙ ap (λ (b : Bool). goes_on (pick b (sets_basic p₀ t) p₀)) (sym a ∙ y)) (on_ticks (λ p. sets_basic p t) k e)
 
-  module _ (at : ℕ) (z : h.soc.next_tick_us ≡ Some at) where
+  module _ (at : ℕ) (z : h.soc.next_tick_us ≡ At at) where
     pub not_passed : t < at → r ≡ record { head = h; logged = errors.None; ended = false } → Ticks h q m (by_deadline p₀ t h.soc.next_tick_us) r q m
     not_passed y e =
         ticks_as (goes_on p₀) (by_deadline p₀ t h.soc.next_tick_us)
-        (ap (by_deadline p₀ t) z ∙ ap (λ (b : Bool). pick b (used_up (with_deadline p₀ None) t) (goes_on p₀)) (lt-leb at t y)) (on_ticks (λ p. p) (itself h) e)
+        (ap (by_deadline p₀ t) z ∙ ap (λ (b : Bool). pick b (used_up (with_deadline p₀ Nothing) t) (goes_on p₀)) (lt-leb at t y)) (on_ticks (λ p. p) (itself h) e)
 
-    module _ (y : at ≤ t) (u : Head) (k : Becomes h (λ p. with_deadline p None) u) (b : Bool) (a : b ≡ at_not_active (plain u [] [])) where
-      used_up_lem : (c : Bool) → b ≡ c → by_deadline p₀ t h.soc.next_tick_us ≡ pick c (timed_out (with_deadline p₀ None)) (soc_check (with_deadline p₀ None) t)
+    module _ (y : at ≤ t) (u : Head) (k : Becomes h (λ p. with_deadline p Nothing) u) (b : Bool) (a : b ≡ at_not_active (plain u [] [])) where
+      used_up_lem : (c : Bool) → b ≡ c → by_deadline p₀ t h.soc.next_tick_us ≡ pick c (timed_out (with_deadline p₀ Nothing)) (soc_check (with_deadline p₀ Nothing) t)
       used_up_lem c x =
           ap (by_deadline p₀ t) z
-          ∙ ap (λ (b : Bool). pick b (used_up (with_deadline p₀ None) t) (goes_on p₀)) (le-leb at t y)
-          ∙ ap (λ (b : Bool). pick b (timed_out (with_deadline p₀ None)) (soc_check (with_deadline p₀ None) t))
+          ∙ ap (λ (b : Bool). pick b (used_up (with_deadline p₀ Nothing) t) (goes_on p₀)) (le-leb at t y)
+          ∙ ap (λ (b : Bool). pick b (timed_out (with_deadline p₀ Nothing)) (soc_check (with_deadline p₀ Nothing) t))
           (sym (a ∙ ap at_not_active (k.0 [] [])) ∙ x)
 
       pub passed_idle : b ≡ true → (g : Head) → Becomes u times_out g → r ≡ record { head = g; logged = errors.None; ended = false } → Ticks h q m (by_deadline p₀ t h.soc.next_tick_us) r q m
       passed_idle x g n e =
-          let w = on_ticks (λ p. times_out (with_deadline p None)) (becomes_then (λ p. with_deadline p None) times_out k n) e in
-          ticks_as (timed_out (with_deadline p₀ None)) (by_deadline p₀ t h.soc.next_tick_us) (used_up_lem true x)
+          let w = on_ticks (λ p. times_out (with_deadline p Nothing)) (becomes_then (λ p. with_deadline p Nothing) times_out k n) e in
+          ticks_as (timed_out (with_deadline p₀ Nothing)) (by_deadline p₀ t h.soc.next_tick_us) (used_up_lem true x)
           (record { head = w.head; logged = w.logged; ended = w.ended; joined = w.joined })
 
       pub passed_check : b ≡ false → (q' m' : List ℕ) → Ticks u q m (soc_check (plain u q m) t) r q' m' → Ticks h q m (by_deadline p₀ t h.soc.next_tick_us) r q' m'
       passed_check x q' m' w =
-          ticks_as (soc_check (with_deadline p₀ None) t) (by_deadline p₀ t h.soc.next_tick_us) (used_up_lem false x)
-          (ticks_from (λ p. with_deadline p None) (λ (p : Plain). soc_check p t) k w)
+          ticks_as (soc_check (with_deadline p₀ Nothing) t) (by_deadline p₀ t h.soc.next_tick_us) (used_up_lem false x)
+          (ticks_from (λ p. with_deadline p Nothing) (λ (p : Plain). soc_check p t) k w)

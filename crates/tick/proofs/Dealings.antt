@@ -7,7 +7,8 @@ use mathlib.Core.Bool.{Bool, true, false}
 use mathlib.Core.List.{List, [], ◌∷◌}
 use native.Mathlib.Omega.{arith}
 use lib.ListN.{length, set}
-use Rattle.types.specs.Pick.{pick}
+use Rattle.types.specs.Pick.{pick, all_of}
+use Rattle.types.proofs.Tests.{both_first, both_second}
 use Rattle.types.specs.declared.frame.error.types.DllError.{DllError}
 use Rattle.types.specs.declared.frame.error.types.DllErrors.TheVariants as errors
 use Rattle.counters.specs.Counters.{effect, handled, HandledError, replied}
@@ -215,3 +216,43 @@ module _ (t : ℕ) (ws q m : List ℕ) (e : DllError) (r : Dealt) (ws' q' m' : L
       by : (b : Bool) → r.ended ≡ b → deal_all_words ws (e ∷ []) ≡ deal_words ws e
       by true y = goes [] true y
       by false y = goes [] false y
+
+-- The walk over the errors es₀, from the words ws₀ and the memory q₀ and m₀: it stands at the words ws and the memory q and m, none of the errors that it
+-- passed ended the tick, and the errors es are left. What comes of those comes of all; where none is left, what the last one left does.
+pub record DealingIn (t : ℕ) (ws₀ q₀ m₀ : List ℕ) (es₀ : List DllError) (ws q m : List ℕ) (d : Dealt) (es : List DllError) : Type 0 where
+  pub quiet : all_of is_quiet es ≡ true
+  pub leads :
+      (r : Dealt) (ws' q' m' : List ℕ) →
+      TicksIn ws q m (deal_all t (plain (head_of ws) q m) es) r ws' q' m' (deal_all_words ws es) →
+      TicksIn ws₀ q₀ m₀ (deal_all t (plain (head_of ws₀) q₀ m₀) es₀) r ws' q' m' (deal_all_words ws₀ es₀)
+  pub ends : es ≡ [] → TicksIn ws₀ q₀ m₀ (deal_all t (plain (head_of ws₀) q₀ m₀) es₀) d ws q m (deal_all_words ws₀ es₀)
+
+pub walk_begins :
+    (t : ℕ) (ws q m : List ℕ) (es : List DllError) → all_of is_quiet es ≡ true →
+    DealingIn t ws q m es ws q m (record { logged = errors.None; ended = false }) es
+walk_begins t ws q m es h =
+    record {
+      quiet = h;
+      leads = λ r ws' q' m' w. w;
+      ends = λ e. subst (λ (es : List DllError). TicksIn ws q m (deal_all t (plain (head_of ws) q m) es) (record { logged = errors.None; ended = false }) ws q m (deal_all_words ws es)) (sym e) (walk_none t ws q m);
+    }
+
+module _ (t : ℕ) (ws₀ q₀ m₀ : List ℕ) (es₀ : List DllError) (ws q m : List ℕ) (d : Dealt) (e : DllError) (es : List DllError) (k : DealingIn t ws₀ q₀ m₀ es₀ ws q m d (e ∷ es)) where
+  pub first_quiet : is_quiet e ≡ true
+  first_quiet = both_first (is_quiet e) (all_of is_quiet es) k.quiet
+
+  module _ (r : Dealt) (ws' q' m' : List ℕ) (w : TicksIn ws q m (deal t (plain (head_of ws) q m) e) r ws' q' m' (deal_words ws e)) where
+    pub walk_left : r.ended ≡ true → TicksIn ws₀ q₀ m₀ (deal_all t (plain (head_of ws₀) q₀ m₀) es₀) r ws' q' m' (deal_all_words ws₀ es₀)
+    walk_left y = k.leads r ws' q' m' (walk_stops t ws q m e r ws' q' m' w es y)
+
+    pub walk_on : r.ended ≡ false → DealingIn t ws₀ q₀ m₀ es₀ ws' q' m' r es
+    walk_on y =
+        record {
+          quiet = both_second (is_quiet e) (all_of is_quiet es) k.quiet;
+          leads = λ r' ws'' q'' m'' z. k.leads r' ws'' q'' m'' (walk_goes_on t ws q m e r ws' q' m' w first_quiet y es r' ws'' q'' m'' z);
+          ends =
+              λ x.
+              k.leads r ws' q' m'
+              (subst (λ (es : List DllError). TicksIn ws q m (deal_all t (plain (head_of ws) q m) (e ∷ es)) r ws' q' m' (deal_all_words ws (e ∷ es))) (sym x)
+              (walk_last t ws q m e r ws' q' m' w));
+        }

@@ -1,4 +1,5 @@
--- The contract fixes the whole answer: of a tick, no two answers meet it, and it leaves one head, one memory and one run of watched nodes.
+-- The contract fixes the whole answer: of a tick, no two answers meet it, and it leaves one head, one memory and one run of watched nodes. So it is of the
+-- tick at which no node asks for anything, whatever time and moment it is given.
 -- Assumes nothing.
 use Prim.Native.Nat.{ℕ}
 use mathlib.Core.Path.{◌≡◌, refl, sym, ap, ◌∙◌}
@@ -17,7 +18,8 @@ use Rattle.std.specs.declared.result.Result.TheVariants.{Ok, Err}
 use Rattle.types.specs.declared.frame.error.types.DllErrors.{DllErrors}
 use Rattle.types.specs.declared.refusals.Refusal.{Refusal}
 use Rattle.node.specs.InPlace.{unless_refused}
-use Rattle.tick.specs.TickIn.{tick_said, TickedIn}
+use Rattle.std.specs.declared.option.Option.{Option}
+use Rattle.tick.specs.TickIn.{tick_said, TickedIn, StillTicks}
 
 -- an answer is fixed by what it says
 pub tick_said_fixed : (a b : Result DllErrors Refusal) → tick_said a ≡ tick_said b → a ≡ b
@@ -45,4 +47,18 @@ tick_fixes {ws} {q} {m} {ns} {ns₁ = ns₁} {ns₂ = ns₂} {k} {t} {a} {b} x y
       ap (λ (r : Rings). r.queue_bytes) r,
       ap (λ (r : Rings). r.history_bytes) r,
       n,
+    )
+
+pub still_fixes :
+    {ws q m ws₁ q₁ m₁ ws₂ q₂ m₂ : List ℕ} {t : ℕ} {s : Option ℕ} {a b : Result DllErrors Refusal} →
+    StillTicks ws q m t s a ws₁ q₁ m₁ →
+    StillTicks ws q m t s b ws₂ q₂ m₂ →
+    (a ≡ b) × (ws₁ ≡ ws₂) × (q₁ ≡ q₂) × (m₁ ≡ m₂)
+still_fixes {a = a} {b} x y =
+    let e : a ≡ b = tick_said_fixed a b (x.answer ∙ sym y.answer) in
+    let r = x.rings ∙ sym y.rings in (
+      e,
+      x.words ∙ leaves_same e _ _ ∙ sym y.words,
+      ap (λ (r : Rings). r.queue_bytes) r,
+      ap (λ (r : Rings). r.history_bytes) r,
     )

@@ -15,7 +15,7 @@ use Rattle.types.specs.declared.frame.error.types.DllErrors.TheVariants as error
 use Rattle.types.specs.declared.frame.cs_state_machine.DllCsEvent.TheVariants.{SocTimeout}
 use Rattle.dll.specs.Dll as Dll
 use Rattle.dll.specs.declared.cs_state_machine.DllAnswer.{DllAnswer}
-use Rattle.std.specs.declared.option.Option.TheVariants.{Some, None}
+use Rattle.head.specs.declared.state.Deadline.TheVariants.{At, Nothing}
 use Rattle.head.specs.Head.{Head}
 use Rattle.node.specs.Steps.{limit_of}
 use Rattle.node.specs.Tick.{with_deadline, rescheduled, within_limit, is_loss, deal_all, soc_timeout, lost, soc_check, at_not_active, sets_basic, times_out, by_deadline}
@@ -128,7 +128,7 @@ module _ (ws q m : List ℕ) (t : ℕ) (r : Dealt) where
   PassesIn ws' q' m' =
       TicksIn ws q m (by_deadline (plain (head_of ws) q m) t (soc_of ws).next_tick_us) r ws' q' m' (deadline_words ws q m t (soc_of ws).next_tick_us)
 
-  module _ (z : (soc_of ws).next_tick_us ≡ None) (b : Bool) (a : b ≡ at_not_active (unlent ws)) where
+  module _ (z : (soc_of ws).next_tick_us ≡ Nothing) (b : Bool) (a : b ≡ at_not_active (unlent ws)) where
     none_there : (c : Bool) → b ≡ c → deadline_words ws q m t (soc_of ws).next_tick_us ≡ pick c (basic_words ws t) ws
     unfolding deadline_words
     none_there c y = ap (deadline_words ws q m t) z ∙ ap (λ (c : Bool). pick c (basic_words ws t) ws) (sym a ∙ y)
@@ -149,7 +149,7 @@ module _ (ws q m : List ℕ) (t : ℕ) (r : Dealt) where
           words = k.words ∙ sym (none_there true y);
         }
 
-  module _ (d : ℕ) (z : (soc_of ws).next_tick_us ≡ Some d) where
+  module _ (d : ℕ) (z : (soc_of ws).next_tick_us ≡ At d) where
     there : (c : Bool) → leb d t ≡ c → deadline_words ws q m t (soc_of ws).next_tick_us ≡ pick c (passed_words (set ws at.due 0) q m t) ws
     unfolding deadline_words
     there c y = ap (deadline_words ws q m t) z ∙ ap (λ (c : Bool). pick c (passed_words (set ws at.due 0) q m t) ws) y
@@ -162,7 +162,7 @@ module _ (ws q m : List ℕ) (t : ℕ) (r : Dealt) where
           words = sym (there false (lt-leb d t y));
         }
 
-    module _ (y : d ≤ t) (ws₁ : List ℕ) (k : Turns ws (λ p. with_deadline p None) ws₁ (deadline_written ws None)) (b : Bool) (a : b ≡ at_not_active (unlent ws₁)) (ws' : List ℕ) where
+    module _ (y : d ≤ t) (ws₁ : List ℕ) (k : Turns ws (λ p. with_deadline p Nothing) ws₁ (deadline_written ws Nothing)) (b : Bool) (a : b ≡ at_not_active (unlent ws₁)) (ws' : List ℕ) where
       used_up_lem : (c : Bool) → b ≡ c → deadline_words ws q m t (soc_of ws).next_tick_us ≡ pick c (timeout_words ws₁) (check_words ws₁ q m t)
       unfolding passed_words
       used_up_lem c x =

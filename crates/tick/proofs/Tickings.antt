@@ -2,7 +2,7 @@
 -- are beside it.
 -- Assumes nothing.
 use Prim.Native.Nat.{ℕ, ◌≤◌}
-use mathlib.Core.Path.{◌≡◌, refl, sym, ap, subst, ◌∙◌}
+use mathlib.Core.Path.{◌≡◌, refl, sym, ap, ap₂, subst, ◌∙◌}
 use mathlib.Core.Bool.{Bool, true, false, true≢false}
 use mathlib.Core.List.{List, map}
 use lib.Dec.{eqb}
@@ -20,14 +20,15 @@ use Rattle.types.specs.declared.refusals.Refusal.{Refusal}
 use Rattle.head.specs.Head.{Head, head_with_earliest}
 use Rattle.head.specs.Written.{earliest_written}
 use Rattle.head.proofs.Laws.{earliest_written_lem}
-use Rattle.node.specs.Plain.{tick_answer}
-use Rattle.node.specs.Steps.{earliest}
+use Rattle.node.specs.Plain.{Plain, Call, tick_answer, Step}
+use Rattle.node.specs.Steps.{with_earliest, no_run, declines, earliest}
+use Rattle.node.specs.Run.{step}
 use Rattle.node.proofs.Moments.{moment_of_lem, all_fit}
 use Rattle.types.specs.declared.refusals.Refusal.TheVariants.{WatchedNodes, TimeLimit, BeforeHeard}
 use Rattle.watched.specs.declared.nodes.WatchedNode.{WatchedNode}
 use Rattle.watched.specs.Watched.{in_time, well_formed, watched_of, Run, run, watching, well_lent, changing}
-use Rattle.node.specs.Tick.{checks_heartbeats, looked, late_ones, beat_all, by_deadline, tick_taken}
-use Rattle.node.specs.Refines.{plain}
+use Rattle.node.specs.Tick.{Ticked, goes_on, behind, checks_heartbeats, looked, late_ones, beat_all, by_deadline, tick_taken, tick_answered, looked_at}
+use Rattle.node.specs.Refines.{plain, rings, joins_all}
 use Rattle.heartbeats.specs.Parts.{looked_first}
 use Rattle.watched.proofs.Lists.{each_nodes}
 use Rattle.tick.proofs.TickRefines.{tick_idle, tick_ended, tick_goes_on, TickLeft, tick_unformed, tick_late, tick_before, tick_accepted}
@@ -42,9 +43,8 @@ use Rattle.heartbeats.specs.PartWords.{beat_all_words, looked_words}
 use Rattle.tick.specs.TickWords.{rest_words, tick_words}
 use Rattle.heartbeats.specs.PartsIn.{dealt_of, TicksIn}
 use Rattle.node.specs.InPlace.{unless_refused}
-use Rattle.tick.specs.TickIn.{is_still, roused_of, TickedOn, TickedIn, StillTicks}
+use Rattle.tick.specs.TickIn.{is_still, roused_of, TickedOn, TickedIn, still_answered, still_step, StillTicks}
 use Rattle.heartbeats.proofs.Beatings.{all_looked_fit, rest_before, rest_late, rest_words_lem, rest_run}
-use Rattle.tick.proofs.Passings.{on}
 
 -- what a first look that saw something says, and one that saw nothing
 module _ (a : Option Seen) (y : Result Seen Refusal) (e : y ≡ ok_or a WatchedNodes) where
@@ -111,26 +111,36 @@ module _ (ws q m : List ℕ) (t : ℕ) (vs : List WatchedNode) where
           words = k.words ∙ ap (λ (l : List ℕ). rest_words l q m t) w.words ∙ sym (goes false y);
         }
 
-  -- where all nodes rest, the heartbeats go on with nothing
-  resting : R ≡ true → TicksIn ws q m (beat_all (plain (head_of ws) q m) (late_ones t vs)) on ws q m B
-  unfolding beat_all beat_all_words
-  resting h =
-      subst (λ (l : List WatchedNode). TicksIn ws q m (beat_all (plain (head_of ws) q m) l) on ws q m (beat_all_words ws l)) (sym (rest_late t vs h))
-      (record { ticks = record { head = refl; logged = refl; ended = refl; joined = refl }; words = refl })
-
-  -- no node asks for anything
+  -- no node asks for anything: nothing comes of the heartbeats
   module _ (still : is_still C t vs ≡ true) where
-    pub still_phases :
-        (d : Dealt) (ws' q' m' : List ℕ) →
-        TicksIn ws q m (by_deadline (plain (head_of ws) q m) t (soc_of ws).next_tick_us) d ws' q' m' (rest_words ws q m t) →
-        TicksIn ws q m (tick_taken (plain (head_of ws) q m) t vs) d ws' q' m' (tick_words ws q m t vs)
-    still_phases d ws' q' m' w = by C refl still
+    pub still_taken : tick_taken (plain (head_of ws) q m) t vs ≡ by_deadline (plain (head_of ws) q m) t (soc_of ws).next_tick_us
+    unfolding head_of tick_taken beat_all
+    still_taken = by C refl still
       where
-        by :
-            (a : Bool) → C ≡ a → pick a R true ≡ true →
-            TicksIn ws q m (tick_taken (plain (head_of ws) q m) t vs) d ws' q' m' (tick_words ws q m t vs)
-        by false x y = idle x d ws' q' m' w
-        by true x y = beats_go_on x on ws (resting y) refl d ws' q' m' w
+        p : Plain
+        p = plain (head_of ws) q m
+
+        after : Ticked → Ticked
+        after b = pick b.ended b (behind b (by_deadline b.head t b.head.soc.next_tick_us))
+
+        by : (a : Bool) → C ≡ a → pick a R true ≡ true → tick_taken p t vs ≡ by_deadline p t (soc_of ws).next_tick_us
+        by false x y = ap (λ (c : Bool). after (pick c (beat_all p (late_ones t vs)) (goes_on p))) x
+        by true x y =
+            ap (λ (c : Bool). after (pick c (beat_all p (late_ones t vs)) (goes_on p))) x
+            ∙ ap (λ (l : List WatchedNode). after (beat_all p l)) (rest_late t vs y)
+
+    pub still_words : tick_words ws q m t vs ≡ rest_words ws q m t
+    unfolding beat_all beat_all_words
+    still_words = by C refl still
+      where
+        by : (a : Bool) → C ≡ a → pick a R true ≡ true → tick_words ws q m t vs ≡ rest_words ws q m t
+        by false x y = by_state_lem false x
+        by true x y =
+            by_state_lem true x
+            ∙ ap
+            (λ (l : List WatchedNode).
+            pick (beat_all (plain (head_of ws) q m) l).ended (beat_all_words ws l) (rest_words (beat_all_words ws l) q m t))
+            (rest_late t vs y)
 
     -- a choice that is the same where all rest
     still_choice : {A : Type 0} (x y : A) → (R ≡ true → y ≡ x) → y ≡ pick C x y
@@ -181,20 +191,81 @@ module _ (ws q m : List ℕ) (r : Run) (t : ℕ) where
           let y = subst (λ (g : Head). TickLeft (head_of ws) q m r t (tick_answer (reported d.logged)) g q' m' l) (sym g) k in
           record { refines = y.0; rings = y.1; words = w ∙ (λ i. earliest_written (h.words i) (e i)) }
 
--- where no node asks for anything
+-- where no node asks for anything: number 5, or what is taken
 module _ (ws q m : List ℕ) (t : ℕ) (s : Option ℕ) where
+  abbrev p₁ : Plain
+  p₁ = plain (head_of ws) q m
+
+  abbrev K : Ticked
+  K = by_deadline p₁ t p₁.soc.next_tick_us
+
+  abbrev chosen : Bool → Step
+  chosen b = pick b (still_answered K s) (declines p₁ no_run 5)
+
   pub still_late : in_time t ≡ false → StillTicks ws q m t s (Err TimeLimit) ws q m
-  still_late b r a h e = run_late ws q m r t a b
+  still_late b =
+      let e : still_step p₁ t s ≡ chosen false = ap chosen b in
+      record {
+        head = sym (ap (λ (k : Step). k.head) e);
+        answer = sym (ap (λ (k : Step). k.answer) e);
+        rings = sym (ap (λ (k : Step). joins_all (rings (head_of ws) q m) k.crossings) e);
+        words = refl;
+      }
 
   pub still_accepted :
       in_time t ≡ true → (d : Dealt) (ws₁ q' m' : List ℕ) →
       TicksIn ws q m (by_deadline (plain (head_of ws) q m) t (soc_of ws).next_tick_us) d ws₁ q' m' (rest_words ws q m t) →
       length ws₁ ≡ 60 → (ws' : List ℕ) → ws' ≡ earliest_written ws₁ s → StillTicks ws q m t s (Ok d.logged) ws' q' m'
-  still_accepted b d ws₁ q' m' k long ws' w r a h e =
-      let f : well_formed (watching r) ≡ true = both_second (eqb (length r.places) 32) (well_formed (watching r)) a in
-      run_accepted ws q m r t a b (still_times ws q m t (watching r) h) d ws₁ q' m' (still_phases ws q m t (watching r) h d ws₁ q' m' k) long r
-      (still_choice ws q m t (watching r) h (changing (map (looked t)) r) r (λ z. sym (rest_run t r (lent_inside r a) z)))
-      s (e ∙ moment_of_lem (watching r) (all_fit (watching r) f)) ws' w
+  unfolding head_of
+  still_accepted b d ws₁ q' m' k long ws' w =
+      let e : still_step p₁ t s ≡ chosen true = ap chosen b in
+      let g : head_of ws' ≡ head_with_earliest (head_of ws₁) s = ap head_of w ∙ earliest_written_lem ws₁ long s in
+      record {
+        head = ap (λ (h : Head). plain h q' m') g ∙ ap (λ (p : Plain). with_earliest p s) k.ticks.head ∙ sym (ap (λ (k : Step). k.head) e);
+        answer = ap tick_answer k.ticks.logged ∙ sym (ap (λ (k : Step). k.answer) e);
+        rings =
+            ap (λ (h : Head). rings h q' m') g ∙ k.ticks.joined
+            ∙ sym (ap (λ (k : Step). joins_all (rings (head_of ws) q m) k.crossings) e);
+        words = w ∙ ap (λ (l : List ℕ). earliest_written l s) k.words;
+      }
+
+  -- on a run of which no node asks for anything, with its moment, it is the tick
+  module _ (r : Run) (a : well_lent r ≡ true) (h : is_still (checks_heartbeats (nmt_of ws).current_state) t (watching r) ≡ true) (e : s ≡ moment_of (soonest never (watching r))) where
+    abbrev on_run : Step → Step
+    on_run k =
+        record { head = k.head; answer = k.answer; lent = r; event = k.event; marks = k.marks; checked = k.checked; crossings = k.crossings }
+
+    moment : s ≡ earliest (watching r)
+    moment = e ∙ moment_of_lem (watching r) (all_fit (watching r) (both_second (eqb (length r.places) 32) (well_formed (watching r)) a))
+
+    still_run : step p₁ (Call.tick t r) ≡ on_run (still_step p₁ t s)
+    unfolding head_of
+    still_run = rw (a, still_times ws q m t (watching r) h) (by (in_time t))
+      where
+        taken : tick_answered (tick_taken p₁ t (watching r)) (looked_at p₁ t r) ≡ on_run (still_answered K s)
+        taken =
+            ap₂ tick_answered (still_taken ws q m t (watching r) h)
+            (sym (still_choice ws q m t (watching r) h (changing (map (looked t)) r) r (λ z. sym (rest_run t r (lent_inside r a) z))))
+            ∙ ap (λ (x : Option ℕ). on_run (still_answered K x)) (sym moment)
+
+        by :
+            (b : Bool) →
+            pick b (tick_answered (tick_taken p₁ t (watching r)) (looked_at p₁ t r)) (declines p₁ r 5) ≡ on_run (chosen b)
+        by true = taken
+        by false = refl
+
+    pub still_on : (y : Result DllErrors Refusal) (ws' q' m' : List ℕ) → StillTicks ws q m t s y ws' q' m' → TickedOn ws q m r t y ws' q' m' r
+    still_on y ws' q' m' k =
+        record {
+          refines =
+              record {
+                head = k.head ∙ sym (ap (λ (k : Step). k.head) still_run);
+                answer = k.answer ∙ sym (ap (λ (k : Step). k.answer) still_run);
+                lent = sym (ap (λ (k : Step). k.lent) still_run);
+              };
+          rings = k.rings ∙ sym (ap (λ (k : Step). joins_all (rings (head_of ws) q m) k.crossings) still_run);
+          words = k.words ∙ (λ i. unless_refused y ws (earliest_written (sym (still_words ws q m t (watching r) h) i) (moment i)));
+        }
 
 -- the nodes in words
 module _ (ws q m ns : List ℕ) (k t : ℕ) where
@@ -233,7 +304,7 @@ module _ (ws q m ns : List ℕ) (k t : ℕ) where
         let o = seen_resting (well_formed vs) (is_still c t vs) (all_of (not_before t) vs) (moment_of (soonest never vs)) a g x h in
         let still : is_still (checks_heartbeats (nmt_of ws).current_state) t vs ≡ true =
         ap (λ (c : Bool). is_still c t vs) (sym same_checks) ∙ o.1 in
-        record { on = y lent_run (lent_words ns k ∙ o.0) still o.2; nodes = stay z still (few ns k o.0) }
+        record { on = still_on ws q m t x lent_run (lent_words ns k ∙ o.0) still o.2 z ws' q' m' y; nodes = stay z still (few ns k o.0) }
       where
         stay :
             (z : Result DllErrors Refusal) → is_still (checks_heartbeats (nmt_of ws).current_state) t vs ≡ true → k ≤ 32 →

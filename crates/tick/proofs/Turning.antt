@@ -11,8 +11,8 @@ use Rattle.types.specs.Pick.{pick, both}
 use Rattle.types.specs.declared.nmt.events.NmtEvent.TheVariants.{Timeout}
 use Rattle.entries.specs.Queue.{queue}
 use Rattle.entries.specs.History.{error_history}
-use Rattle.std.specs.declared.option.Option.{Option}
-use Rattle.std.specs.declared.option.Option.TheVariants.{Some, None}
+use Rattle.head.specs.declared.state.Deadline.{Deadline}
+use Rattle.head.specs.declared.state.Deadline.TheVariants.{At, Nothing}
 use Rattle.head.specs.declared.state.Statistic.TheVariants.{Counter1}
 use Rattle.head.specs.Head.{Head, soc_watch, of_parts, head_with_soc}
 use Rattle.node.specs.Steps.{with_soc, cycle_of, limit_of}
@@ -31,15 +31,15 @@ use Rattle.heartbeats.proofs.Turns.{turned}
 abbrev OffRead : List ℕ → Type 0
 OffRead ws = head_of (set ws at.check 0) ≡ head_with_soc (head_of ws) (check_off (soc_of ws))
 
-abbrev with_due : Head → Option ℕ → Head
+abbrev with_due : Head → Deadline → Head
 with_due h d =
     head_with_soc h (soc_watch h.soc.last_soc_reception_time_us h.soc.soc_timeout_check_active d h.soc.error_status_changed)
 
 abbrev DueRead : ℕ → ℕ → List ℕ → Type 0
-DueRead a b ws = head_of (set (set (set ws at.due 1) at.deadline a) (at.deadline + 1) b) ≡ with_due (head_of ws) (Some (time_of a b))
+DueRead a b ws = head_of (set (set (set ws at.due 1) at.deadline a) (at.deadline + 1) b) ≡ with_due (head_of ws) (At (time_of a b))
 
 abbrev NotDueRead : List ℕ → Type 0
-NotDueRead ws = head_of (set ws at.due 0) ≡ with_due (head_of ws) None
+NotDueRead ws = head_of (set ws at.due 0) ≡ with_due (head_of ws) Nothing
 
 -- an entry's words: counter 2, the places of the queue and those of the history
 abbrev EntryRead : ℕ → ℕ → ℕ → ℕ → ℕ → List ℕ → Type 0
@@ -65,9 +65,9 @@ module _ (ws : List ℕ) (long : length ws ≡ 60) where
   unfolding head_of
   entry_read n o l a b = whole (EntryRead n o l a b) ws long refl
 
-  due_written : (d : Option ℕ) → head_of (deadline_written ws d) ≡ with_due (head_of ws) d
-  due_written (Some t) = due_read _ _ ∙ ap (λ (t : ℕ). with_due (head_of ws) (Some t)) (time_back t)
-  due_written None = not_due_read
+  due_written : (d : Deadline) → head_of (deadline_written ws d) ≡ with_due (head_of ws) d
+  due_written (At t) = due_read _ _ ∙ ap (λ (t : ℕ). with_due (head_of ws) (At t)) (time_back t)
+  due_written Nothing = not_due_read
 
   module _ (ws' : List ℕ) where
     pub off_turns : ws' ≡ set ws at.check 0 → Turns ws (λ p. with_soc p (check_off p.soc)) ws' (set ws at.check 0)
@@ -75,7 +75,7 @@ module _ (ws : List ℕ) (long : length ws ≡ 60) where
     off_turns w =
         turned ws (λ p. with_soc p (check_off p.soc)) _ (set ws at.check 0) _ ws' (λ q m. refl, record { queue = refl; history = refl }) off_read refl w
 
-    pub due_turns : (d : Option ℕ) → ws' ≡ deadline_written ws d → Turns ws (λ p. with_deadline p d) ws' (deadline_written ws d)
+    pub due_turns : (d : Deadline) → ws' ≡ deadline_written ws d → Turns ws (λ p. with_deadline p d) ws' (deadline_written ws d)
     unfolding head_of
     due_turns d w =
         turned ws (λ p. with_deadline p d) _ (deadline_written ws d) _ ws' (λ q m. refl, record { queue = refl; history = refl }) (due_written d) refl w
@@ -94,15 +94,15 @@ module _ (ws : List ℕ) (t y : ℕ) (b : y ≡ cycle_of (od_of ws)) (ws' : List
   cycles c e = ap (ltb 0) (sym b) ∙ e
 
   pub goes_to :
-      0 < y → (n : ℕ) → n ≡ next_deadline (unlent ws) t → Turns ws (λ p. with_deadline p (Some n)) ws' (deadline_written ws (Some n)) →
+      0 < y → (n : ℕ) → n ≡ next_deadline (unlent ws) t → Turns ws (λ p. with_deadline p (At n)) ws' (deadline_written ws (At n)) →
       Turns ws (λ p. rescheduled p t) ws' (rescheduled_words ws t)
   unfolding head_of rescheduled_words
   goes_to z n e k =
       record {
         becomes = resched_on (head_of ws) t y b (head_of ws') z n e k.becomes;
         words =
-            k.words ∙ ap (λ (n : ℕ). deadline_written ws (Some n)) e
-            ∙ sym (ap (λ (c : Bool). pick c (deadline_written ws (Some (next_deadline (unlent ws) t))) (set ws at.check 0)) (cycles true (lt-ltb 0 y z)));
+            k.words ∙ ap (λ (n : ℕ). deadline_written ws (At n)) e
+            ∙ sym (ap (λ (c : Bool). pick c (deadline_written ws (At (next_deadline (unlent ws) t))) (set ws at.check 0)) (cycles true (lt-ltb 0 y z)));
       }
 
   pub goes_off :
@@ -114,11 +114,11 @@ module _ (ws : List ℕ) (t y : ℕ) (b : y ≡ cycle_of (od_of ws)) (ws' : List
         becomes = resched_off (head_of ws) t y b (head_of ws') z k.becomes;
         words =
             k.words
-            ∙ sym (ap (λ (c : Bool). pick c (deadline_written ws (Some (next_deadline (unlent ws) t))) (set ws at.check 0)) (cycles false (le-ltb 0 y z)));
+            ∙ sym (ap (λ (c : Bool). pick c (deadline_written ws (At (next_deadline (unlent ws) t))) (set ws at.check 0)) (cycles false (le-ltb 0 y z)));
       }
 
   abbrev chosen : Bool → List ℕ
-  chosen c = pick c (deadline_written ws (Some (limit_at ws))) (rescheduled_words ws t)
+  chosen c = pick c (deadline_written ws (At (limit_at ws))) (rescheduled_words ws t)
 
   pub in_none : y ≤ 0 → Turns ws (λ p. rescheduled p t) ws' (rescheduled_words ws t) → Turns ws (λ p. within_limit p t) ws' (within_words ws t)
   unfolding head_of within_words
@@ -137,13 +137,13 @@ module _ (ws : List ℕ) (t y : ℕ) (b : y ≡ cycle_of (od_of ws)) (ws' : List
     tests c e = ap₂ both (cycles true (lt-ltb 0 y z)) (ap (ltb t) (sym at_limit_lem) ∙ e)
 
     pub in_ahead :
-        t < l + n → Turns ws (λ p. with_deadline p (Some (l + n))) ws' (deadline_written ws (Some (l + n))) →
+        t < l + n → Turns ws (λ p. with_deadline p (At (l + n))) ws' (deadline_written ws (At (l + n))) →
         Turns ws (λ p. within_limit p t) ws' (within_words ws t)
     unfolding head_of within_words
     in_ahead w k =
         record {
           becomes = within_ahead (head_of ws) t y b (head_of ws') z l n a d w k.becomes;
-          words = k.words ∙ ap (λ (n : ℕ). deadline_written ws (Some n)) at_limit_lem ∙ sym (ap chosen (tests true (lt-ltb t (l + n) w)));
+          words = k.words ∙ ap (λ (n : ℕ). deadline_written ws (At n)) at_limit_lem ∙ sym (ap chosen (tests true (lt-ltb t (l + n) w)));
         }
 
     pub in_late : l + n ≤ t → Turns ws (λ p. rescheduled p t) ws' (rescheduled_words ws t) → Turns ws (λ p. within_limit p t) ws' (within_words ws t)
@@ -160,16 +160,16 @@ module _ (ws : List ℕ) (t n : ℕ) (e : n ≡ word ws at.timeout) where
   times c x = ap (ltb 0) (sym e) ∙ x
 
   abbrev basics : Bool → List ℕ
-  basics c = pick c (deadline_written ws (Some (t + word ws at.timeout))) ws
+  basics c = pick c (deadline_written ws (At (t + word ws at.timeout))) ws
 
   pub basic_due :
-      0 < n → (ws' : List ℕ) → Turns ws (λ p. with_deadline p (Some (t + n))) ws' (deadline_written ws (Some (t + n))) →
+      0 < n → (ws' : List ℕ) → Turns ws (λ p. with_deadline p (At (t + n))) ws' (deadline_written ws (At (t + n))) →
       Turns ws (λ p. sets_basic p t) ws' (basic_words ws t)
   unfolding head_of basic_words
   basic_due z ws' k =
       record {
         becomes = basic_on (head_of ws) (head_of ws') t n e z k.becomes;
-        words = k.words ∙ ap (λ (n : ℕ). deadline_written ws (Some (t + n))) e ∙ sym (ap basics (times true (lt-ltb 0 n z)));
+        words = k.words ∙ ap (λ (n : ℕ). deadline_written ws (At (t + n))) e ∙ sym (ap basics (times true (lt-ltb 0 n z)));
       }
 
   pub basic_not : n ≤ 0 → Turns ws (λ p. sets_basic p t) ws (basic_words ws t)

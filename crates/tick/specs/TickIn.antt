@@ -1,13 +1,13 @@
 -- What a SocTimeout leaves of a head in words, against the plain tick; and the contract of the tick.
 -- Assumes nothing.
-use Rattle.std.specs.Prelude.{ℕ, ◌≡◌, Bool, true, List}
+use Rattle.std.specs.Prelude.{ℕ, ◌≡◌, Bool, true, List, [], ◌∷◌}
 use Rattle.types.specs.Pick.{pick, all_of}
 use Rattle.types.specs.Errors.{reported}
 use Rattle.types.specs.declared.frame.error.types.DllErrors.{DllErrors}
-use Rattle.node.specs.Plain.{Call, Answer, tick_answer}
-use Rattle.watched.specs.Watched.{well_formed, Run, run, watching, well_lent}
-use Rattle.node.specs.Steps.{earliest}
-use Rattle.node.specs.Tick.{checks_heartbeats}
+use Rattle.node.specs.Plain.{Plain, Call, Answer, tick_answer, Step}
+use Rattle.watched.specs.Watched.{in_time, well_formed, Run, run, watching}
+use Rattle.node.specs.Steps.{must, tried, with_earliest, no_run, declines, earliest}
+use Rattle.node.specs.Tick.{Ticked, checks_heartbeats, by_deadline}
 use Rattle.node.specs.Run.{step}
 use Rattle.node.specs.InPlace.{answered, unless_refused}
 use Rattle.node.specs.Refines.{plain, left, rings, joins_all, Refines}
@@ -23,7 +23,7 @@ use Rattle.std.specs.declared.option.Option.TheVariants.{Some, None}
 use Rattle.std.specs.declared.result.Result.{Result}
 use Rattle.types.specs.declared.refusals.Refusal.{Refusal}
 use Rattle.heartbeats.specs.PartWords.{looked_words}
-use Rattle.tick.specs.TickWords.{loss_words, tick_words}
+use Rattle.tick.specs.TickWords.{loss_words, rest_words, tick_words}
 
 pub record LosesIn (ws : List ℕ) (es : DllErrors) (ws' : List ℕ) : Type 0 where
   pub loses : Loses (head_of ws) (head_of ws') es
@@ -60,8 +60,28 @@ pub record TickedIn (ws q m ns : List ℕ) (k t : ℕ) (a : Result DllErrors Ref
   pub on : TickedOn ws q m (run (nodes_of ns) k) t a ws' q' m' (run (nodes_of ns') k)
   pub nodes : ns' ≡ unless_refused a ns (pick (checks_heartbeats (nmt_of ws).current_state) (looked_words t k ns) ns)
 
--- Of a tick at which no node asks for anything, where s is the soonest moment at which one would be late: any run stays as it is.
-abbrev pub StillTicks : List ℕ → List ℕ → List ℕ → ℕ → Option ℕ → Result DllErrors Refusal → List ℕ → List ℕ → List ℕ → Type 0
-StillTicks ws q m t s a ws' q' m' =
-    (r : Run) → well_lent r ≡ true → is_still (checks_heartbeats (nmt_of ws).current_state) t (watching r) ≡ true → s ≡ moment_of (soonest never (watching r)) →
-    TickedOn ws q m r t a ws' q' m' r
+-- The plain tick at t behind its heartbeats, after which s is shown as the earliest moment. Number 5 is its one test.
+abbrev pub still_answered : Ticked → Option ℕ → Step
+still_answered k s =
+    record {
+      head = with_earliest k.head s;
+      answer = tick_answer k.logged;
+      lent = no_run;
+      event = k.event;
+      marks = k.marks;
+      checked = k.checked;
+      crossings = k.crossings;
+    }
+
+abbrev pub still_step : Plain → ℕ → Option ℕ → Step
+still_step p t s =
+    tried (must (in_time t) 5 ∷ []) (declines p no_run) (still_answered (by_deadline p t p.soc.next_tick_us) s)
+
+-- Of such a tick, at any time t and with any moment s to show: head and answer are the plain head's; every byte of both memories with the places of both
+-- rings, and every word of the head, is known. With the moment of a run of which no node asks for anything it is the tick on that run (`still_on` in
+-- proofs/Tickings.antt).
+pub record StillTicks (ws q m : List ℕ) (t : ℕ) (s : Option ℕ) (a : Result DllErrors Refusal) (ws' q' m' : List ℕ) : Type 0 where
+  pub head : plain (head_of ws') q' m' ≡ (still_step (plain (head_of ws) q m) t s).head
+  pub answer : tick_said a ≡ (still_step (plain (head_of ws) q m) t s).answer
+  pub rings : rings (head_of ws') q' m' ≡ joins_all (rings (head_of ws) q m) (still_step (plain (head_of ws) q m) t s).crossings
+  pub words : ws' ≡ unless_refused a ws (earliest_written (rest_words ws q m t) s)

@@ -8,8 +8,8 @@ use Rattle.dll.specs.Dll.{cs_state_number}
 use Rattle.counters.specs.Counters.{effect, handled}
 use Rattle.entries.specs.Queue.{pushed}
 use Rattle.entries.specs.History.{joined}
-use Rattle.std.specs.declared.option.Option.{Option}
-use Rattle.std.specs.declared.option.Option.TheVariants.{Some, None}
+use Rattle.head.specs.declared.state.Deadline.{Deadline}
+use Rattle.head.specs.declared.state.Deadline.TheVariants.{At, Nothing}
 use Rattle.watched.specs.declared.nodes.WatchedNode.{WatchedNode}
 use Rattle.node.specs.Plain.{Plain}
 use Rattle.node.specs.Steps.{cycle_of, limit_of}
@@ -50,14 +50,14 @@ unlent ws = plain (head_of ws) [] []
 
 unfoldable pub rescheduled_words : List ℕ → ℕ → List ℕ
 rescheduled_words ws t =
-    pick (ltb 0 (cycle_of (od_of ws))) (deadline_written ws (Some (next_deadline (unlent ws) t))) (set ws at.check 0)
+    pick (ltb 0 (cycle_of (od_of ws))) (deadline_written ws (At (next_deadline (unlent ws) t))) (set ws at.check 0)
 
 abbrev pub limit_at : List ℕ → ℕ
 limit_at ws = last_soc (unlent ws) + limit_of (od_of ws)
 
 unfoldable pub within_words : List ℕ → ℕ → List ℕ
 within_words ws t =
-    pick (both (ltb 0 (cycle_of (od_of ws))) (ltb t (limit_at ws))) (deadline_written ws (Some (limit_at ws))) (rescheduled_words ws t)
+    pick (both (ltb 0 (cycle_of (od_of ws))) (ltb t (limit_at ws))) (deadline_written ws (At (limit_at ws))) (rescheduled_words ws t)
 
 unfoldable pub loss_words : List ℕ → List ℕ
 loss_words ws = set ws at.dll (cs_state_number (soc_timeout (unlent ws)).state)
@@ -77,7 +77,7 @@ check_words ws q m t =
     (pick (ltb (limit_of (od_of ws)) (elapsed (unlent ws) t)) (lost_words ws q m t) (within_words ws t)) ws
 
 unfoldable pub basic_words : List ℕ → ℕ → List ℕ
-basic_words ws t = pick (ltb 0 (word ws at.timeout)) (deadline_written ws (Some (t + word ws at.timeout))) ws
+basic_words ws t = pick (ltb 0 (word ws at.timeout)) (deadline_written ws (At (t + word ws at.timeout))) ws
 
 unfoldable pub timeout_words : List ℕ → List ℕ
 timeout_words ws = pick (ltb 0 (word ws at.timeout)) (event_words ws Timeout) ws
@@ -86,9 +86,9 @@ unfoldable pub passed_words : List ℕ → List ℕ → List ℕ → ℕ → Lis
 passed_words ws q m t = pick (at_not_active (unlent ws)) (timeout_words ws) (check_words ws q m t)
 
 -- by the deadline that stands
-unfoldable pub deadline_words : List ℕ → List ℕ → List ℕ → ℕ → Option ℕ → List ℕ
-deadline_words ws q m t None = pick (at_not_active (unlent ws)) (basic_words ws t) ws
-deadline_words ws q m t (Some d) = pick (leb d t) (passed_words (set ws at.due 0) q m t) ws
+unfoldable pub deadline_words : List ℕ → List ℕ → List ℕ → ℕ → Deadline → List ℕ
+deadline_words ws q m t Nothing = pick (at_not_active (unlent ws)) (basic_words ws t) ws
+deadline_words ws q m t (At d) = pick (leb d t) (passed_words (set ws at.due 0) q m t) ws
 
 -- the tick: the heartbeats of the nodes, where they are checked, and what follows where no crossing ended it
 abbrev pub rest_words : List ℕ → List ℕ → List ℕ → ℕ → List ℕ

@@ -14,7 +14,7 @@ use head::parts::{
     check_of, check_off, deadline_at, dll_of, od_of, set_deadline, set_dll, soc_of, state_at,
     timeout_of,
 };
-use head::state::Head;
+use head::state::{Deadline, Head};
 use heartbeats::dealt::{Dealt, timeout_in_tick};
 use node::range::is_loss;
 use node::timing::{cycle, last_soc, limit, time_since, tolerance_us};
@@ -23,7 +23,7 @@ use types::frame::error::types::DllErrors;
 use types::nmt::states::NmtState;
 use watched::time::Time;
 
-fn with_deadline(head: &mut Head, deadline: Option<u64>)
+fn with_deadline(head: &mut Head, deadline: Deadline)
     ensures { Turns head.old (λ p. with_deadline p deadline) head.new (deadline_written head.old deadline) }
 {
     set_deadline(head, deadline);
@@ -46,7 +46,7 @@ fn reschedule(head: &mut Head, time: Time)
     ensures { Turns head.old (λ p. rescheduled p time.us) head.new (rescheduled_words head.old time.us) }
 {
     if 0 < cycle(od_of(head)) {
-        with_deadline(head, Some(next_deadline(head, time)));
+        with_deadline(head, Deadline::At(next_deadline(head, time)));
         return;
     }
     check_off(head);
@@ -59,7 +59,7 @@ fn within_limit(head: &mut Head, time: Time)
     let od = od_of(head);
     let at = last_soc(soc_of(head)) + limit(od);
     if 0 < cycle(od) && time.us < at {
-        with_deadline(head, Some(at));
+        with_deadline(head, Deadline::At(at));
         return;
     }
     reschedule(head, time);
@@ -110,7 +110,7 @@ fn set_basic(head: &mut Head, time: Time)
 {
     let timeout = u64::from(timeout_of(head));
     if 0 < timeout {
-        with_deadline(head, Some(time.us + timeout));
+        with_deadline(head, Deadline::At(time.us + timeout));
     }
 }
 
@@ -131,7 +131,7 @@ pub fn by_deadline(
 ) -> Dealt
     ensures { TicksIn head.old queue.old history.old (by_deadline (plain (head_of head.old) queue.old history.old) time.us (soc_of head.old).next_tick_us) result head.new queue.new history.new (deadline_words head.old queue.old history.old time.us (soc_of head.old).next_tick_us) }
 {
-    let Some(at) = deadline_at(head) else {
+    let Deadline::At(at) = deadline_at(head) else {
         if at_not_active(head) {
             set_basic(head, time);
         }
@@ -140,7 +140,7 @@ pub fn by_deadline(
     if time.us < at {
         return Dealt::GOES_ON;
     }
-    with_deadline(head, None);
+    with_deadline(head, Deadline::Nothing);
     if at_not_active(head) {
         time_out(head);
         return Dealt::GOES_ON;

@@ -73,15 +73,12 @@ pub(crate) fn deal_all(
     requires { all_of is_quiet (reported errors) ≡ true }
     ensures { TicksIn head.old queue.old history.old (deal_all time (plain (head_of head.old) queue.old history.old) (reported errors)) result head.new queue.new history.new (deal_all_words head.old (reported errors)) }
 {
-    match errors {
-        DllErrors::None => Dealt::GOES_ON,
-        DllErrors::One(error) => deal(head, queue, history, error, time),
-        DllErrors::Two(first, second) => {
-            let dealt = deal(head, queue, history, first, time);
-            if dealt.ended {
-                return dealt;
-            }
-            deal(head, queue, history, second, time)
+    let mut dealt = Dealt::GOES_ON;
+    'walk: for error in errors {
+        dealt = deal(head, queue, history, error, time);
+        if dealt.ended {
+            break 'walk;
         }
     }
+    dealt
 }

@@ -83,7 +83,8 @@ fn tick_roused(
     Ok(dealt.logged)
 }
 
-// A tick at which no node asks for anything: the nodes stay as they are, in whatever form, and `late` is the soonest moment at which one would be.
+// A tick at which no node asks for anything: the nodes stay as they are, in whatever form, and `late` is the soonest moment at which one would be late.
+// The deadline follows at any time that passes number 5, and `late` is shown from then on, whatever moment it is.
 pub fn tick_still(
     head: &mut Head,
     queue: &mut [u8; 640],

@@ -23,8 +23,8 @@ use Rattle.counters.specs.declared.counters.CounterKind.{CounterKind}
 use Rattle.counters.specs.declared.counters.CnErrorCounters.{CnErrorCounters}
 use Rattle.entries.specs.Entry.{crossing_entry}
 use Rattle.entries.specs.declared.status_response.ErrorEntry.{ErrorEntry}
-use Rattle.std.specs.declared.option.Option.{Option}
-use Rattle.std.specs.declared.option.Option.TheVariants.{Some, None}
+use Rattle.head.specs.declared.state.Deadline.{Deadline}
+use Rattle.head.specs.declared.state.Deadline.TheVariants.{At, Nothing}
 use Rattle.watched.specs.declared.nodes.WatchedNode.{WatchedNode}
 use Rattle.node.specs.Plain.{Plain, EventMade, made, no_event}
 use Rattle.node.specs.Steps.{with_dll, with_errors, with_soc, cycle_of, limit_of}
@@ -295,13 +295,13 @@ soc_quiet p = by (is_cyclic p.nmt.current_state) p.dll
 
 pub rescheduled_walk : (p : Plain) (t : ℕ) → WalkOf p (goes_on (rescheduled p t))
 rescheduled_walk p t =
-    picked (λ (g : Plain). WalkOf p (goes_on g)) (ltb 0 (cycle_of p.od)) (idle (with_deadline p (Some (next_deadline p t))))
+    picked (λ (g : Plain). WalkOf p (goes_on g)) (ltb 0 (cycle_of p.od)) (idle (with_deadline p (At (next_deadline p t))))
     (idle (with_soc p (check_off p.soc)))
 
 within_walk : (p : Plain) (t : ℕ) → WalkOf p (goes_on (within_limit p t))
 within_walk p t =
     picked (λ (g : Plain). WalkOf p (goes_on g)) (both (ltb 0 (cycle_of p.od)) (ltb t (last_soc p + limit_of p.od)))
-    (idle (with_deadline p (Some (last_soc p + limit_of p.od)))) (rescheduled_walk p t)
+    (idle (with_deadline p (At (last_soc p + limit_of p.od)))) (rescheduled_walk p t)
 
 lost_walk : (p : Plain) (t : ℕ) → WalkOf p (lost p t)
 lost_walk p t =
@@ -330,12 +330,12 @@ times_out_part p = by (ltb 0 (basic_timeout p))
 pub passed_part : (p : Plain) (t : ℕ) → PartOf p (used_up p t)
 passed_part p t = picked (PartOf p) (at_not_active p) (times_out_part p) (soc_check_walk p t).part
 
-pub by_deadline_part : (p : Plain) (t : ℕ) (d : Option ℕ) → PartOf p (by_deadline p t d)
-by_deadline_part p t None =
+pub by_deadline_part : (p : Plain) (t : ℕ) (d : Deadline) → PartOf p (by_deadline p t d)
+by_deadline_part p t Nothing =
     picked (λ (g : Plain). PartOf p (goes_on g)) (at_not_active p)
-    (picked (λ (g : Plain). PartOf p (goes_on g)) (ltb 0 (basic_timeout p)) (idle (with_deadline p (Some (t + basic_timeout p)))).part (idle p).part)
+    (picked (λ (g : Plain). PartOf p (goes_on g)) (ltb 0 (basic_timeout p)) (idle (with_deadline p (At (t + basic_timeout p)))).part (idle p).part)
     (idle p).part
-by_deadline_part p t (Some d) = picked (PartOf p) (leb d t) (passed_part (with_deadline p None) t) (idle p).part
+by_deadline_part p t (At d) = picked (PartOf p) (leb d t) (passed_part (with_deadline p Nothing) t) (idle p).part
 
 -- the tick
 pub tick_part : (p : Plain) (t : ℕ) (ws : List WatchedNode) → PartOf p (tick_taken p t ws)

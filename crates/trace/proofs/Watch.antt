@@ -7,6 +7,7 @@ use native.Mathlib.Omega.{arith}
 use Rattle.types.specs.declared.frame.error.types.DllError.{DllError}
 use Rattle.std.specs.declared.option.Option.{Option}
 use Rattle.std.specs.declared.option.Option.TheVariants.{Some, None}
+use Rattle.head.specs.declared.state.Deadline.TheVariants.{At}
 use Rattle.head.specs.declared.state.SocWatch.{SocWatch}
 use Rattle.head.specs.Words.{head_of}
 use Rattle.watched.specs.Watched.{Run, watching}
@@ -103,6 +104,6 @@ pub soon_of_the_head :
     Sleeps p t d s →
     d ≤ t →
     (e : ℕ) →
-    s.next_tick_us ≡ Some e →
+    s.next_tick_us ≡ At e →
     e ≤ max t p.soc.last_soc_reception_time_us + (cycle_of p.od + tolerance_of p.od / 1000)
 soon_of_the_head s f e g = let z = s.soon f e g in omega arith

@@ -1,5 +1,6 @@
-// Every pair of the NMT and of the DLL state machine, one form a line. The stored output was printed by the Rust (compare/), so
-// a run shows that both agree.
+//! Prints what every event does in every state of the NMT machine and of the DLL machine, one form
+//! a line. The stored output was printed by the original Rust (compare/), so a run shows that both
+//! agree.
 #![tactic(auto)]
 
 ghost use Rattle.std.specs.Prelude.{◌≡◌};
@@ -29,6 +30,7 @@ fn say_ranges(out: &mut Output, ranges: &[IndexRange]) {
     }
 }
 
+// The states entered and the ranges to restore.
 fn say_reset(out: &mut Output, reset: ResetSequence) {
     write!(out, "(entered");
     say_states(out, reset.entered());
@@ -63,6 +65,7 @@ fn print_nmt_event(out: &mut Output, machine: CnNmtStateMachine, event: NmtEvent
     writeln!(out, ")");
 }
 
+// A machine at a position; its node, flags and timeout are any.
 fn machine_at(position: Position) -> CnNmtStateMachine
     ensures { result ≡ machine_of position }
 {

@@ -126,7 +126,7 @@ pub unnamed_refused : (c : ℕ) → ((k : DllErrorKind) → Names c k → ⊥) �
 unfolding kind_behind
 unnamed_refused c h = else_refused (with_code c error_kinds) (λ k e. h k (answer_names c k e))
 
--- "The desk sees 0x8245 and wants the kind." "The code 0x8000 belongs to five kinds and names none." (document 02, No. 5)
+-- 0x8245 names the kind LossOfSoc; 0x8000 belongs to five kinds and names none
 pub seen : kind_behind 0x8245 ≡ kind_number (kind_place LossOfSoc)
 unfolding kind_behind
 seen = refl

@@ -2,6 +2,7 @@ pub mod Cases
 pub mod Codes
 pub mod ErrorCases
 pub mod ErrorKinds
+pub mod Listing
 pub mod Reading
 pub mod Refused
 pub mod Reported

@@ -14,8 +14,9 @@ from_micros t = net_time (t / 1000000 % 4294967296) (t % 1000000 * 1000)
 abbrev pub as_nanos : NetTime → ℕ
 as_nanos t = t.seconds * 1000000000 + t.nanoseconds
 
--- the time later by d nanoseconds, its seconds modulo 2^32: whole seconds of d are added to the seconds, the rest to the
--- nanoseconds, and one second is carried where these come to a second or more
+-- the time later by d nanoseconds, its seconds modulo 2^32: whole seconds of d are added to the
+-- seconds, the rest to the nanoseconds, and one second is carried where these come to a second or
+-- more
 unfoldable pub add_nanos : NetTime → ℕ → NetTime
 add_nanos t d =
     pick (ltb (t.nanoseconds + d % 1000000000) 1000000000)

@@ -50,7 +50,8 @@ error_kind_of e = kind_place (kind_of e)
 abbrev pub error_code : DllError → ℕ
 error_code e = kind_code (kind_of e)
 
--- what NMT is asked for after an error, as a number: nothing, to reset the communication, to reset a node
+-- what NMT is asked for after an error, as a number: nothing, to reset the communication, to reset
+-- a node
 abbrev pub action_number : NmtAction → ℕ
 action_number action.None = 0
 action_number action.ResetCommunication = 1

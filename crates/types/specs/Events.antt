@@ -1,4 +1,5 @@
--- The NMT commands and events, their numbers, the reading of a number, and the event that a command is.
+-- The NMT commands and events, their numbers, the reading of a number, and the event that a command
+-- is.
 -- Assumes nothing.
 use Rattle.std.specs.Prelude.{ℕ, Bool, List, [], ◌∷◌, eqb}
 use Rattle.types.specs.Pick.{read_by}

@@ -1,4 +1,5 @@
--- The kinds of frames: their message types' numbers (DS 301, Appendix 3.1), the reading of a number, and the events that a received frame is.
+-- The kinds of frames: their message types' numbers (DS 301, Appendix 3.1), the reading of a
+-- number, and the events that a received frame is.
 -- Assumes nothing.
 use Rattle.std.specs.Prelude.{ℕ, List, [], ◌∷◌}
 use Rattle.types.specs.Pick.{read_by}

@@ -1,4 +1,5 @@
--- The kinds of DLL errors, without what an error carries: their places, their codes (DS 301, Appendix 3.9), and the kind behind a code.
+-- The kinds of DLL errors, without what an error carries: their places, their codes (DS 301,
+-- Appendix 3.9), and the kind behind a code.
 -- Assumes nothing.
 use Rattle.std.specs.Prelude.{ℕ, ◌≡◌, Bool, true, false, List, [], ◌∷◌, eqb, get_or}
 use Rattle.types.specs.Pick.{read_by}
@@ -35,8 +36,9 @@ kind_place PdoMapVersion = 19
 kind_place PdoPayloadShort = 20
 kind_place HeartbeatTimeout = 21
 
--- the code that an entry of such an error has: that of its threshold, where it has one. Five kinds share 0x8000, as in the Rust; where Wireshark's dissector names
--- another code, or none, docs/DIFFERENCES.md has a row
+-- the code that an entry of such an error has: that of its threshold, where it has one. Five kinds
+-- share 0x8000, as in the Rust; where Wireshark's dissector names another code, or none,
+-- docs/DIFFERENCES.md has a row
 abbrev pub kind_code : DllErrorKind → ℕ
 kind_code LossOfLink = 0x8165
 kind_code BadPhysicalMode = 0x8161
@@ -103,12 +105,13 @@ abbrev pub with_code : ℕ → List DllErrorKind → List DllErrorKind
 with_code c [] = []
 with_code c (k ∷ ks) = put_if (eqb (kind_code k) c) k (with_code c ks)
 
--- what a code answers, in the papers' numbers: the place of a kind, or the number of a refusal
+-- what a code answers: the place of a kind, or the number of a refusal
 pub data CodeAnswer : Type 0 where
   kind_number : ℕ → CodeAnswer
   refused_by : ℕ → CodeAnswer
 
--- "From a code comes the one kind that has it." "Turned away: 13, a code that names no single kind." (document 02, No. 5)
+-- of the kinds that have a code: the one kind, or 13, NoSingleKind, where there is none or more
+-- than one
 abbrev pub single : List DllErrorKind → CodeAnswer
 single [] = refused_by 13
 single (k ∷ []) = kind_number (kind_place k)

@@ -1,5 +1,7 @@
 pub mod Pick
+pub mod Listing
 pub mod Refusals
+pub mod Names
 pub mod Types
 pub mod Common
 pub mod Flags

@@ -1,4 +1,5 @@
--- A choice by a test, tests of a list, and the reading of a number by a list of the things that have numbers.
+-- A choice by a test, tests of a list, and the reading of a number by a list of the things that
+-- have numbers.
 -- Assumes nothing.
 use Rattle.std.specs.Prelude.{ℕ, List, [], ◌∷◌, Bool, true, false, eqb}
 
@@ -13,7 +14,8 @@ both a b = pick a b false
 abbrev pub either : Bool → Bool → Bool
 either a b = pick a true b
 
--- every item of the list passes the test, some item does: by `both` and `either`, the words of the tests here, which std's are not by computation
+-- every item of the list passes the test, some item does: by `both` and `either`, the words of the
+-- tests here, which std's are not by computation
 abbrev pub all_of : {A : Type 0} → (A → Bool) → List A → Bool
 all_of p [] = true
 all_of p (x ∷ xs) = both (p x) (all_of p xs)

@@ -23,6 +23,21 @@ state_number NmtOperational = 0xFD
 state_number NmtCsStopped = 0x4D
 state_number NmtBasicEthernet = 0x1E
 
+-- a state's place in the enum, from 0
+abbrev pub state_place : NmtState → ℕ
+state_place NmtGsOff = 0
+state_place NmtGsInitialising = 1
+state_place NmtGsResetApplication = 2
+state_place NmtGsResetCommunication = 3
+state_place NmtGsResetConfiguration = 4
+state_place NmtNotActive = 5
+state_place NmtPreOperational1 = 6
+state_place NmtPreOperational2 = 7
+state_place NmtReadyToOperate = 8
+state_place NmtOperational = 9
+state_place NmtCsStopped = 10
+state_place NmtBasicEthernet = 11
+
 -- all states, in the order of the enum
 abbrev pub states : List NmtState
 states =

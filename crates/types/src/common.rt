@@ -1,7 +1,8 @@
-// NetTime, a time in seconds and nanoseconds (EPSG DS 301, Section 6.1.6.7).
+//! `NetTime`, a time in seconds and nanoseconds (EPSG DS 301, Section 6.1.6.7).
 ghost use Rattle.std.specs.Prelude.{◌≡◌};
 ghost use Rattle.types.specs.Common.{net_time, from_micros, as_nanos, add_nanos, sub_net_time};
 
+/// A time: seconds, and nanoseconds, which may be any 32 bits.
 #[derive(Clone, Copy, Debug, PartialEq, Eq)]
 pub struct NetTime {
     pub seconds: u32,
@@ -9,6 +10,7 @@ pub struct NetTime {
 }
 
 impl NetTime {
+    /// The time of these two numbers, as they are.
     pub fn new(seconds: u32, nanoseconds: u32) -> Self
         ensures { result ≡ net_time seconds nanoseconds }
     {
@@ -18,7 +20,7 @@ impl NetTime {
         }
     }
 
-    // From microseconds; the seconds are taken modulo 2^32.
+    /// A time in µs; the seconds are taken modulo 2^32.
     pub fn from_micros(micros: u64) -> Self
         ensures { result ≡ from_micros micros }
     {
@@ -28,15 +30,15 @@ impl NetTime {
         }
     }
 
-    // The total nanoseconds, which always fit.
+    /// The total nanoseconds, which always fit.
     pub fn as_nanos(self) -> u64
         ensures { result ≡ as_nanos self }
     {
         (self.seconds as u64) * 1_000_000_000 + (self.nanoseconds as u64)
     }
 
-    // The time later by a duration. The sum of the nanoseconds is made in 64 bits: with nanoseconds far above a
-    // second it would overflow 32.
+    /// The time later by so many nanoseconds, the seconds modulo 2^32. The sum of the nanoseconds
+    /// is made in 64 bits: with nanoseconds far above a second it would overflow 32.
     #[tactic(auto, unfolding(crate::specs::Common::add_nanos))]
     pub fn add_nanos(self, nanos: u64) -> Self
         ensures { result ≡ add_nanos self nanos }
@@ -56,7 +58,7 @@ impl NetTime {
         }
     }
 
-    // self - other in nanoseconds, which always fits.
+    /// `self - other` in nanoseconds, which always fits.
     pub fn sub_net_time(self, other: NetTime) -> i64
         ensures { result ≡ sub_net_time self other }
     {

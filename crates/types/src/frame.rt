@@ -1,4 +1,5 @@
-// The data link layer (DLL): what drives its cycle, its errors, and the events that a received frame is, which its message type alone decides.
+//! The data link layer (DLL): what drives its cycle, its errors, and the events that a received
+//! frame is, which its message type alone decides.
 ghost use Rattle.std.specs.Prelude.{◌≡◌};
 ghost use Rattle.types.specs.Frames.{frame_cs_event, frame_nmt_event};
 
@@ -10,7 +11,7 @@ use crate::nmt::events::NmtEvent;
 use crate::types::MessageType;
 
 impl MessageType {
-    // The DLL event for a controlled node.
+    /// The DLL event that a frame of this type is for a controlled node.
     pub fn dll_cn_event(self) -> DllCsEvent
         ensures { result ≡ frame_cs_event self }
     {
@@ -23,14 +24,15 @@ impl MessageType {
         }
     }
 
-    // The NMT event, if any.
+    /// The NMT event that such a frame is, if any: an SoC and an SoA are one.
     pub fn nmt_event(self) -> Option<NmtEvent>
         ensures { result ≡ frame_nmt_event self }
     {
         match self {
             MessageType::SoC => Some(NmtEvent::SocReceived),
             MessageType::SoA => Some(NmtEvent::SoAReceived),
-            // PReq and PRes are part of the cycle; the command that an ASnd may carry is in its payload.
+            // PReq and PRes are part of the cycle; the command that an ASnd may carry is in its
+            // payload.
             _ => None,
         }
     }

@@ -1,4 +1,4 @@
-// Network management (NMT): flags, states, events and commands.
+//! Network management (NMT): flags, states, events and commands.
 pub mod events;
 pub mod flags;
 pub mod states;

@@ -1,22 +1,33 @@
-// Node numbers and message types (EPSG DS 301, Appendix 3).
+//! Node numbers and message types (EPSG DS 301, Appendix 3).
 ghost use Rattle.std.specs.Prelude.{◌≡◌};
 ghost use Rattle.types.specs.Frames.{message_number, read_message};
+ghost use Rattle.types.specs.Types.{managing_node, diagnostic_node, router_node, broadcast_node};
 ghost use Rattle.types.specs.Types.{read_node};
 
 use crate::refusals::Refusal;
 
-// POWERLINK default Node ID of the Managing Node.
+/// The managing node's number.
 pub const C_ADR_MN_DEF_NODE_ID: u8 = 240;
-// POWERLINK Node ID for diagnostic device.
+/// The diagnostic device's number.
 pub const C_ADR_DIAG_DEF_NODE_ID: u8 = 253;
-// POWERLINK Node ID for router.
+/// The router's number.
 pub const C_ADR_RT1_DEF_NODE_ID: u8 = 254;
-// POWERLINK Node ID for broadcast messages.
+/// The number that means every node.
 pub const C_ADR_BROADCAST_NODE_ID: u8 = 255;
 
+/// Law of the named node numbers: each is that of DS 301.
+pub fn named_nodes()
+    ensures managing { C_ADR_MN_DEF_NODE_ID ≡ managing_node }
+    ensures diagnostic { C_ADR_DIAG_DEF_NODE_ID ≡ diagnostic_node }
+    ensures router { C_ADR_RT1_DEF_NODE_ID ≡ router_node }
+    ensures broadcast { C_ADR_BROADCAST_NODE_ID ≡ broadcast_node }
+{}
+
+/// A node's number.
 #[derive(Clone, Copy, Debug, PartialEq, Eq)]
 pub struct NodeId(pub u8);
 
+/// The node of a number: 1 to 240, 253, 254 or 255; refused by NodeNumber for any other.
 #[tactic(auto, unfolding(crate::specs::Types::read_node))]
 impl TryFrom<u8> for NodeId {
     type Error = Refusal;
@@ -34,7 +45,7 @@ impl TryFrom<u8> for NodeId {
     }
 }
 
-// The kinds of frames, by their message type IDs (Appendix 3.1).
+/// The kinds of frames, by their message type IDs (Appendix 3.1).
 #[derive(Clone, Copy, Debug, PartialEq, Eq)]
 pub enum MessageType {
     SoC = 0x01,
@@ -45,6 +56,7 @@ pub enum MessageType {
 }
 
 impl MessageType {
+    /// DS 301's number of the message type.
     pub fn as_u8(self) -> u8
         ensures { result ≡ message_number self }
     {
@@ -52,10 +64,11 @@ impl MessageType {
     }
 }
 
-// No message type has the number.
+/// No message type has the number.
 #[derive(Clone, Copy, Debug, PartialEq, Eq)]
 pub struct UnknownMessageType;
 
+/// The message type that has the number.
 #[tactic(auto, unfolding(crate::specs::Frames::read_message))]
 impl TryFrom<u8> for MessageType {
     type Error = UnknownMessageType;

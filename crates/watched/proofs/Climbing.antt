@@ -1,4 +1,5 @@
--- Number 3 in two parts: nodes climb, which is tried as they are walked, and each has a node's number, which is tried from the last one back.
+-- Well formed in two parts: nodes climb, which is tried as they are walked, and each has a node's
+-- number, which is tried from the last one back.
 -- Assumes nothing.
 use Prim.Native.Nat.{ℕ, zero, suc, ◌+◌, ◌-◌, ◌<◌, ◌≤◌}
 use mathlib.Core.Path.{◌≡◌, refl, sym, ap, ap₂, ◌∙◌}
@@ -36,7 +37,8 @@ rising_parts n (w ∷ ws) =
     ap (both (both (ltb n w.node) (fits w))) (rising_parts w.node ws)
     ∙ parts (ltb n w.node) (is_node w.node) (timed w) (climbing w.node ws) (all_of numbered ws)
 
--- of nodes that climb, each is above the number before them, and those before one of at most 240 have a number
+-- of nodes that climb, each is above the number before them, and those before one of at most 240
+-- have a number
 pub climb_head : (n : ℕ) (w : WatchedNode) (ws : List WatchedNode) → climbing n (w ∷ ws) ≡ true → n < w.node
 climb_head n w ws c = ltb-true n w.node (both_first (ltb n w.node) (timed w) (both_first (both (ltb n w.node) (timed w)) (climbing w.node ws) c))
 
@@ -79,7 +81,8 @@ module _ (ns : List ℕ) (k : ℕ) (below : k ≤ 32) where
   left_long : (p : ℕ) → length (left p) ≡ k - p
   left_long p = length-drop p (take k (nodes_of ns)) ∙ ap (λ (l : ℕ). l - p) (length-take-le k (nodes_of ns) (rw (places ns) below))
 
-  -- the numbers of the nodes from the place p on, tried from the last one back: those before the place e are left
+  -- the numbers of the nodes from the place p on, tried from the last one back: those before the
+  -- place e are left
   module _ (p : ℕ) (b : Bool) (e : ℕ) (inv : b ≡ all_of numbered (take (e - p) (left p))) (more : p < e) (inside : e ≤ k) where
     abbrev j : ℕ
     j = e - 1 - p
@@ -140,7 +143,7 @@ module _ (ns : List ℕ) (k : ℕ) (below : k ≤ 32) where
         ∙ both_assoc y (not_before t w) (all_of (not_before t) (left (i + 1)))
         ∙ ap (λ (z : Bool). both z (all_of (not_before t) (left (i + 1)))) (sym f)
 
--- number 3 of the nodes behind one, by the two parts
+-- whether the nodes behind one are well formed, by the two parts
 module _ (n : ℕ) (ws : List WatchedNode) where
   rising_by : (c d : Bool) → climbing n ws ≡ c → all_of numbered ws ≡ d → rising n ws ≡ both c d
   rising_by c d e f = rising_parts n ws ∙ ap₂ both e f

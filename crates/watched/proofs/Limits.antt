@@ -1,4 +1,4 @@
--- What number 3 says of a single node.
+-- What well formed says of a single node.
 -- Assumes nothing.
 use Prim.Native.Nat.{ℕ, zero, suc, ◌*◌, ◌≤◌, ◌<◌}
 use mathlib.Core.Path.{◌≡◌, sym, ap, ◌∙◌}
@@ -24,7 +24,7 @@ all_at p [] i d h a = absurd (omega arith)
 all_at p (w ∷ ws) zero d h a = both_first (p w) (all_of p ws) a
 all_at p (w ∷ ws) (suc i) d h a = all_at p ws i d (omega arith) (both_second (p w) (all_of p ws) a)
 
--- the number of a node that passed number 3 is a byte
+-- the number of a well formed run's node is a byte
 pub fits_small : (w : WatchedNode) → fits w ≡ true → w.node ≤ 255
 fits_small w f =
     ⊎_elim

@@ -1,4 +1,5 @@
--- The watched nodes as an array and as a list: the test of number 3 node by node, the place of a node, and the times set.
+-- The watched nodes as an array and as a list: whether they are well formed, node by node, the
+-- place of a node, and the times set.
 -- Assumes nothing.
 use Prim.Native.Nat.{ℕ, zero, suc, ◌+◌, ◌≤◌, ◌<◌}
 use mathlib.Core.Path.{◌≡◌, refl, sym, ap, ap₂, ◌∙◌}
@@ -27,7 +28,7 @@ watched_take ns zero h = refl
 watched_take [] (suc k) h = absurd (omega arith)
 watched_take (w ∷ ws) (suc k) h = ap (λ (l : List WatchedNode). w ∷ l) (watched_take ws k (omega arith))
 
--- number 3 is tried node by node
+-- well formed is tried node by node
 abbrev above : ℕ → List WatchedNode → Bool
 above n [] = true
 above n (w ∷ ws) = both (ltb n w.node) (above w.node ws)
@@ -211,7 +212,7 @@ module _ (ns : List WatchedNode) (k : ℕ) (long : length ns ≡ 32) (few : k �
           ∙ sym (set-append_left (take k ns) (drop k ns) p (heard_now t (get_or ns p d)) (rw taken_long h))
           ∙ ap (λ (l : List WatchedNode). set l p (heard_now t (get_or ns p d))) (take-append-drop k ns))
 
--- nodes that pass number 3 are at most 32
+-- well formed nodes are at most 32
 pub few : (ns : List WatchedNode) (k : ℕ) (b : Bool) → b ≡ well_formed (watched_of ns k) → b ≡ true → k ≤ 32
 unfolding well_formed
 few ns k b e t = by (leb k 32) refl (sym e ∙ t)

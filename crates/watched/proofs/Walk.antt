@@ -1,5 +1,5 @@
--- The walk over nodes whose numbers climb (`climb`): what is asked of all times together is asked of each, and the soonest of what is three before the
--- moments is three before the soonest moment.
+-- The walk over nodes whose numbers climb (`climb`): what is asked of all times together is asked
+-- of each, and the soonest of what is three before the moments is three before the soonest moment.
 -- Assumes nothing.
 use Prim.Native.Nat.{ℕ, zero, suc, ◌+◌, ◌*◌, ◌-◌, ◌^◌, ◌<◌, ◌≤◌, min}
 use mathlib.Core.Path.{◌≡◌, refl, sym, ap, ap₂, ◌∙◌}
@@ -281,7 +281,8 @@ module _ (ns : List ℕ) (k : ℕ) (below : k ≤ 32) (m p n : ℕ) (r : Climbed
       ∙ ap₂ soonest y ((left_by_lem h).1 t)
       ∙ sym g
 
--- a walk that seeks the number 0, which no node that climbs has, ends before its end where the nodes don't climb
+-- a walk that seeks the number 0, which no node that climbs has, ends before its end where the
+-- nodes don't climb
 module _ (ns : List ℕ) (k : ℕ) (below : k ≤ 32) (p n : ℕ) (r : Climbed) (e : r ≡ climb_of 0 (climbed p n 0 never) (left ns k below p)) where
   not_all : r.place < k → climbing r.last (left ns k below r.place) ≡ false
   not_all inside = by (climbing r.last (left ns k below r.place)) refl
@@ -328,7 +329,8 @@ module _ (ns : List ℕ) (k : ℕ) (below : k ≤ 32) (p n s t : ℕ) (inside : 
       z ≡ true → (x : ℕ) → x ≡ sooner_by s (heard_now t w) → climbed_of w.node x (left ns k below (p + 1)) ≡ heard_climbed n s t (left ns k below p)
   first_next h x g = ap (λ (x : ℕ). climbed_of w.node x (left ns k below (p + 1))) g ∙ sym (first_turn true h)
 
--- the node sought among all: number 3 by climbing and by the numbers, its place, and the soonest moment with it heard at t
+-- the node sought among all: well formed by climbing and by the numbers, its place, and the soonest
+-- moment with it heard at t
 module _ (ns : List ℕ) (k : ℕ) (below : k ≤ 32) (m t : ℕ) (r : Climbed) (e : r ≡ climb_of m (climbed 0 0 0 never) (left ns k below 0)) where
   abbrev vs : List WatchedNode
   vs = watched_of (nodes_of ns) k

@@ -1,4 +1,5 @@
--- The watched nodes in words: what is read at a place, and what a time written makes of the nodes. All else is by the laws of lists of nodes (Lists).
+-- The watched nodes in words: what is read at a place, and what a time written makes of the nodes.
+-- All else is by the laws of lists of nodes (Lists).
 -- Assumes nothing.
 use Prim.Native.Nat.{ℕ, zero, suc, ◌+◌, ◌*◌, ◌-◌, ◌<◌, ◌≤◌, min}
 use mathlib.Core.Path.{◌≡◌, refl, sym, ap, ap₂, ◌∙◌}
@@ -82,7 +83,7 @@ module _ (b r q : Bool) (s : Option ℕ) (a : Option Seen) (e : a ≡ pick b (So
       by true x = (refl, cc)
       by false x = (cc, cc)
 
--- the times of a node that passed number 3
+-- the times of a well formed run's node
 pub times_fit : (w : WatchedNode) → fits w ≡ true → (w.timeout ≤ latest) × (w.last_heard ≤ latest)
 times_fit w f =
     let b : both (in_time w.timeout) (in_time w.last_heard) ≡ true = both_second (is_node w.node) _ f in
@@ -127,7 +128,7 @@ module _ (t : ℕ) (w : WatchedNode) where
           some true g = g
           some false g = refl
 
--- the number of a run that passes number 3 is within its places
+-- the number of a well formed run is within its places
 pub lent_inside : (r : Run) → well_lent r ≡ true → r.number ≤ length r.places
 lent_inside r a =
     let l : length r.places ≡ 32 = eqb-true (length r.places) 32 (both_first (eqb (length r.places) 32) _ a) in
@@ -143,7 +144,7 @@ module _ (ws : List ℕ) where
   unfolding nodes_of
   node_at_lem i h = listed_at (node_at ws) 32 i no_node h
 
-  -- of words, a run has 32 places, and number 3 is that of the nodes
+  -- of words, a run has 32 places, and is well formed where its nodes are
   pub lent_words : (k : ℕ) → well_lent (run (nodes_of ws) k) ≡ well_formed (watched_of (nodes_of ws) k)
   lent_words k = ap (λ (b : Bool). both b (well_formed (watched_of (nodes_of ws) k))) (eq-eqb (length (nodes_of ws)) 32 places)
 
@@ -281,6 +282,6 @@ module _ (ws : List ℕ) where
       pub look_rests : well_formed vs ≡ true → all_of (rests t) vs ≡ true → (s : ℕ) → soonest never vs ≡ s → Some (seen.Resting (moment_of s)) ≡ seen_of t vs
       look_rests h e s f = sym (λ i. seen_by (h i) (e i) (all_of (not_before t) vs) (f i))
 
-    -- nodes that pass number 3 are at most 32
+    -- well formed nodes are at most 32
     pub few : well_formed vs ≡ true → k ≤ 32
     few h = Lists.few (nodes_of ws) k true (sym h) refl

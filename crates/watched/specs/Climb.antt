@@ -1,4 +1,5 @@
--- What the walk over the nodes carries (`climb`): for the contracts of private functions; no public one cites it.
+-- What the walk over the nodes carries (`climb`), for the contracts of private functions; no public
+-- contract uses it.
 -- Assumes nothing.
 use Rattle.std.specs.Prelude.{ℕ, ◌+◌, ◌-◌, min, List, [], ◌∷◌, eqb, leb, take, drop}
 use Rattle.std.specs.Int.Bits.{bit_or}
@@ -14,9 +15,11 @@ use Rattle.watched.specs.Nodes.{nodes_of, climbing, never, soonest}
 abbrev pub nodes_from : ℕ → ℕ → List ℕ → List WatchedNode
 nodes_from p k ns = drop p (take k (nodes_of ns))
 
+-- one less, and `never` for 0
 abbrev pub one_less : ℕ → ℕ
 one_less x = pick (eqb x 0) never (x - 1)
 
+-- a sum that stops at `never`
 abbrev pub sum_of : ℕ → ℕ → ℕ
 sum_of a b = min never (a + b)
 
@@ -24,25 +27,30 @@ sum_of a b = min never (a + b)
 abbrev pub three_before : WatchedNode → ℕ
 three_before w = sum_of (one_less w.timeout) (one_less w.last_heard)
 
+-- what the walk knows: its place, the last number before it, the bits of all times, the soonest
+-- moment
 abbrev pub climbed : ℕ → ℕ → ℕ → ℕ → Climbed
 climbed p n t s = record { place = p; last = n; times = t; soonest = s }
 
--- with one more node
+-- what it knows behind one more node
 abbrev pub over : Climbed → WatchedNode → Climbed
 over c w = climbed (c.place + 1) w.node (bit_or (bit_or c.times w.timeout) w.last_heard) (min c.soonest (three_before w))
 
--- over nodes whose numbers climb, up to the number m
+-- the walk over nodes as long as their numbers climb, up to the number m
 abbrev pub climb_of : ℕ → Climbed → List WatchedNode → Climbed
 climb_of m c [] = c
 climb_of m c (w ∷ ws) = pick (leb w.node c.last) c (pick (eqb w.node m) c (climb_of m (over c w) ws))
 
--- whether the nodes behind one of number n climb, and the soonest moment, where s is the soonest so far; then the same with the first of them heard at t
+-- the soonest moment of nodes that climb behind the number n, where s is the soonest so far; none
+-- where they do not climb
 abbrev pub climbed_of : ℕ → ℕ → List WatchedNode → Option ℕ
 climbed_of n s ws = pick (climbing n ws) (Some (soonest s ws)) None
 
+-- the nodes with the first of them heard at t
 abbrev pub first_heard : ℕ → List WatchedNode → List WatchedNode
 first_heard t [] = []
 first_heard t (w ∷ ws) = heard_now t w ∷ ws
 
+-- the soonest moment of nodes that climb behind the number n, with the first of them heard at t
 abbrev pub heard_climbed : ℕ → ℕ → ℕ → List WatchedNode → Option ℕ
 heard_climbed n s t ws = pick (climbing n ws) (Some (soonest s (first_heard t ws))) None

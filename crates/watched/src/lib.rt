@@ -1,5 +1,6 @@
-// The watched nodes in words that their owner lends: whether they pass number 3, where a node is, and whether one asks for something. Nothing here
-// writes but `put` of a record and `set_heard`.
+//! The watched nodes in words that their owner lends (RULES 8): whether the run is well formed,
+//! where a node is, whether a tick has to look at one, and the earliest moment at which one would
+//! be late. Nothing here writes but `put` of a record and `set_heard`.
 #![tactic(auto)]
 
 pub mod nodes;

@@ -1,46 +1,56 @@
-// The watched nodes in lent words, three a node: its number, its timeout, when it was last heard. 32 places, of which the first so many are
-// watched.
+//! The watched nodes in lent words, three a node: its number, its timeout, when it was last heard.
+//! There are 32 places, of which the first ones, as many as the count says, are watched.
 ghost use Rattle.std.specs.Prelude.{◌≡◌, ◌≤◌, ◌<◌, ◌+◌, ◌*◌, set, true, MatchOption};
 ghost use Rattle.types.specs.Pick.{all_of};
-ghost use Rattle.watched.specs.Watched.{well_formed, watched_of};
-ghost use Rattle.watched.specs.Climb.{climbed, over, climb_of, climbed_of, heard_climbed, nodes_from};
-ghost use Rattle.watched.specs.Nodes.{never, moment_of, climbing, numbered, roused_from, nodes_tried, found_of, seen_of, node_of, nodes_of};
+ghost use Rattle.watched.specs.Watched.{well_formed, no_node, watched_of};
+ghost use Rattle.watched.specs.Climb.{climbed, over, climb_of, climbed_of, heard_climbed};
+ghost use Rattle.watched.specs.Climb.{nodes_from};
+ghost use Rattle.watched.specs.Nodes.{never, moment_of, climbing, numbered, roused_from};
+ghost use Rattle.watched.specs.Nodes.{nodes_tried, found_of, seen_of, node_of, nodes_of};
 
 use crate::record::NodeRecord;
 use crate::time::in_time;
 
+/// A run of watched nodes as words: 32 places of three.
 pub type NodeWords = [u64; 96];
 
-// A watched node.
+/// A watched node.
 #[derive(Clone, Copy, PartialEq, Eq)]
 pub struct WatchedNode {
+    /// The node's number.
     pub node: u8,
-    // In microseconds; 0 never fires.
+    /// The timeout in µs; with 0 the node is never late.
     pub timeout: u64,
-    // In microseconds; 0 is never.
+    /// When the node was last heard, in µs; 0 where it never was.
     pub last_heard: u64,
 }
 
 impl WatchedNode {
-    // What a place past the watched nodes holds.
+    /// What a place past the watched nodes holds.
     pub const NONE: Self = Self {
         node: 0,
         timeout: 0,
         last_heard: 0,
     };
+
+    /// Law of `NONE`: it is no node.
+    pub fn none_is_no_node()
+        ensures { Self.NONE ≡ no_node }
+    {}
 }
 
-// No moment, as long as a walk goes on: it carries the earliest one as a number, since a least number takes no test.
+/// Stands for no moment during a walk, which carries the earliest one as a number, since the
+/// smaller of two numbers takes no test.
 pub const NEVER: u64 = 18446744073709551615;
 
-// The moment that a walk ends with.
+/// The moment that a walk ends with; none for NEVER.
 pub fn moment(soonest: u64) -> Option<u64>
     ensures { result ≡ moment_of soonest }
 {
     (soonest != NEVER).then_some(soonest)
 }
 
-// The time of the node at a place.
+/// Sets when the node at a place was last heard, in µs.
 pub fn set_heard(nodes: &mut NodeWords, place: usize, time: u64)
     requires { place < 32 }
     ensures { nodes.new ≡ set nodes.old (3 * place + 2) time }
@@ -48,8 +58,8 @@ pub fn set_heard(nodes: &mut NodeWords, place: usize, time: u64)
     nodes[3 * place + 2] = time;
 }
 
-// Where a walk ended, and of the nodes before that place: the last one's number, all times one over the other, and the soonest of what is three before
-// their moments.
+// What a walk knows at the place where it stands: the last number before it, the bits of all times
+// before it, and the soonest of what is 3 µs before their moments.
 #[derive(Clone, Copy)]
 struct Climbed {
     place: usize,
@@ -59,7 +69,7 @@ struct Climbed {
 }
 
 impl Climbed {
-    // With the node at its place.
+    // The same behind the node at its place.
     fn over(self, node: NodeRecord) -> Self
         requires { self.place < 32 }
         ensures { result ≡ over self (node_of node) }
@@ -73,7 +83,7 @@ impl Climbed {
     }
 }
 
-// The nodes from a place on, where `last` is the number before them.
+// The watched nodes from a place on; `last` is the number before them.
 #[derive(Clone, Copy)]
 struct Ahead<'a> {
     nodes: &'a NodeWords,
@@ -84,10 +94,12 @@ struct Ahead<'a> {
 }
 
 impl<'a> Ahead<'a> {
-    // All watched nodes, where they are at most 32. Inlined as it stands: else the compiler makes one case of both by selects, which slows the walks.
+    // All watched nodes, where they are at most 32. Inlined: without that the compiler merges the
+    // two cases by selects, which slows the walks.
     #[inline(always)]
     fn all(nodes: &'a NodeWords, count: usize) -> Option<Self>
-        ensures { MatchOption result (32 < count) (λ a. (a.nodes.now ≡ nodes.now) × (a.count ≡ count) × (a.place ≡ 0) × (a.last ≡ 0)) }
+        ensures { MatchOption result (32 < count)
+            (λ a. (a.nodes.now ≡ nodes.now) × (a.count ≡ count) × (a.place ≡ 0) × (a.last ≡ 0)) }
     {
         if 32 < count {
             return None;
@@ -100,9 +112,10 @@ impl<'a> Ahead<'a> {
         })
     }
 
-    // The nodes from another place on, where `last` is the number before them.
+    // The nodes from another place on; `last` is the number before them.
     fn behind(self, place: usize, last: u64) -> Self
-        ensures { (result.nodes.now ≡ self.entry.nodes.now) × (result.count ≡ self.entry.count) × (result.place ≡ place) × (result.last ≡ last) }
+        ensures { (result.nodes.now ≡ self.entry.nodes.now) × (result.count ≡ self.entry.count) ×
+            (result.place ≡ place) × (result.last ≡ last) }
     {
         Ahead {
             nodes: self.nodes,
@@ -112,10 +125,13 @@ impl<'a> Ahead<'a> {
         }
     }
 
-    // Walks the nodes as long as their numbers climb and none is the one sought. What is asked of their times is asked of all together, behind the walk: it
-    // has no other test, and is as fast whatever the times are.
+    // Walks the nodes as long as their numbers climb and none is the one sought. The times are
+    // tested all together behind the walk, which has no other test and takes the same time whatever
+    // they are.
     fn climb(self, sought: u64) -> Climbed
-        ensures { result ≡ climb_of sought (climbed self.entry.place self.entry.last 0 never) (nodes_from self.entry.place self.entry.count self.entry.nodes.now) }
+        ensures { result ≡
+            climb_of sought (climbed self.entry.place self.entry.last 0 never)
+            (nodes_from self.entry.place self.entry.count self.entry.nodes.now) }
     {
         let mut climbed = Climbed {
             place: self.place,
@@ -136,9 +152,11 @@ impl<'a> Ahead<'a> {
         climbed
     }
 
-    // Whether they climb, and the soonest moment then, where `before` is the soonest one of the nodes before them.
+    // The soonest moment, where the nodes climb; `before` is that of the nodes before them.
     fn climb_from(self, before: u64) -> Option<u64>
-        ensures { result ≡ climbed_of self.entry.last before (nodes_from self.entry.place self.entry.count self.entry.nodes.now) }
+        ensures { result ≡
+            climbed_of self.entry.last before
+            (nodes_from self.entry.place self.entry.count self.entry.nodes.now) }
     {
         let climbed = self.climb(0);
         if climbed.place < self.count {
@@ -147,10 +165,12 @@ impl<'a> Ahead<'a> {
         in_time(climbed.times).then_some(before.min(climbed.soonest.saturating_add(3)))
     }
 
-    // Whether all, which climb, have a node's number: from the last one back to one of at most 240, since those before it are below it.
+    // Whether all, which climb, have a node's number: from the last one back to one of at most 240;
+    // those before it have a smaller number.
     fn have_numbers(self) -> bool
         requires { climbing self.last (nodes_from self.place self.count self.nodes.now) ≡ true }
-        ensures { result ≡ all_of numbered (nodes_from self.entry.place self.entry.count self.entry.nodes.now) }
+        ensures { result ≡
+            all_of numbered (nodes_from self.entry.place self.entry.count self.entry.nodes.now) }
     {
         for i in (self.place..self.count).rev() {
             let node = NodeRecord::at(self.nodes, i);
@@ -164,9 +184,11 @@ impl<'a> Ahead<'a> {
         true
     }
 
-    // The first of them heard at a time: whether they climb, and the soonest moment then.
+    // The soonest moment with the first of them heard at a time, where they climb.
     fn hear_first(self, before: u64, time: u64) -> Option<u64>
-        ensures { result ≡ heard_climbed self.entry.last before time (nodes_from self.entry.place self.entry.count self.entry.nodes.now) }
+        ensures { result ≡
+            heard_climbed self.entry.last before time
+            (nodes_from self.entry.place self.entry.count self.entry.nodes.now) }
     {
         if self.count <= self.place {
             return Some(before);
@@ -183,9 +205,12 @@ impl<'a> Ahead<'a> {
         rest.climb_from(heard.sooner(before))
     }
 
-    // From one on that does not rest, whether the time is before no last-heard time: no moment is worked out, since the look will work it out.
+    // From a node on that does not rest: whether the time is before none of their last-heard times.
+    // No moment is worked out here; the tick does that.
     fn roused(self, time: u64) -> Option<bool>
-        ensures { result ≡ roused_from self.entry.last time (nodes_from self.entry.place self.entry.count self.entry.nodes.now) }
+        ensures { result ≡
+            roused_from self.entry.last time
+            (nodes_from self.entry.place self.entry.count self.entry.nodes.now) }
     {
         let mut above = self.last;
         let mut heard = true;
@@ -201,7 +226,8 @@ impl<'a> Ahead<'a> {
     }
 }
 
-// Whether the first nodes are few enough, ascending, and each within its limits; and their soonest moment.
+/// The soonest moment at which one of the first nodes would be late, where these are well formed:
+/// at most 32, ascending by number, each with a node's number and with times of at most 2^62 - 1.
 pub fn try_nodes(nodes: &NodeWords, count: usize) -> Option<Option<u64>>
     ensures { result ≡ nodes_tried (watched_of (nodes_of nodes.now) count) }
 {
@@ -210,7 +236,7 @@ pub fn try_nodes(nodes: &NodeWords, count: usize) -> Option<Option<u64>>
     all.have_numbers().then_some(moment(soonest))
 }
 
-// Nodes that pass number 3, lent to be read.
+/// Well formed nodes, lent to be read.
 #[derive(Clone, Copy)]
 pub struct Formed<'a> {
     pub nodes: &'a NodeWords,
@@ -218,17 +244,21 @@ pub struct Formed<'a> {
     pub ghost formed: { well_formed (watched_of (nodes_of nodes.now) count) ≡ true },
 }
 
+/// Whether the first nodes are well formed (RULES 8.2).
 pub fn well_formed(nodes: &NodeWords, count: usize) -> bool
     ensures { result ≡ well_formed (watched_of (nodes_of nodes.now) count) }
 {
     try_nodes(nodes, count).is_some()
 }
 
-// Up to the node that is sought in one walk, behind it in another. The soonest moment is a number, which the caller gives to moment: an Option within an
-// Option is handed on in more words.
+/// The place of a node among the first nodes, where these are well formed, and the soonest moment
+/// with the node heard at a time in µs. The place of a node that is not watched is the count. The
+/// moment is a number that the caller gives to `moment`, since an Option within an Option takes
+/// more words.
 pub fn find(nodes: &NodeWords, count: usize, node: u64, time: u64) -> Option<(usize, u64)>
     ensures { result ≡ found_of node time (watched_of (nodes_of nodes.now) count) }
 {
+    // One walk up to the node, another behind it.
     let all = Ahead::all(nodes, count)?;
     let front = all.climb(node);
     if !in_time(front.times) {
@@ -239,15 +269,20 @@ pub fn find(nodes: &NodeWords, count: usize, node: u64, time: u64) -> Option<(us
     all.have_numbers().then_some((front.place, soonest))
 }
 
-// Whether some of well formed nodes does not rest, so that a tick is to look at them, and then whether its time is before no last-heard time (number 6);
-// where all rest, the soonest moment.
+/// What a look at well formed nodes finds before a tick. A node rests that was heard, not after the
+/// tick's time where it has a timeout, and is not late.
 #[derive(Clone, Copy)]
 pub enum Seen {
+    /// Some node does not rest, so that the tick has to go over all. True where the time is before
+    /// no last-heard time of a node with a timeout; where it is false, BeforeHeard refuses the
+    /// tick.
     Roused(bool),
+    /// All nodes rest; the soonest moment, in µs, at which one would be late.
     Resting(Option<u64>),
 }
 
-// Up to a node that does not rest each is read once; from that one on all are tried by roused.
+/// Looks at the first nodes for a tick at a time in µs; none where they are not well formed. Each
+/// is read once up to one that does not rest.
 pub fn look(nodes: &NodeWords, count: usize, time: u64) -> Option<Seen>
     ensures { result ≡ seen_of time (watched_of (nodes_of nodes.now) count) }
 {

@@ -1,23 +1,26 @@
-// What three words of a node stand for, as they lie in the words of 32 places.
+//! A watched node as three words: its number, its timeout and the time it was last heard.
 ghost use Rattle.std.specs.Prelude.{◌≡◌, ◌<◌, ◌+◌, ◌*◌, ltb, set, true};
 ghost use Rattle.types.specs.Pick.{both};
-ghost use Rattle.watched.specs.Watched.{timed, fits};
+ghost use Rattle.watched.specs.Watched.{timed, fits, no_node};
 ghost use Rattle.watched.specs.Climb.{one_less, three_before};
-ghost use Rattle.watched.specs.Nodes.{not_before, numbered, sooner_by, rest_until, node_of, node_at, nodes_of};
+ghost use Rattle.watched.specs.Nodes.{not_before, numbered, sooner_by, rest_until};
+ghost use Rattle.watched.specs.Nodes.{node_of, node_at, nodes_of};
 
 use crate::nodes::{NEVER, NodeWords, WatchedNode};
 use crate::time::in_time;
 
-// A node in words: any number, and any times.
+/// A watched node as its words have it: any number, and any times.
 #[derive(Clone, Copy, PartialEq, Eq)]
 pub struct NodeRecord {
+    /// The node's number; any 64 bits, not all of which are one.
     pub node: u64,
-    // In microseconds; 0 never fires.
+    /// The timeout in µs; with 0 the node is never late.
     pub timeout: u64,
-    // In microseconds; 0 is never.
+    /// When the node was last heard, in µs; 0 where it never was.
     pub last_heard: u64,
 }
 
+/// The words of a watched node.
 impl From<WatchedNode> for NodeRecord {
     ghost from_gives = { λ w r. node_of r ≡ w };
 
@@ -30,7 +33,7 @@ impl From<WatchedNode> for NodeRecord {
     }
 }
 
-// One less; of 0, NEVER.
+// One less; for 0, NEVER.
 fn one_less(time: u64) -> u64
     ensures { result ≡ one_less time }
 {
@@ -38,14 +41,19 @@ fn one_less(time: u64) -> u64
 }
 
 impl NodeRecord {
-    // What a place past the watched nodes holds.
+    /// What a place past the watched nodes holds.
     pub const NONE: Self = Self {
         node: 0,
         timeout: 0,
         last_heard: 0,
     };
 
-    // The node at a place.
+    /// Law of `NONE`: it stands for no node.
+    pub fn none_is_no_node()
+        ensures { node_of Self.NONE ≡ no_node }
+    {}
+
+    /// The node at a place of the words.
     pub fn at(nodes: &NodeWords, place: usize) -> Self
         requires { place < 32 }
         ensures { node_of result ≡ node_at nodes.now place }
@@ -58,11 +66,13 @@ impl NodeRecord {
         }
     }
 
-    // The words of one place.
+    /// Writes the three words of one place; all others stay.
     pub fn put(self, nodes: &mut NodeWords, place: usize)
         requires { place < 32 }
-        ensures { (nodes.new ≡ set (set (set nodes.old (3 * place) self.node) (3 * place + 1) self.timeout) (3 * place + 2) self.last_heard)
-            × (nodes_of nodes.new ≡ set (nodes_of nodes.old) place (node_of self)) }
+        ensures { (nodes.new ≡
+            set (set (set nodes.old (3 * place) self.node) (3 * place + 1) self.timeout)
+            (3 * place + 2) self.last_heard) ×
+            (nodes_of nodes.new ≡ set (nodes_of nodes.old) place (node_of self)) }
     {
         let at = 3 * place;
         nodes[at] = self.node;
@@ -70,7 +80,7 @@ impl NodeRecord {
         nodes[at + 2] = self.last_heard;
     }
 
-    // Of a number above 0. Few nodes are above 240: a remainder, which no compiler works out ahead of its test, keeps what these ask out of the walks.
+    /// Whether a number above 0 is a node's: 1 to 240, 253, 254 or 255.
     pub fn is_numbered(self) -> bool
         requires { 0 < self.node }
         ensures { result ≡ numbered (node_of self) }
@@ -78,48 +88,53 @@ impl NodeRecord {
         if self.node <= 240 {
             return true;
         }
+        // Few nodes are above 240. No compiler works out a remainder ahead of the test before it,
+        // so the walks do not pay for these two tests.
         if 2 < self.node % 253 {
             return false;
         }
         self.node <= 255
     }
 
-    // Above the number before it, with its times within their limits.
+    /// Whether the number is above the one before it, and both times are at most 2^62 - 1.
     pub fn climbs(self, last: u64) -> bool
         ensures { result ≡ both (ltb last self.node) (timed (node_of self)) }
     {
         last < self.node && in_time(self.timeout) && in_time(self.last_heard)
     }
 
-    // Above the number before it, and within its limits.
+    /// The same, and whether the number is a node's.
     pub fn follows(self, last: u64) -> bool
         ensures { result ≡ both (ltb last self.node) (fits (node_of self)) }
     {
         self.climbs(last) && self.is_numbered()
     }
 
-    // Where a node has a timeout and was heard, the time is not before that.
+    /// Whether a time is not before the node was last heard, where it has a timeout and was heard
+    /// (RULES 7.1).
     pub fn heard_by(self, time: u64) -> bool
         ensures { result ≡ not_before time (node_of self) }
     {
         self.timeout == 0 || self.last_heard == 0 || self.last_heard <= time
     }
 
-    // Three before the moment at which a node would be late, and NEVER where it awaits nothing: two sums that stop at NEVER, and no test for a 0.
+    /// 3 µs before the moment at which the node would be late, and NEVER where it is never late:
+    /// two sums that stop at NEVER, without a test for 0.
     pub fn three_before(self) -> u64
         ensures { result ≡ three_before (node_of self) }
     {
         one_less(self.timeout).saturating_add(one_less(self.last_heard))
     }
 
-    // The sooner of the soonest moment so far and the one at which a node would be late.
+    /// The smaller of the soonest moment so far and the one at which the node would be late.
     pub fn sooner(self, soonest: u64) -> u64
         ensures { result ≡ sooner_by soonest (node_of self) }
     {
         soonest.min(self.three_before().saturating_add(3))
     }
 
-    // The sooner of the soonest moment so far and that of a node which was heard, not after now, and is not late; none where it does not rest so.
+    /// The same for a node that rests at a time: it was heard, not after that time where it has a
+    /// timeout, and is not late. None for a node that does not rest.
     pub fn rest_until(self, soonest: u64, time: u64) -> Option<u64>
         requires { timed (node_of self) ≡ true }
         ensures { result ≡ rest_until time soonest (node_of self) }

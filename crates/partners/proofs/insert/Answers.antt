@@ -10,7 +10,7 @@ use Rattle.watched.specs.declared.nodes.WatchedNode.{WatchedNode}
 use Rattle.watched.specs.Watched.{no_node}
 use Rattle.watched.specs.Nodes.{node_of, nodes_of}
 use Rattle.watched.proofs.Watching.{places}
-use Rattle.partners.proofs.Moved.{moved, nodes_moved, opened}
+use Rattle.partners.proofs.Moved.{nodes_moved, opened}
 use Rattle.partners.proofs.insert.Goals as goal
 
 pub returns : goal.returns
@@ -20,10 +20,8 @@ returns c =
     let p = c.place_for-place.result in
     let few = c.place_for-place.ensures.1 in
     let v = node_of a.node in
-    let up : 3 * p + 3 ≡ 3 * (p + 1) = omega arith in
-    let m : nodes_of c.copy_within.new.self ≡ moved a.nodes.now c.told-nodes p k (p + 1) few (omega (arith, c.requires)) (omega (arith, few, c.requires)) =
-    ap nodes_of (c.copy_within.ensures.after ∙ ap (copy_within a.nodes.now (3 * p) (3 * k)) up)
-    ∙ nodes_moved a.nodes.now c.told-nodes p k (p + 1) few (omega (arith, c.requires)) (omega (arith, few, c.requires)) in
+    let w : c.copy_within.new.self ≡ copy_within a.nodes.now (3 * p) (3 * k) (3 * (p + 1)) = grind (arith, c.copy_within.ensures.after) in
+    let m = ap nodes_of w ∙ nodes_moved a.nodes.now c.told-nodes p k (p + 1) few (omega (arith, c.requires)) (omega (arith, few, c.requires)) in
     let z : 32 - (k + 1) ≡ 31 - k = omega arith in
     c.clear.ensures
     ∙ ap₂ (λ (l : List WatchedNode) (n : ℕ). take (k + 1) l ++ replicate n no_node) (c.put.ensures.1 ∙ ap (λ (l : List WatchedNode). set l p v) m) z

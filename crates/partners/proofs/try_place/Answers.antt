@@ -1,9 +1,7 @@
--- `partners::try_place` meets its contract: its tests in turn.
+-- `partners::try_place` meets its contract: its tests, in whatever order the code makes them.
 -- Assumes nothing.
-use mathlib.Core.Path.{◌≡◌, sym, ◌∙◌}
-use borrow.Author.Tests.{lt-ltb, le-ltb}
-use native.Mathlib.Omega.{arith}
-use Rattle.std.proofs.Common.{rules, Err, Some, None}
+use mathlib.Core.Path.{◌≡◌}
+use Rattle.std.proofs.Common.{rules, tests, Err, Some, None}
 use Rattle.types.specs.declared.refusals.Refusal.TheVariants.{WatchedNodes}
 use Rattle.node.proofs.Hearing.{found_none, found_some}
 use Rattle.partners.proofs.try_place.Goals as goal
@@ -17,22 +15,23 @@ returns-in_err-watched c f w e =
 pub returns-then-not-in_time : goal.returns-then-not-in_time
 returns-then-not-in_time c f w e =
     let s : c.args.watched ≡ Some c.in_ok-watched.watched = search rules in
-    rw ((found_some c.args.watched f w e _ s).0, sym c.in_time.ensures ∙ c.if-not-in_time.true)
+    let x = found_some c.args.watched f w e _ s in
+    search (rules, tests, x)
 
 pub returns-then-watched : goal.returns-then-watched
 returns-then-watched c f w e =
     let s : c.args.watched ≡ Some c.in_ok-watched.watched = search rules in
     let x = found_some c.args.watched f w e _ s in
-    rw (x.0, sym c.in_time.ensures ∙ c.if-not-in_time.false, x.1 ∙ c.if-watched.true)
+    search (rules, tests, x)
 
 pub returns-then-number-ge32 : goal.returns-then-number-ge32
 returns-then-number-ge32 c f w e =
     let s : c.args.watched ≡ Some c.in_ok-watched.watched = search rules in
     let x = found_some c.args.watched f w e _ s in
-    rw (x.0, sym c.in_time.ensures ∙ c.if-not-in_time.false, x.1 ∙ c.if-watched.false, le-ltb c.args.number 32 c.if-number-ge32.true)
+    search (rules, tests, x)
 
 pub returns : goal.returns
 returns c f w e =
     let s : c.args.watched ≡ Some c.in_ok-watched.watched = search rules in
     let x = found_some c.args.watched f w e _ s in
-    rw (x.0, sym c.in_time.ensures ∙ c.if-not-in_time.false, x.1 ∙ c.if-watched.false, lt-ltb c.args.number 32 (omega (arith, c.if-number-ge32.false)))
+    search (rules, tests, x)

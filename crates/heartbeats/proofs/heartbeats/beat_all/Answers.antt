@@ -1,6 +1,6 @@
 -- `heartbeats::heartbeats::beat_all` meets its contract.
 -- Assumes nothing.
-use Rattle.std.proofs.Common.{ap, arith}
+use Rattle.std.proofs.Common.{◌<◌, ◌≤◌, ap, arith}
 use Rattle.watched.specs.declared.nodes.WatchedNode.{WatchedNode}
 use Rattle.watched.specs.Nodes.{node_of}
 use Rattle.watched.proofs.Limits.{number_small}
@@ -24,16 +24,18 @@ pub beat-dealt-requires : goal.beat-dealt-requires
 beat-dealt-requires c =
     let a = c.args in
     let f = a.formed in
-    omega (arith, ap (λ (w : WatchedNode). w.node) c.at-node.ensures, number_small f.nodes.now f.count (few f.nodes.now f.count f.formed) f.formed c.walk.place c.walk-test.true)
+    let inside : c.walk.place < f.count = omega (arith, c.walk-test.true) in
+    omega (arith, ap (λ (w : WatchedNode). w.node) c.at-node.ensures, number_small f.nodes.now f.count (few f.nodes.now f.count f.formed) f.formed c.walk.place inside)
 
 pub walk-preserved : goal.walk-preserved
 walk-preserved c =
     let a = c.args in
     let f = a.formed in
     let l = c.walk in
+    let inside : l.place < f.count = omega (arith, c.walk-test.true) in
     elim c.if-is_late.branch [
-      | then-is_late+else-dealt w ↦ rw (w.head-is, w.dealt-is) (walk_goes_on f.nodes.now f.count (few f.nodes.now f.count f.formed) a.time a.head.now l.head l.dealt l.place l.invariant c.walk-test.true (node_of c.at-node.result) c.at-node.ensures c.is_late.result c.is_late.ensures w.if-is_late.true w.beat-dealt.result _ w.beat-dealt.ensures w.if-dealt.false)
-      | else-is_late w ↦ rw (w.head-is, w.dealt-is) (walk_passes f.nodes.now f.count (few f.nodes.now f.count f.formed) a.time a.head.now l.head l.dealt l.place l.invariant c.walk-test.true (node_of c.at-node.result) c.at-node.ensures c.is_late.result c.is_late.ensures w.if-is_late.false)
+      | then-is_late+else-dealt w ↦ rw (w.head-is, w.dealt-is) (walk_goes_on f.nodes.now f.count (few f.nodes.now f.count f.formed) a.time a.head.now l.head l.dealt l.place l.invariant inside (node_of c.at-node.result) c.at-node.ensures c.is_late.result c.is_late.ensures w.if-is_late.true w.beat-dealt.result _ w.beat-dealt.ensures w.if-dealt.false)
+      | else-is_late w ↦ rw (w.head-is, w.dealt-is) (walk_passes f.nodes.now f.count (few f.nodes.now f.count f.formed) a.time a.head.now l.head l.dealt l.place l.invariant inside (node_of c.at-node.result) c.at-node.ensures c.is_late.result c.is_late.ensures w.if-is_late.false)
     ]
 
 pub returns-after-walk : goal.returns-after-walk
@@ -41,11 +43,14 @@ returns-after-walk c =
     let a = c.args in
     let f = a.formed in
     let l = c.walk in
-    walk_over f.nodes.now f.count (few f.nodes.now f.count f.formed) a.time a.head.now l.head l.dealt l.place l.invariant c.walk-test.false
+    let below = few f.nodes.now f.count f.formed in
+    let over : f.count ≤ l.place = omega (arith, c.walk-test.false, below) in
+    walk_over f.nodes.now f.count below a.time a.head.now l.head l.dealt l.place l.invariant over
 
 pub returns-then-dealt : goal.returns-then-dealt
 returns-then-dealt c =
     let a = c.args in
     let f = a.formed in
     let l = c.walk in
-    walk_stops f.nodes.now f.count (few f.nodes.now f.count f.formed) a.time a.head.now l.head l.dealt l.place l.invariant c.walk-test.true (node_of c.at-node.result) c.at-node.ensures c.is_late.result c.is_late.ensures c.if-is_late.true c.beat-dealt.result _ c.beat-dealt.ensures c.if-dealt.true
+    let inside : l.place < f.count = omega (arith, c.walk-test.true) in
+    walk_stops f.nodes.now f.count (few f.nodes.now f.count f.formed) a.time a.head.now l.head l.dealt l.place l.invariant inside (node_of c.at-node.result) c.at-node.ensures c.is_late.result c.is_late.ensures c.if-is_late.true c.beat-dealt.result _ c.beat-dealt.ensures c.if-dealt.true

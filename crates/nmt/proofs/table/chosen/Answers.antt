@@ -1,4 +1,4 @@
--- `nmt::table::chosen` meets its contract: the table is the one that the rule asks for.
+-- `nmt::table::chosen` meets its contract: the table is that of the rules.
 -- Assumes nothing.
 use Rattle.nmt.specs.Resets.{is_reset, states_entered}
 use Rattle.nmt.specs.Nmt.{row_of, enter, applied, reset_by, processed}

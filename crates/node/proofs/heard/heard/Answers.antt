@@ -3,7 +3,7 @@
 use mathlib.Core.Path.{◌≡◌, refl, ap, ◌∙◌}
 use mathlib.Core.Bool.{true}
 use native.Mathlib.Omega.{arith}
-use Rattle.std.proofs.Common.{rules, Err, Some, None}
+use Rattle.std.proofs.Common.{rules, Err, Some}
 use Rattle.watched.specs.Nodes.{moment_of}
 use Rattle.watched.proofs.Watching.{found_formed, few}
 use Rattle.node.proofs.Hearing.{inside, declined, there}

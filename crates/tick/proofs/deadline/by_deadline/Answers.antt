@@ -14,12 +14,12 @@ returns-else-at_not_active c =
 
 pub returns-then-time-at : goal.returns-then-time-at
 returns-then-time-at c =
-    ahead_passes c.args.head.now c.args.queue.now c.args.history.now c.args.time.us on _ (sym c.deadline_at.ensures ∙ c.in-Some.is) c.if-time-at.true refl
+    ahead_passes c.args.head.now c.args.queue.now c.args.history.now c.args.time.us on _ (sym c.deadline_at.ensures ∙ c.in-At.is) c.if-time-at.true refl
 
 pub returns-then-at_not_active-2 : goal.returns-then-at_not_active-2
 returns-then-at_not_active-2 c =
-    idle_passes c.args.head.now c.args.queue.now c.args.history.now c.args.time.us on _ (sym c.deadline_at.ensures ∙ c.in-Some.is) c.if-time-at.false _ c.with_deadline.ensures c.at_not_active-2.result c.at_not_active-2.ensures _ c.if-at_not_active-2.true c.time_out.ensures refl
+    idle_passes c.args.head.now c.args.queue.now c.args.history.now c.args.time.us on _ (sym c.deadline_at.ensures ∙ c.in-At.is) c.if-time-at.false _ c.with_deadline.ensures c.at_not_active-2.result c.at_not_active-2.ensures _ c.if-at_not_active-2.true c.time_out.ensures refl
 
 pub returns : goal.returns
 returns c =
-    check_passes c.args.head.now c.args.queue.now c.args.history.now c.args.time.us c.soc_check.result _ (sym c.deadline_at.ensures ∙ c.in-Some.is) c.if-time-at.false _ c.with_deadline.ensures c.at_not_active-2.result c.at_not_active-2.ensures _ c.if-at_not_active-2.false _ _ c.soc_check.ensures
+    check_passes c.args.head.now c.args.queue.now c.args.history.now c.args.time.us c.soc_check.result _ (sym c.deadline_at.ensures ∙ c.in-At.is) c.if-time-at.false _ c.with_deadline.ensures c.at_not_active-2.result c.at_not_active-2.ensures _ c.if-at_not_active-2.false _ _ c.soc_check.ensures

@@ -1,13 +1,15 @@
-// The errors of the data link layer (EPSG DS 301, Section 4.7), and what they ask of NMT.
+//! The errors of the data link layer (EPSG DS 301, Section 4.7), and what they ask of NMT.
 ghost use Rattle.std.specs.Prelude.{◌≡◌};
+ghost use Rattle.std.specs.Iterator.{YieldsFirst, item_count};
 ghost use Rattle.types.specs.Errors.{action_number, error_kind_of, error_code, read_error};
+ghost use Rattle.types.specs.Errors.{reported};
 ghost use Rattle.types.specs.Kinds.{kind_place};
 
 use crate::frame::error::kinds::DllErrorKind;
 use crate::refusals::Refusal;
 use crate::types::NodeId;
 
-// What NMT is asked for after an error.
+/// What NMT is asked for after an error.
 #[derive(Clone, Copy, Debug, PartialEq, Eq)]
 pub enum NmtAction {
     None,
@@ -16,7 +18,7 @@ pub enum NmtAction {
 }
 
 impl NmtAction {
-    // The action's place in the enum, from 0; the node that it carries is not in it.
+    /// The action's place in the enum, from 0; the node that it carries is not in it.
     pub fn number(self) -> u8
         ensures { result ≡ action_number self }
     {
@@ -28,6 +30,7 @@ impl NmtAction {
     }
 }
 
+/// An error of the data link layer, with its node, or with its state and event.
 #[derive(Clone, Copy, Debug, PartialEq, Eq)]
 pub enum DllError {
     LossOfLink,
@@ -54,7 +57,7 @@ pub enum DllError {
     HeartbeatTimeout { node_id: NodeId },
 }
 
-// The errors that one event reports: at most two, in order.
+/// The errors that one event reports: at most two, in order.
 #[derive(Clone, Copy, Debug, PartialEq, Eq)]
 pub enum DllErrors {
     None,
@@ -62,21 +65,62 @@ pub enum DllErrors {
     Two(DllError, DllError),
 }
 
+/// The errors that are left of those of one event, in their order.
+#[derive(Clone, Drop)]
+pub struct Reported(DllErrors);
+
+impl Iterator for Reported {
+    type Item = DllError;
+
+    ghost next_gives = { YieldsFirst (λ s. reported s.0) };
+
+    ghost remaining = { item_count (λ s. reported s.0) };
+
+    fn next(&mut self) -> Option<DllError> {
+        match self.0 {
+            DllErrors::None => None,
+            DllErrors::One(last) => {
+                self.0 = DllErrors::None;
+                Some(last)
+            }
+            DllErrors::Two(first, last) => {
+                self.0 = DllErrors::One(last);
+                Some(first)
+            }
+        }
+    }
+}
+
+impl IntoIterator for DllErrors {
+    type Item = DllError;
+
+    type IntoIter = Reported;
+
+    fn into_iter(self) -> Reported
+        ensures { result.0 ≡ self }
+    {
+        Reported(self)
+    }
+}
+
 impl DllError {
-    // The kind: the error's place in the enum, from 0.
+    /// The number of its kind: the error's place in the enum, from 0.
     pub fn kind(self) -> u8
         ensures { result ≡ error_kind_of self }
     {
         DllErrorKind::from(self).place()
     }
 
+    /// The code of its kind.
     pub fn to_error_code(self) -> u16
         ensures { result ≡ error_code self }
     {
         DllErrorKind::from(self).to_error_code()
     }
 
-    // An error from its kind; a is its node, or a and b are its state and event. What a kind does not carry is not looked at.
+    /// An error from its kind's number; `a` is its node, or `a` and `b` are its state and event.
+    /// What a kind does not carry is not looked at. Refused by UnknownNumber where no kind has the
+    /// number, then by NodeNumber where it carries a node and `a` is none.
     pub fn try_from(kind: u64, a: u8, b: u8) -> Result<DllError, Refusal>
         ensures { result ≡ read_error kind a b }
     {

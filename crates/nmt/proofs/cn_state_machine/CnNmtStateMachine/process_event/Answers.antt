@@ -1,4 +1,5 @@
--- `nmt::cn_state_machine::CnNmtStateMachine::process_event` meets its contract: the machine follows the entry that is chosen for it.
+-- `nmt::cn_state_machine::CnNmtStateMachine::process_event` meets its contract: the machine follows
+-- the entry that is chosen for it.
 -- Assumes nothing.
 use Rattle.nmt.proofs.Chosen.{follows}
 use Rattle.nmt.proofs.cn_state_machine.CnNmtStateMachine.process_event.Goals as goal
