@@ -1,35 +1,29 @@
-// What the lines of a script do. All that is large is lent with a line: the entries of a load, and what the lines are played on.
-use crate::desk::entry_read;
-use crate::said::{hand_out, say_answer, say_bitmap, say_unreadable};
-use crate::show::show;
-use patterns::Given;
-use played::Station;
-use printed::Buffer;
+// A script, line by line.
+use crate::station::Station;
+use script::{LineBytes, read};
+use std::alloc::Global;
+use std::io;
+use std::io::{BufRead, BufReader, BufWriter, Read, Write};
 
-// The line at a place of the script, with the key that was read.
-pub(crate) fn play(
-    station: &mut Station,
-    read: Option<u8>,
-    place: u64,
-    given: Given,
-    bytes: &[u8],
-    out: &mut Buffer,
-) {
-    let session = station.session;
-    let Some(key) = read.and_then(|key| session.key_after(key)) else {
-        return say_unreadable(out, place);
-    };
-    match key {
-        b' ' => {}
-        b'U' | b'W' | b'L' => station.session.arrange(key, given, &mut station.places),
-        b'p' => show(out, station),
-        b'D' => station.desk.lay(bytes),
-        b'r' => entry_read(out, bytes),
-        b'o' => hand_out(out, station),
-        b'b' => say_bitmap(out, &station.places.nodes, session.lent()),
-        _ => {
-            station.play(key, given, bytes);
-            say_answer(out, key, &station.answer);
+/// Plays a script from a reader, and writes what it prints. The last line may lack its newline.
+pub fn play<R: Read + Drop, W: Write + Drop>(alloc: Global, script: R, out: W) -> io::Result<()> {
+    let mut script = BufReader::with_capacity(alloc, 65536, script)?;
+    let mut out = BufWriter::with_capacity(alloc, 65536, out)?;
+    let mut station = Station::new();
+    let mut line = Vec::new(alloc);
+    let mut bytes = LineBytes::new();
+    for place in 1..u64::MAX {
+        if script.buffer().is_empty() {
+            out.flush()?;
         }
+        line.clear();
+        if script.read_until(b'\n', &mut line)? == 0 {
+            break;
+        }
+        let text = line.as_slice();
+        let text = text.strip_suffix(b"\n").unwrap_or(text);
+        let said = station.play(place, read(text, &mut bytes));
+        write!(out, "{said}")?;
     }
+    out.flush()
 }

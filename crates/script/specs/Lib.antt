@@ -1,2 +1,3 @@
-pub mod Lines
-pub mod Script
+pub mod Words
+pub mod Bytes
+pub mod Grammar

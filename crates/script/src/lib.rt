@@ -1,126 +1,155 @@
-// What a line of a call script says (docs/CALLS.md): its key, and the numbers and bytes that it gives. The key of a comment is a space, that of a load l, of
-// a desk D, of the reading of an entry r, and the others stand in `TABLE`.
+// A line of a call script as the value that it says. docs/CALLS.md has the format, and specs/Grammar.antt a row for each of its lines.
 #![tactic(auto)]
 
-ghost use Rattle.std.specs.Prelude.{◌≡◌, ◌≤◌, List, ℕ, map, option_copied};
-ghost use Rattle.script.specs.Script.{says, by_digits, found_length, key_by, table_says, desk_says, entry_says, text_says};
+ghost use Rattle.std.specs.Prelude.{◌≡◌, option_map};
+ghost use Rattle.script.specs.Words.{gives};
+ghost use Rattle.script.specs.Grammar.{says, call_named, line_named, words_say, line_says};
 
-mod digits;
-pub mod lines;
-mod load;
+mod bytes;
+mod fields;
+mod words;
 
 use arrayvec::ArrayVec;
-use digits::{read_bytes, read_entries};
-use lines::Line;
-use load::read_load;
-use patterns::{Given, match_at};
+use calling::Call;
+use entries::status_response::ErrorEntry;
+use start::start::Setup;
+use std::str;
+use watched::nodes::WatchedNode;
+use words::Words;
 
-// The bytes that a line gives, of as many entries as a load may have, 300.
-pub type EntryBuffer = ArrayVec<u8, 6000>;
+/// The bytes that a line gives, lent to be read into: as many as the 300 entries have that a load may name.
+pub type LineBytes = ArrayVec<u8, 6000>;
 
-// The keys of the lines that a pattern reads whole; the last one is that of the empty line. A key is its letter, no enum: the functions that
-// take one answer for every letter, and an enum would ask more of their callers.
-const TABLE: [(u8, &[u8]); 25] = [
-    (b'n', b"nmt L"),
-    (b'W', b"watch B L L"),
-    (b'd', b"dll L F"),
-    (b'p', b"show"),
-    (b't', b"tick L"),
-    (b'c', b"cycle"),
-    (b'a', b"arm L"),
-    (b'e', b"error L X Y"),
-    (b'h', b"heard B L"),
-    (b'o', b"handout"),
-    (b'w', b"withdraw"),
-    (b'U', b"unwatch"),
-    (b'L', b"lend P L"),
-    (b'j', b"add B L"),
-    (b'x', b"remove B"),
-    (b'b', b"bitmap"),
-    (b'S', b"start B W W L B O O W W W W"),
-    (b'T', b"start B W W L B O O W W W W W W W W W W W"),
-    (b'k', b"command L"),
-    (b's', b"state L"),
-    (b'i', b"entrywrite L F F M H H W W L"),
-    (b'q', b"kind L"),
-    (b'g', b"range L L"),
-    (b'm', b"margin L"),
-    (b' ', b""),
-];
+/// What a line says. Any number of its width may stand in it; the calls refuse what they do not take.
+#[derive(Clone, Copy)]
+pub enum Line<'a> {
+    /// Nothing: the empty line, or a comment.
+    Nothing,
+    /// No line of the format.
+    Unreadable,
+    /// A call on the head.
+    Call(Call<'a>),
+    /// The start of a head.
+    Start(Setup),
+    /// One node more is watched in the lent run.
+    Watch(WatchedNode),
+    /// The lent run is as at first.
+    Unwatch,
+    /// So many places are lent, at most 40, with this number watched.
+    Lend { places: usize, number: usize },
+    /// The watched nodes as bits.
+    Bitmap,
+    /// The desk's buffer has these bytes from now on, at most 100.
+    Desk(&'a [u8]),
+    /// An entry is written into the desk's buffer at a place.
+    EntryWrite { place: u64, entry: ErrorEntry },
+    /// 20 bytes are read as an entry.
+    EntryRead(&'a [u8]),
+    /// A number is read as an NMT state.
+    State(u64),
+    /// A number is read as a command.
+    Command(u64),
+    /// The kind behind an error code.
+    Kind(u64),
+    /// The head and the lent run are shown.
+    Show,
+}
 
-// Reads a line by a table, whose rows are a key and a pattern: the first pattern that the whole line matches.
-fn read_by(rows: &[(u8, &[u8])], line: &[u8], given: &mut Given) -> Option<u8>
-    ensures { (bs : List ℕ) → says result given.new bs ≡ key_by (map (λ row. (row.0, row.1.now)) rows.now) line.now given.old bs }
+/// The most characters of a line that is no comment.
+const LONGEST: usize = 16384;
+
+// The call of a name, with the words behind it as its arguments.
+#[tactic(auto, unfolding(crate::specs::Grammar::call_named))]
+fn read_call<'a>(name: &str, words: &mut Words<'_>) -> Option<Call<'a>>
+    ensures { gives result words.new.rest.now ≡ call_named name.now words.old.rest.now }
 {
-    for row in rows {
-        if let Some([]) = match_at(row.1, line, given, 0) {
-            return Some(row.0);
-        }
+    Some(match name {
+        "nmt" => Call::NmtEvent(words.bits64()?),
+        "dll" => Call::DllEvent {
+            event: words.bits64()?,
+            expect_preq: words.flag()?,
+        },
+        "error" => words.error()?,
+        "cycle" => Call::CycleComplete,
+        "withdraw" => Call::Withdraw,
+        "heard" => Call::Heard {
+            node: words.bits8()?,
+            time: words.bits64()?,
+        },
+        "handout" => Call::HandOut,
+        "arm" => Call::Arm(words.bits64()?),
+        "tick" => Call::Tick(words.bits64()?),
+        "range" => Call::Range {
+            earliest: words.bits64()?,
+            latest: words.bits64()?,
+        },
+        "margin" => Call::Margin(words.bits64()?),
+        "add" => Call::Add {
+            node: words.bits8()?,
+            timeout: words.bits64()?,
+        },
+        "remove" => Call::Remove(words.bits8()?),
+        _ => return None,
+    })
+}
+
+// What a line says that begins with a name, with the words behind it.
+#[tactic(auto, unfolding(crate::specs::Grammar::line_named))]
+fn read_named<'a>(
+    name: &str,
+    words: &mut Words<'_>,
+    bytes: &'a mut LineBytes,
+) -> Option<Line<'a>>
+    ensures { gives (option_map says result) words.new.rest.now ≡ line_named name.now words.old.rest.now }
+{
+    match name {
+        "start" => Some(Line::Start(words.setup()?)),
+        "load" => Some(Line::Call(Call::Load {
+            values: words.update()?,
+            history: words.history(bytes)?,
+        })),
+        "watch" => Some(Line::Watch(words.watched()?)),
+        "unwatch" => Some(Line::Unwatch),
+        "lend" => Some(Line::Lend {
+            places: words.up_to(40)? as usize,
+            number: words.bits64()? as usize,
+        }),
+        "bitmap" => Some(Line::Bitmap),
+        "desk" => Some(Line::Desk(words.desk(bytes)?)),
+        "entrywrite" => Some(Line::EntryWrite {
+            place: words.bits64()?,
+            entry: words.entry()?,
+        }),
+        "entryread" => Some(Line::EntryRead(words.entry_bytes(bytes)?)),
+        "state" => Some(Line::State(words.bits64()?)),
+        "command" => Some(Line::Command(words.bits64()?)),
+        "kind" => Some(Line::Kind(words.bits64()?)),
+        "show" => Some(Line::Show),
+        _ => Some(Line::Call(read_call(name, words)?)),
     }
-    None
 }
 
-#[tactic(auto, unfolding(crate::specs::Script::table_says))]
-fn read_table(line: &[u8], given: &mut Given) -> Option<u8>
-    ensures { (bs : List ℕ) → says result given.new bs ≡ table_says line.now given.old bs }
+// What the words of a line say, where they are all there and no more.
+#[tactic(auto, using(crate::proofs::Names::no_text), unfolding(crate::specs::Grammar::words_say))]
+fn read_words<'a>(line: &[u8], bytes: &'a mut LineBytes) -> Option<Line<'a>>
+    ensures { option_map says result ≡ words_say line.now }
 {
-    read_by(&TABLE, line, given)
-}
-
-// The digits of a desk, whose bytes are at most 100; how many they are becomes the first number. No bytes are `-`.
-#[tactic(auto, unfolding(crate::specs::Script::desk_says, crate::specs::Script::bytes_at))]
-fn read_desk<'a>(line: &'a [u8], given: &mut Given) -> Option<&'a [u8]>
-    ensures read { by_digits 68 (option_copied result) given.new ≡ desk_says line.now given.old }
-    ensures short { found_length (option_copied result) ≤ 201 }
-{
-    if line.is_empty() {
+    let (name, mut words) = Words::of(line);
+    let Ok(name) = str::from_utf8(name) else {
         return None;
-    }
-    let count = line.len() / 2;
-    given[0] = count as u64;
-    if let [b'-'] = line {
-        return Some(&[]);
-    }
-    (count <= 100).then_some(line)
+    };
+    let read = read_named(name, &mut words, bytes)?;
+    words.end()?;
+    Some(read)
 }
 
-// The digits of an entry, of 20 bytes.
-#[tactic(auto, unfolding(crate::specs::Script::entry_says))]
-fn read_entry(line: &[u8]) -> Option<&[u8]>
-    ensures read { (g : List ℕ) → by_digits 114 (option_copied result) g ≡ entry_says line.now g }
-    ensures short { found_length (option_copied result) ≤ 40 }
+/// Reads a line, which has no newline at its end. The bytes that it gives are in the buffer.
+pub fn read<'a>(line: &[u8], bytes: &'a mut LineBytes) -> Line<'a>
+    ensures { says result ≡ line_says line.now }
 {
-    (line.len() == 40).then_some(line)
-}
-
-// Reads a line. One that is longer than the buffer may still be a comment. Each of the three that give bytes is read in its own way, so they are no rows
-// of the table.
-#[tactic(auto, unfolding(crate::specs::Script::line_says))]
-pub fn read(line: &Line, given: &mut Given, bytes: &mut EntryBuffer) -> Option<u8>
-    ensures { says result given.new bytes.new.items ≡ text_says line.now.text.items line.now.long given.old }
-{
-    bytes.clear();
-    let text = line.text.as_slice();
-    if let [b'#', ..] = text {
-        return Some(b' ');
+    match line {
+        [] | [b'#', ..] => Line::Nothing,
+        _ if LONGEST < line.len() => Line::Unreadable,
+        _ => read_words(line, bytes).unwrap_or(Line::Unreadable),
     }
-    if line.long {
-        return None;
-    }
-    if let Some(load) = match_at(b"load", text, given, 0) {
-        let entries = read_load(load, given)?;
-        read_entries(entries, bytes)?;
-        return Some(b'l');
-    }
-    if let Some(desk) = match_at(b"desk ", text, given, 0) {
-        let digits = read_desk(desk, given)?;
-        read_bytes(digits, bytes)?;
-        return Some(b'D');
-    }
-    if let Some(entry) = match_at(b"entryread ", text, given, 0) {
-        let digits = read_entry(entry)?;
-        read_bytes(digits, bytes)?;
-        return Some(b'r');
-    }
-    read_table(text, given)
 }

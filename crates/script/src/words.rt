@@ -1,0 +1,155 @@
+// The words of a line, each behind one space, and the numbers that they are.
+ghost use Rattle.std.specs.Prelude.{◌≡◌, ◌≤◌, length, option_copied, IfSome};
+ghost use Rattle.script.specs.Words.{gives, word_length, first_word, behind_word, word, next_is, behind_next, ends, digit_behind, value_of, number_of, up_to, bits8, bits16, bits32, bits64, flag, object};
+
+/// The words of a line that are not read yet: nothing, or each behind its space. What is read leaves the rest.
+#[derive(Clone, Copy)]
+pub(crate) struct Words<'a> {
+    pub(crate) rest: &'a [u8],
+}
+
+// How many characters stand before the first space.
+#[tactic(auto, unfolding(crate::specs::Words::word_length))]
+fn word_length(line: &[u8]) -> usize
+    ensures { (result ≡ word_length line.now) × (result ≤ length line.now) }
+{
+    for (place, c) in line.iter().enumerate() {
+        if *c == b' ' {
+            return place;
+        }
+    }
+    line.len()
+}
+
+// The number with a digit of a base, from 2 to 16, behind it, where it fits 64 bits.
+fn digit_behind(number: u64, digit: u8, base: u32) -> Option<u64>
+    requires { (2 ≤ base) × (base ≤ 16) }
+    ensures { result ≡ digit_behind base number digit }
+{
+    let value = char::from(digit).to_digit(base)?;
+    number
+        .checked_mul(u64::from(base))?
+        .checked_add(u64::from(value))
+}
+
+// The number that the digits are; there has to be one.
+#[tactic(auto, unfolding(crate::specs::Words::value_from))]
+fn value(digits: &[u8], base: u32) -> Option<u64>
+    requires { (2 ≤ base) × (base ≤ 16) }
+    ensures { result ≡ value_of base digits.now }
+{
+    if digits.is_empty() {
+        return None;
+    }
+    let mut number = 0;
+    for digit in digits {
+        number = digit_behind(number, *digit, base)?;
+    }
+    Some(number)
+}
+
+// The number that a word is: hexadecimal behind `0x`, or decimal.
+#[tactic(auto, unfolding(crate::specs::Words::number_of))]
+fn number_of(word: &[u8]) -> Option<u64>
+    ensures { result ≡ number_of word.now }
+{
+    match word {
+        [b'0', b'x', digits @ ..] => value(digits, 16),
+        _ => value(word, 10),
+    }
+}
+
+impl<'a> Words<'a> {
+    /// The name that a line begins with, and the words behind it.
+    pub(crate) fn of(line: &'a [u8]) -> (&'a [u8], Words<'a>)
+        ensures name { result.0.now ≡ first_word line.now }
+        ensures words { result.1.rest.now ≡ behind_word line.now }
+    {
+        let (name, rest) = line.split_at(word_length(line));
+        (name, Words { rest })
+    }
+
+    /// The next word.
+    pub(crate) fn word(&mut self) -> Option<&'a [u8]>
+        ensures { gives (option_copied result) self.new.rest.now ≡ word self.old.rest.now }
+    {
+        let [b' ', line @ ..] = self.rest else {
+            return None;
+        };
+        let (word, rest) = line.split_at(word_length(line));
+        self.rest = rest;
+        Some(word)
+    }
+
+    /// Whether the next word is this one, which is read then.
+    pub(crate) fn take(&mut self, word: &[u8]) -> bool
+        ensures is_next { result ≡ next_is word.now self.old.rest.now }
+        ensures rest { self.new.rest.now ≡ behind_next word.now self.old.rest.now }
+    {
+        let mut ahead = *self;
+        let is_next = ahead.word().is_some_and(|next| next == word);
+        if is_next {
+            *self = ahead;
+        }
+        is_next
+    }
+
+    /// No word is left.
+    pub(crate) fn end(&self) -> Option<()>
+        ensures { result ≡ ends self.now.rest.now }
+    {
+        self.rest.is_empty().then_some(())
+    }
+
+    /// A number of at most so much.
+    #[tactic(auto, unfolding(crate::specs::Words::up_to))]
+    pub(crate) fn up_to(&mut self, most: u64) -> Option<u64>
+        ensures read { gives result self.new.rest.now ≡ up_to most self.old.rest.now }
+        ensures within { IfSome result (λ n. n ≤ most) }
+    {
+        let number = number_of(self.word()?)?;
+        (number <= most).then_some(number)
+    }
+
+    pub(crate) fn bits64(&mut self) -> Option<u64>
+        ensures { gives result self.new.rest.now ≡ bits64 self.old.rest.now }
+    {
+        self.up_to(u64::MAX)
+    }
+
+    pub(crate) fn bits32(&mut self) -> Option<u32>
+        ensures { gives result self.new.rest.now ≡ bits32 self.old.rest.now }
+    {
+        Some(self.up_to(0xFFFF_FFFF)? as u32)
+    }
+
+    pub(crate) fn bits16(&mut self) -> Option<u16>
+        ensures { gives result self.new.rest.now ≡ bits16 self.old.rest.now }
+    {
+        Some(self.up_to(0xFFFF)? as u16)
+    }
+
+    pub(crate) fn bits8(&mut self) -> Option<u8>
+        ensures { gives result self.new.rest.now ≡ bits8 self.old.rest.now }
+    {
+        Some(self.up_to(0xFF)? as u8)
+    }
+
+    /// 0 or 1.
+    pub(crate) fn flag(&mut self) -> Option<bool>
+        ensures { gives result self.new.rest.now ≡ flag self.old.rest.now }
+    {
+        Some(self.up_to(1)? == 1)
+    }
+
+    /// A value of 32 bits, or `-`, a missing one.
+    #[tactic(auto, unfolding(crate::specs::Words::object))]
+    pub(crate) fn object(&mut self) -> Option<Option<u32>>
+        ensures { gives result self.new.rest.now ≡ object self.old.rest.now }
+    {
+        if self.take(b"-") {
+            return Some(None);
+        }
+        Some(Some(self.bits32()?))
+    }
+}

@@ -1,0 +1,10 @@
+-- The entries so far are written.
+use Rattle.std.proofs.Common.{take}
+use Rattle.std.specs.Fmt.{HasWritten, IsPlainFormatter}
+use Rattle.entries.specs.Queue.{waiting}
+use Rattle.telling.specs.Texts.{entries_text}
+use Rattle.telling.proofs.shows.WaitingDisplay.fmt.Given as goal
+
+abbrev pub invariant-loop-place : goal.invariant-loop-place
+invariant-loop-place g l =
+    IsPlainFormatter l.initial.f → HasWritten g.W.Write.write_str_gives l.initial.f (entries_text (take l.place (waiting l.self.1.now l.self.0))) l.f

@@ -1,0 +1,91 @@
+-- What the parts of a head show, each its lines.
+-- Assumes nothing.
+use Rattle.std.specs.Prelude.{ℕ, List, [], ◌∷◌, codes}
+use Rattle.std.specs.Fmt.{decimal}
+use Rattle.std.specs.declared.option.Option.{Option}
+use Rattle.std.specs.declared.option.Option.TheVariants.{Some, None}
+use Rattle.types.specs.States.{state_number}
+use Rattle.nmt.specs.declared.cn_state_machine.CnNmtStateMachine.{CnNmtStateMachine}
+use Rattle.dll.specs.Dll.{cs_state_number}
+use Rattle.dll.specs.declared.cs_state_machine.DllCsStateMachine.{DllCsStateMachine}
+use Rattle.counters.specs.declared.counters.ThresholdCounter.{ThresholdCounter}
+use Rattle.counters.specs.declared.counters.CnErrorCounters.{CnErrorCounters}
+use Rattle.counters.specs.declared.counters.ByKind.{ByKind}
+use Rattle.head.specs.declared.state.SocWatch.{SocWatch}
+use Rattle.head.specs.declared.state.Dictionary.{Dictionary}
+use Rattle.forms.specs.Hex.{hex_form}
+use Rattle.telling.specs.Texts.{joined, flag_text}
+
+-- where the state machine of the node's life stands, and what a start gave it
+unfoldable pub standing_text : CnNmtStateMachine → List ℕ
+standing_text m =
+    joined
+    (codes "(state " ∷ hex_form 2 (state_number m.current_state) ∷ codes ") (enabled " ∷ flag_text m.ready_to_operate_enabled
+    ∷ codes ") (ready " ∷ flag_text m.app_ready ∷ codes ")" ∷ [])
+
+unfoldable pub identity_text : CnNmtStateMachine → List ℕ
+identity_text m =
+    joined
+    (codes "(node " ∷ decimal m.node_id.0 ∷ codes ") (flags " ∷ decimal m.feature_flags.0 ∷ codes ") (timeout " ∷ decimal m.basic_ethernet_timeout
+    ∷ codes ")" ∷ [])
+
+unfoldable pub nmt_line : CnNmtStateMachine → List ℕ
+nmt_line m = joined (codes "(nmt " ∷ standing_text m ∷ codes " " ∷ identity_text m ∷ codes ")\n" ∷ [])
+
+unfoldable pub dll_line : DllCsStateMachine → List ℕ
+dll_line m = joined (codes "(dll " ∷ decimal (cs_state_number m.state) ∷ codes ")\n" ∷ [])
+
+-- a counter by its name: its level, and how many errors reached it
+unfoldable pub counter_line : List ℕ → ThresholdCounter → List ℕ
+counter_line name c =
+    joined (codes "(" ∷ name ∷ codes " (level " ∷ decimal c.threshold_cnt ∷ codes ") (cumulative " ∷ decimal c.cumulative_cnt ∷ codes "))\n" ∷ [])
+
+unfoldable pub counter_lines : CnErrorCounters → List ℕ
+counter_lines e =
+    joined
+    (counter_line (codes "collision") e.counters.collision ∷ counter_line (codes "loss_of_soc") e.counters.loss_of_soc
+    ∷ counter_line (codes "loss_of_soa") e.counters.loss_of_soa ∷ counter_line (codes "loss_of_preq") e.counters.loss_of_preq
+    ∷ counter_line (codes "soc_jitter") e.counters.soc_jitter ∷ counter_line (codes "crc_errors") e.counters.crc_errors
+    ∷ counter_line (codes "heartbeat_timeout") e.counters.heartbeat_timeout ∷ [])
+
+-- the counters, and how often the link was lost
+unfoldable pub error_lines : CnErrorCounters → List ℕ
+error_lines e = joined (counter_lines e ∷ codes "(loss_of_link " ∷ decimal e.loss_of_link_cumulative ∷ codes ")\n" ∷ [])
+
+-- a moment, or none
+abbrev pub moment_text : Option ℕ → List ℕ
+moment_text None = codes "none"
+moment_text (Some t) = decimal t
+
+unfoldable pub soc_line : SocWatch → List ℕ
+soc_line s =
+    joined
+    (codes "(soc (last " ∷ decimal s.last_soc_reception_time_us ∷ codes ") (check " ∷ flag_text s.soc_timeout_check_active
+    ∷ codes ") (deadline " ∷ moment_text s.next_tick_us ∷ codes ") (status_changed " ∷ flag_text s.error_status_changed ∷ codes "))\n" ∷ [])
+
+-- an object's value, or that it is missing
+abbrev pub object_text : Option ℕ → List ℕ
+object_text None = codes "missing"
+object_text (Some n) = decimal n
+
+unfoldable pub objects_text : Dictionary → List ℕ
+objects_text d =
+    joined
+    (codes "(register " ∷ decimal d.error_register ∷ codes ") (cycle " ∷ object_text d.cycle_time ∷ codes ") (tolerance "
+    ∷ object_text d.tolerance ∷ codes ")" ∷ [])
+
+unfoldable pub statistics_text : Dictionary → List ℕ
+statistics_text d =
+    joined
+    (codes "(c1 " ∷ decimal d.counter_1 ∷ codes ") (c2 " ∷ decimal d.counter_2 ∷ codes ") (c3 " ∷ decimal d.counter_3 ∷ codes ") (c5 "
+    ∷ decimal d.counter_5 ∷ codes ")" ∷ [])
+
+unfoldable pub dictionary_line : Dictionary → List ℕ
+dictionary_line d = joined (codes "(dictionary " ∷ objects_text d ∷ codes " " ∷ statistics_text d ∷ codes ")\n" ∷ [])
+
+-- a number of each of the seven counters, in the order of their lines
+unfoldable pub each_text : ByKind ℕ → List ℕ
+each_text k =
+    joined
+    (decimal k.collision ∷ codes " " ∷ decimal k.loss_of_soc ∷ codes " " ∷ decimal k.loss_of_soa ∷ codes " " ∷ decimal k.loss_of_preq
+    ∷ codes " " ∷ decimal k.soc_jitter ∷ codes " " ∷ decimal k.crc_errors ∷ codes " " ∷ decimal k.heartbeat_timeout ∷ [])

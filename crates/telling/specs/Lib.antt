@@ -1,0 +1,4 @@
+pub mod Texts
+pub mod Answers
+pub mod Heads
+pub mod Shows

@@ -1,0 +1,63 @@
+// Bytes, entries and marks as they are printed.
+ghost use Rattle.std.specs.Prelude.{Some};
+ghost use Rattle.forms.specs.Hex.{hex_digits};
+ghost use Rattle.telling.specs.Texts.{flag_text, bytes_text, entry_text};
+
+use entries::status_response::ErrorEntry;
+use forms::hex;
+use std::fmt;
+use std::fmt::Display;
+use std::str;
+
+/// A mark: 1, or 0.
+#[derive(Clone, Copy)]
+pub struct Flag(pub bool);
+
+impl Display for Flag {
+    ghost output = { λ x. Some (flag_text x.0) };
+
+    fn fmt<W: fmt::Write>(&self, f: &mut fmt::Formatter<W>) -> fmt::Result {
+        f.write_str(if self.0 { "1" } else { "0" })
+    }
+}
+
+/// A byte as two hexadecimal digits.
+#[derive(Clone, Copy)]
+pub struct HexPair(pub u8);
+
+impl Display for HexPair {
+    ghost output = { λ x. Some (hex_digits 2 x.0) };
+
+    fn fmt<W: fmt::Write>(&self, f: &mut fmt::Formatter<W>) -> fmt::Result {
+        let digits: [u8; 2] = hex::digits(u64::from(self.0));
+        f.write_str(str::from_utf8(&digits).map_err(|_| fmt::Error)?)
+    }
+}
+
+/// Bytes behind a space, two hexadecimal digits each.
+#[derive(Clone, Copy)]
+pub struct Bytes<'a>(pub &'a [u8]);
+
+impl Display for Bytes<'_> {
+    ghost output = { λ x. Some (bytes_text x.0.now) };
+
+    fn fmt<W: fmt::Write>(&self, f: &mut fmt::Formatter<W>) -> fmt::Result {
+        write!(f, " ")?;
+        for byte in self.0 {
+            write!(f, "{}", HexPair(*byte))?;
+        }
+        Ok(())
+    }
+}
+
+/// The 20 bytes of an entry behind a space.
+#[derive(Clone, Copy)]
+pub struct EntryBytes(pub ErrorEntry);
+
+impl Display for EntryBytes {
+    ghost output = { λ x. Some (entry_text x.0) };
+
+    fn fmt<W: fmt::Write>(&self, f: &mut fmt::Formatter<W>) -> fmt::Result {
+        write!(f, "{}", Bytes(&self.0.serialize()))
+    }
+}
