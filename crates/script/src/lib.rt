@@ -89,6 +89,7 @@ fn read_call<'a>(name: &str, words: &mut Words<'_>) -> Option<Call<'a>>
             timeout: words.bits64()?,
         },
         "remove" => Call::Remove(words.bits8()?),
+        "due" => Call::NextDue,
         _ => return None,
     })
 }

@@ -101,6 +101,8 @@ impl Display for AnswerForm {
             Answer::Range(SocVerdict::Kept) => write!(f, " kept"),
             Answer::Range(SocVerdict::Open) => write!(f, " open"),
             Answer::Margin(margin) => write!(f, " {margin}"),
+            Answer::Due(Some(moment)) => write!(f, " {moment}"),
+            Answer::Due(None) => write!(f, " none"),
         }
     }
 }
