@@ -1,29 +1,82 @@
-// A script, line by line.
-use crate::station::Station;
+//! A script is played line by line, and what each line prints is written.
+ghost use Rattle.std.specs.Prelude.{◌≡◌, ℕ, List, Some, OnOk, IfSome};
+ghost use Rattle.std.specs.Io.Buffered.{reader_remaining};
+ghost use Rattle.std.specs.Io.BufRead.{strip_last};
+ghost use Rattle.std.specs.Io.KnownBytes.{Appends, Keeps};
+ghost use Rattle.replay.specs.Played.{fresh, said_text, Script};
+
+use crate::station::{Said, Station};
 use script::{LineBytes, read};
 use std::alloc::Global;
+use std::fmt;
+use std::fmt::Display;
 use std::io;
-use std::io::{BufRead, BufReader, BufWriter, Read, Write};
+use std::io::{BufRead, BufReader, ErrorKind, Read, Write};
 
-/// Plays a script from a reader, and writes what it prints. The last line may lack its newline.
-pub fn play<R: Read + Drop, W: Write + Drop>(alloc: Global, script: R, out: W) -> io::Result<()> {
-    let mut script = BufReader::with_capacity(alloc, 65536, script)?;
-    let mut out = BufWriter::with_capacity(alloc, 65536, out)?;
+/// What a line prints at a place of the script, from 1, on the station that it left.
+#[derive(Clone, Copy)]
+struct Printed<'a> {
+    said: Said,
+    place: u64,
+    station: &'a Station,
+}
+
+impl Display for Printed<'_> {
+    ghost output = { λ x. Some (said_text x.said x.place x.station.now) };
+
+    fn fmt<W: fmt::Write>(&self, f: &mut fmt::Formatter<W>) -> fmt::Result {
+        match self.said {
+            Said::Nothing => Ok(()),
+            Said::Unreadable => writeln!(f, "(unreadable {})", self.place),
+            Said::Reply(reply) => write!(f, "{reply}"),
+            Said::Show => write!(f, "{}", self.station.shown()),
+        }
+    }
+}
+
+// A line without its newline; the last one of a script may have none.
+fn without_newline(line: &[u8]) -> &[u8]
+    ensures { result.now ≡ strip_last 10 line.now }
+{
+    match line {
+        [front @ .., b'\n'] => front,
+        _ => line,
+    }
+}
+
+// What was printed is flushed before more of the script is waited for.
+fn flush_before_reading<R: Read, W: Write>(script: &BufReader<R>, out: &mut W) -> io::Result<()>
+    ensures { Keeps (W.contents out.old) (W.contents out.new) }
+{
+    if script.buffer().is_empty() {
+        out.flush()?;
+    }
+    Ok(())
+}
+
+/// Plays a script to its end, and writes what each line prints. What is printed is flushed before
+/// more of the script is read.
+pub fn play<R: Read, W: Write>(
+    alloc: Global,
+    script: &mut BufReader<R>,
+    out: &mut W,
+) -> io::Result<()>
+    ensures { OnOk result (IfSome (reader_remaining R.remaining script.old)
+        (λ bytes. (page : List ℕ) × Script fresh 1 bytes page
+            × Appends (W.contents out.old) (W.contents out.new) page)) }
+{
     let mut station = Station::new();
     let mut line = Vec::new(alloc);
     let mut bytes = LineBytes::new();
     for place in 1..u64::MAX {
-        if script.buffer().is_empty() {
-            out.flush()?;
-        }
+        flush_before_reading(script, out)?;
         line.clear();
         if script.read_until(b'\n', &mut line)? == 0 {
-            break;
+            return out.flush();
         }
-        let text = line.as_slice();
-        let text = text.strip_suffix(b"\n").unwrap_or(text);
-        let said = station.play(place, read(text, &mut bytes));
-        write!(out, "{said}")?;
+        let said = station.play(read(without_newline(&line), &mut bytes));
+        let station = &station;
+        write!(out, "{}", Printed { said, place, station })?;
     }
-    out.flush()
+    Err(io::Error::from(ErrorKind::InvalidInput))
 }

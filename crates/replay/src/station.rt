@@ -1,61 +1,110 @@
-// What the lines of a script are played on.
+//! What the lines of a script are played on, and what each does there.
+ghost use Rattle.std.specs.Prelude.{◌≡◌, take, drop};
+ghost use Rattle.watched.specs.Watched.{run as run_of};
+ghost use Rattle.start.specs.Started.{StartedOn};
+ghost use Rattle.calling.specs.Held.{held};
+ghost use Rattle.calling.specs.Made.{Made};
+
 use arrayvec::ArrayVec;
-use bitmap::bitmap;
-use calling::nodes::{Nodes, Records};
-use calling::{Call, make};
+use calling::{Answer, Call, make_over_records};
 use entries::desk::{read_at, write_at};
 use entries::status_response::ErrorEntry;
 use head::state::Head;
+use lent::bits::bitmap;
+use lent::calls::start;
 use script::Line;
 use start::start::Setup;
-use std::fmt;
-use std::fmt::Display;
-use telling::answers::{Reply, Told};
+use telling::answers::{Bitmap, Reply, Told};
 use telling::shows::Shown;
 use types::frame::error::kinds::DllErrorKind;
 use types::nmt::events::NmtStateCommand;
 use types::nmt::states::NmtState;
 use types::refusals::Refusal;
 use watched::nodes::WatchedNode;
-use watched::record::NodeRecord;
 
-/// A head with its memory, the run of watched nodes, of which so many places are lent, and the desk's buffer. Before the first start that is
-/// accepted no line reaches the head.
+/// A head with its memory, the run of watched nodes, of which so many places are lent with their
+/// number, and the bytes of the desk.
 #[derive(Drop)]
 pub struct Station {
-    started: bool,
-    head: Head,
-    queue: [u8; 640],
-    history: [u8; 5080],
-    run: [WatchedNode; 40],
+    /// Whether a start was taken: before that no line reaches the head.
+    pub started: bool,
+    pub head: Head,
+    pub queue: [u8; 640],
+    pub history: [u8; 5080],
+    pub run: [WatchedNode; 40],
+    pub places: usize,
+    pub number: usize,
+    pub desk: ArrayVec<u8, 100>,
+}
+
+/// What a line is answered.
+#[derive(Clone, Copy)]
+pub enum Said {
+    Nothing,
+    /// It can't be read, or can't be played where it stands.
+    Unreadable,
+    Reply(Reply),
+    /// The station is shown.
+    Show,
+}
+
+// A call that is lent the first so many of some places.
+fn make_over_places(
+    head: &mut Head,
+    queue: &mut [u8; 640],
+    history: &mut [u8; 5080],
+    run: &mut [WatchedNode; 40],
+    places: usize,
+    number: &mut usize,
+    call: Call<'_>,
+) -> Result<Answer, Refusal>
+    ensures made { Made (held head.old queue.old history.old (run_of (take places run.old) number.old)) call.entry result
+        (held head.new queue.new history.new (run_of (take places run.new) number.new)) }
+    ensures past { drop places run.new ≡ drop places run.old }
+{
+    let lent = &mut run[..places.min(40)];
+    make_over_records(head, queue, history, lent, number, call)
+}
+
+// A start over them.
+fn start_over_places(
+    head: &mut Head,
+    run: &mut [WatchedNode; 40],
     places: usize,
     number: usize,
-    desk: ArrayVec<u8, 100>,
+    setup: Setup,
+) -> Result<(), Refusal>
+    ensures started { StartedOn head.old (run_of (take places run.old) number) setup result head.new (run_of (take places run.new) number) }
+    ensures past { drop places run.new ≡ drop places run.old }
+{
+    start(head, &mut run[..places.min(40)], number, setup)
 }
 
-/// What a line prints.
-#[derive(Clone, Copy)]
-pub enum Said<'a> {
-    Nothing,
-    /// The line at this place of the script can't be read, or can't be played where it stands.
-    Unreadable(u64),
-    Reply(Reply),
-    Shown(Shown<'a>),
-}
+impl Said {
+    ghost use Rattle.replay.specs.declared.station.Said.TheVariants as said;
+    ghost use Rattle.replay.specs.Played.{taken_by};
 
-impl Display for Said<'_> {
-    fn fmt<W: fmt::Write>(&self, f: &mut fmt::Formatter<W>) -> fmt::Result {
-        match *self {
-            Said::Nothing => Ok(()),
-            Said::Unreadable(place) => writeln!(f, "(unreadable {place})"),
-            Said::Reply(reply) => write!(f, "{reply}"),
-            Said::Shown(shown) => write!(f, "{shown}"),
-        }
+    fn reply(answer: Result<Told, Refusal>) -> Said
+        ensures { result ≡ said.Reply (record { 0 = answer }) }
+    {
+        Said::Reply(Reply(answer))
+    }
+
+    fn taken(answer: Result<(), Refusal>) -> Said
+        ensures { result ≡ said.Reply (record { 0 = taken_by answer }) }
+    {
+        Said::reply(answer.map(|()| Told::Answer(Answer::Taken)))
     }
 }
 
 impl Station {
-    pub fn new() -> Station {
+    ghost use Rattle.telling.specs.Shows.{shown_text};
+    ghost use Rattle.replay.specs.Played.{station_text, fresh, Called, Began, Bits, Wrote, Quiet, watched_in, unwatched, lending, laid, takes, Plays};
+
+    /// Nothing has been started, lent or laid on the desk.
+    pub fn new() -> Station
+        ensures { result ≡ fresh }
+    {
         Station {
             started: false,
             head: [0; 60],
@@ -68,126 +117,144 @@ impl Station {
         }
     }
 
-    // Whether a line can be played as things stand.
-    fn takes(&self, line: &Line<'_>) -> bool {
-        match line {
-            Line::Unreadable => false,
-            Line::Watch(_) => self.number < 40,
-            Line::Nothing | Line::Unwatch | Line::Lend { .. } | Line::Desk(_) | Line::Start(_) => {
-                true
-            }
-            _ => self.started,
-        }
+    // The places that are lent.
+    fn lent(&self) -> &[WatchedNode]
+        ensures { result.now ≡ take self.now.places self.now.run }
+    {
+        &self.run[..self.places.min(40)]
     }
 
-    fn call(&mut self, call: Call<'_>) -> Result<Told, Refusal> {
-        let mut nodes = Records {
-            run: &mut self.run[..self.places],
-        };
-        make(
+    fn call(&mut self, call: Call<'_>) -> Result<Answer, Refusal>
+        ensures { Called call.entry self.old result self.new }
+    {
+        make_over_places(
             &mut self.head,
             &mut self.queue,
             &mut self.history,
-            &mut nodes,
+            &mut self.run,
+            self.places,
             &mut self.number,
             call,
         )
-        .map(Told::Answer)
     }
 
-    fn start(&mut self, setup: Setup) -> Result<Told, Refusal> {
-        let mut nodes = Records {
-            run: &mut self.run[..self.places],
-        };
-        nodes.start(&mut self.head, self.number, setup)?;
+    fn start(&mut self, setup: Setup) -> Result<(), Refusal>
+        ensures { Began setup self.old result self.new }
+    {
+        start_over_places(&mut self.head, &mut self.run, self.places, self.number, setup)?;
         self.started = true;
-        Ok(Told::Answer(calling::Answer::Taken))
+        Ok(())
     }
 
-    fn bitmap(&self) -> Result<Told, Refusal> {
-        let mut words = [0; 96];
-        for place in 0..32 {
-            NodeRecord::from(self.run[place]).put(&mut words, place);
-        }
+    fn bitmap(&self) -> Result<Bitmap, Refusal>
+        ensures { Bits self.now result }
+    {
         let mut bytes = [0; 32];
-        let number = if self.places == 32 { self.number } else { 33 };
-        let number = bitmap(&words, number, &mut bytes)?;
-        Ok(Told::Bitmap { number, bytes })
+        let number = bitmap(self.lent(), self.number, &mut bytes)?;
+        Ok(Bitmap { number, bytes })
     }
 
-    fn entry_write(&mut self, place: u64, entry: ErrorEntry) -> Result<Told, Refusal> {
-        write_at(self.desk.as_mut_slice(), place, entry)?;
-        Ok(Told::Answer(calling::Answer::Taken))
+    fn entry_write(&mut self, place: u64, entry: ErrorEntry) -> Result<(), Refusal>
+        ensures { Wrote place entry self.old result self.new }
+    {
+        write_at(self.desk.as_mut_slice(), place, entry)
     }
 
-    fn watch(&mut self, node: WatchedNode) {
+    // One node more is watched, with as many places as that needs; there are 40.
+    fn watch(&mut self, node: WatchedNode) -> Said
+        ensures { Quiet (watched_in self.old node) result self.new }
+    {
         if self.number < 40 {
             self.run[self.number] = node;
             self.number += 1;
             self.places = self.places.max(self.number);
         }
+        Said::Nothing
     }
 
-    fn lay(&mut self, bytes: &[u8]) {
+    // The run is as at first.
+    fn unwatch(&mut self) -> Said
+        ensures { Quiet (unwatched self.old) result self.new }
+    {
+        self.run = [WatchedNode::NONE; 40];
+        self.places = 32;
+        self.number = 0;
+        Said::Nothing
+    }
+
+    // So many places are lent from now on, of 40, with this number.
+    fn lend(&mut self, places: usize, number: usize) -> Said
+        ensures { Quiet (lending self.old places number) result self.new }
+    {
+        self.places = places.min(40);
+        self.number = number;
+        Said::Nothing
+    }
+
+    // The desk has these bytes from now on, at most 100.
+    fn lay(&mut self, bytes: &[u8]) -> Said
+        ensures { Quiet (laid self.old bytes.now) result self.new }
+    {
         self.desk.clear();
-        let _ = self.desk.try_extend_from_slice(bytes);
+        let front = &bytes[..100.min(bytes.len())];
+        self.desk.try_extend_from_slice(front).unwrap();
+        Said::Nothing
     }
 
-    fn shown(&self) -> Shown<'_> {
+    // Whether a line can be played as things stand: a watch where there is a place for it, and
+    // what reaches the head behind a start that was taken.
+    fn takes(&self, line: Line<'_>) -> bool
+        ensures { result ≡ takes line.entry self.now }
+    {
+        match line {
+            Line::Watch(_) => self.number < 40,
+            Line::Nothing
+            | Line::Unreadable
+            | Line::Start(_)
+            | Line::Unwatch
+            | Line::Lend { .. }
+            | Line::Desk(_) => true,
+            _ => self.started,
+        }
+    }
+
+    /// Plays a line: what it is answered.
+    pub fn play(&mut self, line: Line<'_>) -> Said
+        ensures { Plays line.entry self.old result self.new }
+    {
+        if !self.takes(line) {
+            return Said::Unreadable;
+        }
+        match line {
+            Line::Nothing => Said::Nothing,
+            Line::Unreadable => Said::Unreadable,
+            Line::Start(setup) => Said::taken(self.start(setup)),
+            Line::Watch(node) => self.watch(node),
+            Line::Unwatch => self.unwatch(),
+            Line::Lend { places, number } => self.lend(places, number),
+            Line::Desk(bytes) => self.lay(bytes),
+            Line::Call(call) => Said::reply(self.call(call).map(Told::Answer)),
+            Line::Bitmap => Said::reply(self.bitmap().map(Told::Bitmap)),
+            Line::EntryWrite { place, entry } => Said::taken(self.entry_write(place, entry)),
+            Line::EntryRead(bytes) => Said::reply(read_at(bytes, 0).map(Told::Entry)),
+            Line::State(n) => Said::reply(NmtState::try_from(n).map(Told::State)),
+            Line::Command(n) => Said::reply(NmtStateCommand::try_from(n).map(Told::Command)),
+            Line::Kind(n) => Said::reply(DllErrorKind::from_error_code(n).map(Told::Kind)),
+            Line::Show => Said::Show,
+        }
+    }
+
+    /// What `show` prints.
+    pub fn shown(&self) -> Shown<'_>
+        ensures { shown_text result ≡ station_text self.now }
+    {
         Shown {
             head: &self.head,
             queue: &self.queue,
             history: &self.history,
-            run: &self.run[..self.places],
+            run: self.lent(),
             number: self.number,
             desk: self.desk.as_slice(),
-        }
-    }
-
-    fn reply(&mut self, line: Line<'_>) -> Option<Result<Told, Refusal>> {
-        Some(match line {
-            Line::Call(call) => self.call(call),
-            Line::Start(setup) => self.start(setup),
-            Line::Bitmap => self.bitmap(),
-            Line::EntryWrite { place, entry } => self.entry_write(place, entry),
-            Line::EntryRead(bytes) => read_at(bytes, 0).map(Told::Entry),
-            Line::State(number) => NmtState::try_from(number).map(Told::State),
-            Line::Command(number) => NmtStateCommand::try_from(number).map(Told::Command),
-            Line::Kind(code) => DllErrorKind::from_error_code(code).map(Told::Kind),
-            _ => return None,
-        })
-    }
-
-    // What is no call.
-    fn arrange(&mut self, line: Line<'_>) {
-        match line {
-            Line::Watch(node) => self.watch(node),
-            Line::Unwatch => {
-                self.run = [WatchedNode::NONE; 40];
-                self.places = 32;
-                self.number = 0;
-            }
-            Line::Lend { places, number } => {
-                self.places = places;
-                self.number = number;
-            }
-            Line::Desk(bytes) => self.lay(bytes),
-            _ => {}
-        }
-    }
-
-    /// Plays a line at a place of the script; what it prints.
-    pub fn play(&mut self, place: u64, line: Line<'_>) -> Said<'_> {
-        if !self.takes(&line) {
-            return Said::Unreadable(place);
-        }
-        if let Line::Show = line {
-            return Said::Shown(self.shown());
-        }
-        self.arrange(line);
-        match self.reply(line) {
-            Some(reply) => Said::Reply(Reply(reply)),
-            None => Said::Nothing,
         }
     }
 }

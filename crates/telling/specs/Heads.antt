@@ -11,6 +11,7 @@ use Rattle.dll.specs.declared.cs_state_machine.DllCsStateMachine.{DllCsStateMach
 use Rattle.counters.specs.declared.counters.ThresholdCounter.{ThresholdCounter}
 use Rattle.counters.specs.declared.counters.CnErrorCounters.{CnErrorCounters}
 use Rattle.counters.specs.declared.counters.ByKind.{ByKind}
+use Rattle.head.specs.Head.{moment_in}
 use Rattle.head.specs.declared.state.SocWatch.{SocWatch}
 use Rattle.head.specs.declared.state.Dictionary.{Dictionary}
 use Rattle.forms.specs.Hex.{hex_form}
@@ -61,7 +62,7 @@ unfoldable pub soc_line : SocWatch → List ℕ
 soc_line s =
     joined
     (codes "(soc (last " ∷ decimal s.last_soc_reception_time_us ∷ codes ") (check " ∷ flag_text s.soc_timeout_check_active
-    ∷ codes ") (deadline " ∷ moment_text s.next_tick_us ∷ codes ") (status_changed " ∷ flag_text s.error_status_changed ∷ codes "))\n" ∷ [])
+    ∷ codes ") (deadline " ∷ moment_text (moment_in s.next_tick_us) ∷ codes ") (status_changed " ∷ flag_text s.error_status_changed ∷ codes "))\n" ∷ [])
 
 -- an object's value, or that it is missing
 abbrev pub object_text : Option ℕ → List ℕ

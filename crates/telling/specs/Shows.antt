@@ -87,9 +87,12 @@ unfoldable pub threshold_line : List ℕ → List ℕ
 threshold_line ws =
     joined (codes "(thresholds " ∷ each_text (each_of (λ (c : ThresholdCounter). c.threshold) (errors_of ws)) ∷ codes ")\n" ∷ [])
 
--- all of it
-abbrev pub shown_text : Shown → List ℕ
-shown_text s =
+-- all of it: of the words of a head, the bytes of its queue and history, the run that is lent, its number, and the desk's bytes
+unfoldable pub show_text : List ℕ → List ℕ → List ℕ → List WatchedNode → ℕ → List ℕ → List ℕ
+show_text ws q m places n desk =
     joined
-    (head_lines s.head.now ∷ queue_line s.queue.now (queue_of s.head.now) ∷ history_line s.history.now (history_of s.head.now)
-    ∷ run_lines s.run.now s.number ∷ crossing_lines s.head.now ∷ desk_line s.desk.now ∷ threshold_line s.head.now ∷ [])
+    (head_lines ws ∷ queue_line q (queue_of ws) ∷ history_line m (history_of ws) ∷ run_lines places n ∷ crossing_lines ws ∷ desk_line desk
+    ∷ threshold_line ws ∷ [])
+
+abbrev pub shown_text : Shown → List ℕ
+shown_text s = show_text s.head.now s.queue.now s.history.now s.run.now s.number s.desk.now

@@ -163,7 +163,7 @@ impl Display for SocLine {
             "(soc (last {}) (check {}) (deadline {}) (status_changed {}))",
             soc.last_soc_reception_time_us,
             Flag(soc.soc_timeout_check_active),
-            Moment(soc.next_tick_us),
+            Moment(soc.next_tick_us.moment()),
             Flag(soc.error_status_changed)
         )
     }

@@ -28,6 +28,7 @@ pub struct Shown<'a> {
     pub desk: &'a [u8],
 }
 
+#[tactic(auto, unfolding(crate::specs::Shows::show_text))]
 impl Display for Shown<'_> {
     ghost output = { λ x. Some (shown_text x) };
 

@@ -1,0 +1,220 @@
+-- What the lines of a script do on a station, and what they print.
+-- Assumes nothing.
+use Rattle.std.specs.Prelude.{ℕ, ◌≡◌, ◌+◌, ◌<◌, length, Bool, true, false, nat_lt, max, min, if◌then◌else◌, Option, Some, None, MatchBool, MatchOption, MatchResult, List, [], ◌∷◌, ◌++◌, take, drop, set, replicate, codes}
+use Rattle.std.specs.Fmt.{decimal}
+use Rattle.std.specs.Io.BufRead.{first_piece, drop_through}
+use Rattle.std.specs.declared.result.Result.{Result}
+use Rattle.std.specs.declared.result.Result.TheVariants.{Ok, Err}
+use Rattle.types.specs.declared.refusals.Refusal.{Refusal}
+use Rattle.types.specs.declared.frame.error.kinds.DllErrorKind.{DllErrorKind}
+use Rattle.types.specs.declared.nmt.states.NmtState.{NmtState}
+use Rattle.types.specs.declared.nmt.events.NmtStateCommand.{NmtStateCommand}
+use Rattle.types.specs.States.{read_state}
+use Rattle.types.specs.Events.{read_command}
+use Rattle.types.specs.Kinds.{kind_said, kind_behind}
+use Rattle.entries.specs.Desk.{read_said, read_reply, write_said, write_reply, desk_after}
+use Rattle.entries.specs.declared.status_response.ErrorEntry.{ErrorEntry}
+use Rattle.watched.specs.Watched.{Run, run, no_node}
+use Rattle.watched.specs.declared.nodes.WatchedNode.{WatchedNode}
+use Rattle.bitmap.specs.Bitmap.{BitsWritten, bitmap_said, bitmap_reply}
+use Rattle.start.specs.declared.start.Setup.{Setup}
+use Rattle.start.specs.Started.{StartedOn}
+use Rattle.calling.specs.declared.Call.{Call}
+use Rattle.calling.specs.declared.Answer.{Answer}
+use Rattle.calling.specs.declared.Answer.TheVariants as answer
+use Rattle.calling.specs.Held.{Held, held}
+use Rattle.calling.specs.Made.{Made}
+use Rattle.script.specs.declared.Line.{Line}
+use Rattle.script.specs.declared.Line.TheVariants as line
+use Rattle.script.specs.Grammar.{says, line_says}
+use Rattle.telling.specs.declared.answers.Told.{Told}
+use Rattle.telling.specs.declared.answers.Told.TheVariants as told
+use Rattle.telling.specs.declared.answers.Reply.{Reply}
+use Rattle.telling.specs.declared.answers.Bitmap.{Bitmap}
+use Rattle.telling.specs.Texts.{joined}
+use Rattle.telling.specs.Answers.{reply_text}
+use Rattle.telling.specs.Shows.{show_text}
+use Rattle.replay.specs.declared.station.Station.{Station}
+use Rattle.replay.specs.declared.station.Said.{Said}
+use Rattle.replay.specs.declared.station.Said.TheVariants as said
+
+-- the run that is lent, and what a call is made on
+abbrev pub lent_of : Station → Run
+lent_of x = run (take x.places x.run) x.number
+
+abbrev pub held_of : Station → Held
+held_of x = held x.head x.queue x.history (lent_of x)
+
+-- a station at which nothing has been started, lent or laid on the desk
+abbrev pub fresh : Station
+fresh =
+    record {
+      started = false;
+      head = replicate 60 0;
+      queue = replicate 640 0;
+      history = replicate 5080 0;
+      run = replicate 40 no_node;
+      places = 32;
+      number = 0;
+      desk = record { items = [] };
+    }
+
+-- the station with another run, and with other bytes on the desk
+abbrev pub with_run : Station → List WatchedNode → ℕ → ℕ → Station
+with_run x ws places number = record x { run = ws; places = places; number = number }
+
+abbrev pub with_desk : Station → List ℕ → Station
+with_desk x bs = record x { desk = record { items = bs } }
+
+-- a line that is no call: one node more is watched, with as many places as that needs, where there is one of the 40
+abbrev pub watched_in : Station → WatchedNode → Station
+watched_in x w =
+    if nat_lt x.number 40 then with_run x (set x.run x.number w) (max x.places (x.number + 1)) (x.number + 1) else x
+
+abbrev pub unwatched : Station → Station
+unwatched x = with_run x (replicate 40 no_node) 32 0
+
+abbrev pub lending : Station → ℕ → ℕ → Station
+lending x places number = with_run x x.run (min places 40) number
+
+abbrev pub laid : Station → List ℕ → Station
+laid x bs = with_desk x (take 100 bs)
+
+-- The places that are not lent, how many are, and the desk: a call leaves them.
+pub record Beside (x y : Station) : Type 0 where
+  pub places : y.places ≡ x.places
+  pub past : drop x.places y.run ≡ drop x.places x.run
+  pub desk : y.desk ≡ x.desk
+
+-- A call, as it was made.
+pub record Called (c : Call) (x : Station) (o : Result Answer Refusal) (y : Station) : Type 0 where
+  pub made : Made (held_of x) c o (held_of y)
+  pub started : y.started ≡ x.started
+  pub beside : Beside x y
+
+-- A start: behind the first that is taken the head is started.
+abbrev pub begun_by : Bool → Result (Unit {0}) Refusal → Bool
+begun_by started (Ok u) = true
+begun_by started (Err r) = started
+
+pub record Began (s : Setup) (x : Station) (o : Result (Unit {0}) Refusal) (y : Station) : Type 0 where
+  pub on : StartedOn x.head (lent_of x) s o y.head (lent_of y)
+  pub started : y.started ≡ begun_by x.started o
+  pub queue : y.queue ≡ x.queue
+  pub history : y.history ≡ x.history
+  pub beside : Beside x y
+
+-- The watched nodes as bits, or the refusal of the run.
+abbrev pub Bits : Station → Result Bitmap Refusal → Type 0
+Bits x (Ok b) = BitsWritten (lent_of x) (replicate 32 0) (Ok b.number) b.bytes
+Bits x (Err r) = bitmap_said (Err r) ≡ bitmap_reply (lent_of x)
+
+-- An entry that is written into the desk's bytes.
+pub record Wrote (place : ℕ) (e : ErrorEntry) (x : Station) (o : Result (Unit {0}) Refusal) (y : Station) : Type 0 where
+  pub said : write_said o ≡ write_reply x.desk.items place e
+  pub left : y ≡ with_desk x (desk_after x.desk.items place e)
+
+-- What a reply tells, of one kind: its answer is as P says.
+abbrev pub Tells : {A : Type 0} → (Told → Option A) → (Result A Refusal → Type 0) → Said → Type 0
+Tells kind P said.Nothing = ⊥
+Tells kind P said.Unreadable = ⊥
+Tells kind P said.Show = ⊥
+Tells kind P (said.Reply r) = MatchResult r.0 (λ t. MatchOption (kind t) ⊥ (λ a. P (Ok a))) (λ e. P (Err e))
+
+abbrev pub answer_in : Told → Option Answer
+answer_in (told.Answer a) = Some a
+answer_in t = None
+
+abbrev pub taken_in : Told → Option (Unit {0})
+taken_in (told.Answer answer.Taken) = Some tt
+taken_in t = None
+
+abbrev pub bitmap_in : Told → Option Bitmap
+bitmap_in (told.Bitmap b) = Some b
+bitmap_in t = None
+
+abbrev pub entry_in : Told → Option ErrorEntry
+entry_in (told.Entry e) = Some e
+entry_in t = None
+
+abbrev pub state_in : Told → Option NmtState
+state_in (told.State s) = Some s
+state_in t = None
+
+abbrev pub command_in : Told → Option NmtStateCommand
+command_in (told.Command c) = Some c
+command_in t = None
+
+abbrev pub kind_in : Told → Option DllErrorKind
+kind_in (told.Kind k) = Some k
+kind_in t = None
+
+-- an answer that tells nothing
+abbrev pub taken_by : Result (Unit {0}) Refusal → Result Told Refusal
+taken_by (Ok u) = Ok (told.Answer answer.Taken)
+taken_by (Err r) = Err r
+
+-- whether a line can be played as things stand: a watch where there is a place, and what reaches the head behind a start that was taken
+abbrev pub takes : Line → Station → Bool
+takes line.Nothing x = true
+takes line.Unreadable x = true
+takes (line.Start s) x = true
+takes (line.Watch w) x = nat_lt x.number 40
+takes line.Unwatch x = true
+takes (line.Lend places number) x = true
+takes (line.Desk bs) x = true
+takes (line.Call c) x = x.started
+takes line.Bitmap x = x.started
+takes (line.EntryWrite place e) x = x.started
+takes (line.EntryRead bs) x = x.started
+takes (line.State n) x = x.started
+takes (line.Command n) x = x.started
+takes (line.Kind n) x = x.started
+takes line.Show x = x.started
+
+-- a line that tells nothing, and leaves another station
+abbrev pub Quiet : Station → Said → Station → Type 0
+Quiet z o y = (o ≡ said.Nothing) × (y ≡ z)
+
+-- what a line does that can be played
+abbrev pub Does : Line → Station → Said → Station → Type 0
+Does line.Nothing x o y = Quiet x o y
+Does line.Unreadable x o y = (o ≡ said.Unreadable) × (y ≡ x)
+Does (line.Start s) x o y = Tells taken_in (λ r. Began s x r y) o
+Does (line.Watch w) x o y = Quiet (watched_in x w) o y
+Does line.Unwatch x o y = Quiet (unwatched x) o y
+Does (line.Lend places number) x o y = Quiet (lending x places number) o y
+Does (line.Desk bs) x o y = Quiet (laid x bs.now) o y
+Does (line.Call c) x o y = Tells answer_in (λ r. Called c x r y) o
+Does line.Bitmap x o y = Tells bitmap_in (Bits x) o × (y ≡ x)
+Does (line.EntryWrite place e) x o y = Tells taken_in (λ r. Wrote place e x r y) o
+Does (line.EntryRead bs) x o y = Tells entry_in (λ r. read_said r ≡ read_reply bs.now 0) o × (y ≡ x)
+Does (line.State n) x o y = Tells state_in (λ r. r ≡ read_state n) o × (y ≡ x)
+Does (line.Command n) x o y = Tells command_in (λ r. r ≡ read_command n) o × (y ≡ x)
+Does (line.Kind n) x o y = Tells kind_in (λ r. kind_said r ≡ kind_behind n) o × (y ≡ x)
+Does line.Show x o y = (o ≡ said.Show) × (y ≡ x)
+
+-- a line that is played where it can be
+abbrev pub Plays : Line → Station → Said → Station → Type 0
+Plays l x o y = MatchBool (takes l x) (Does l x o y) ((o ≡ said.Unreadable) × (y ≡ x))
+
+-- what `show` prints of a station, and what a line prints at a place of the script, from 1
+abbrev pub station_text : Station → List ℕ
+station_text x = show_text x.head x.queue x.history (take x.places x.run) x.number x.desk.items
+
+abbrev pub said_text : Said → ℕ → Station → List ℕ
+said_text said.Nothing n x = []
+said_text said.Unreadable n x = joined (codes "(unreadable " ∷ decimal n ∷ codes ")\n" ∷ [])
+said_text (said.Reply r) n x = reply_text r.0
+said_text said.Show n x = station_text x
+
+-- The bytes of a script from a place on, and what is printed of them: each line up to its newline, or to the end, on the station that the last one left.
+pub data Script : Station → ℕ → List ℕ → List ℕ → Type 0 where
+  ended : {x : Station} {n : ℕ} → Script x n [] []
+  goes :
+      {x y : Station} {n : ℕ} {bs page : List ℕ} (l : Line) (o : Said) →
+      0 < length bs →
+      says l ≡ line_says (first_piece 10 bs) →
+      Plays l x o y →
+      Script y (n + 1) (drop_through 10 bs) page →
+      Script x n bs (said_text o n y ++ page)
