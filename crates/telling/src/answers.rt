@@ -3,7 +3,7 @@ ghost use Rattle.std.specs.Prelude.{Some};
 ghost use Rattle.forms.specs.Hex.{hex_form};
 ghost use Rattle.telling.specs.Answers.{entered_text, restored_text, nmt_text, error_taken_text, answer_text, type_text, read_text, bitmap_text, told_text, reply_text};
 
-use crate::texts::{Bytes, EntryBytes, Flag};
+use crate::texts::{Digits, EntryBytes, Flag};
 use calling::Answer;
 use counters::counters::ErrorTaken;
 use entries::status_response::{EntryType, ErrorEntry};
@@ -46,7 +46,7 @@ impl Display for Bitmap {
     ghost output = { λ x. Some (bitmap_text x) };
 
     fn fmt<W: fmt::Write>(&self, f: &mut fmt::Formatter<W>) -> fmt::Result {
-        write!(f, " (nodes {}){}", self.number, Bytes(&self.bytes))
+        write!(f, " (nodes {}) {}", self.number, Digits::of(&self.bytes))
     }
 }
 

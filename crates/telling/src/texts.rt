@@ -1,8 +1,9 @@
 // Bytes, entries and marks as they are printed.
-ghost use Rattle.std.specs.Prelude.{Some};
+ghost use Rattle.std.specs.Prelude.{◌≡◌, ◌≤◌, length, Some};
 ghost use Rattle.forms.specs.Hex.{hex_digits};
 ghost use Rattle.telling.specs.Texts.{flag_text, bytes_text, entry_text};
 
+use arrayvec::ArrayVec;
 use entries::status_response::ErrorEntry;
 use forms::hex;
 use std::fmt;
@@ -50,6 +51,38 @@ impl Display for Bytes<'_> {
     }
 }
 
+/// The hexadecimal digits of bytes, two each, of up to 32 bytes.
+#[derive(Drop)]
+pub struct Digits {
+    text: ArrayVec<u8, 64>,
+}
+
+impl Digits {
+    ghost use Rattle.telling.specs.Texts.{digits_text};
+
+    /// The digits of these bytes.
+    pub fn of(bytes: &[u8]) -> Digits
+        requires { length bytes.now ≤ 32 }
+        ensures { result.text.items ≡ digits_text bytes.now }
+    {
+        let mut text = ArrayVec::new();
+        for byte in bytes {
+            let [high, low]: [u8; 2] = hex::digits(u64::from(*byte));
+            text.push(high);
+            text.push(low);
+        }
+        Digits { text }
+    }
+}
+
+impl Display for Digits {
+    ghost output = { λ x. Some x.text.items };
+
+    fn fmt<W: fmt::Write>(&self, f: &mut fmt::Formatter<W>) -> fmt::Result {
+        f.write_str(str::from_utf8(self.text.as_slice()).map_err(|_| fmt::Error)?)
+    }
+}
+
 /// The 20 bytes of an entry behind a space.
 #[derive(Clone, Copy)]
 pub struct EntryBytes(pub ErrorEntry);
@@ -58,6 +91,6 @@ impl Display for EntryBytes {
     ghost output = { λ x. Some (entry_text x.0) };
 
     fn fmt<W: fmt::Write>(&self, f: &mut fmt::Formatter<W>) -> fmt::Result {
-        write!(f, "{}", Bytes(&self.0.serialize()))
+        write!(f, " {}", Digits::of(&self.0.serialize()))
     }
 }
