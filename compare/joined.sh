@@ -9,7 +9,7 @@ here=$(cd "$(dirname "${BASH_SOURCE[0]}")" && pwd)
 stored="$(dirname "$here")/crates/replay/stdin"
 
 joined() {
-    for name in rules examples resets restored counts thresholds kinds ranges partners queue generated-11 generated-12 generated-13 desk reading; do
+    for name in rules examples resets restored counts thresholds kinds ranges partners queue due generated-11 generated-12 generated-13 desk reading; do
         cat "$here/scripts/$name.txt"
     done
 }

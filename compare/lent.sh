@@ -28,8 +28,8 @@ fail() {
     exit 1
 }
 
-# The crates that crate lent stands on, and it.
-crates="$(sed -n 's/^lent: //p' "$root/crates.txt") lent"
+# The crates that crate lent stands on, it, and the moment of the next tick.
+crates="$(sed -n 's/^lent: //p' "$root/crates.txt") lent due"
 
 # Copies their sources into the folder $1, with the driver above them.
 copy() {

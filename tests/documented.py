@@ -8,7 +8,8 @@ import pathlib
 import re
 import sys
 
-CRATES = """types nmt dll counters entries watched bitmap lentlaws forms shift shiftreport reach positions readings transitions
+CRATES = """types nmt dll counters entries head watched bitmap node partners start heartbeats tick
+due lentlaws lent calling trace forms shift shiftreport reach positions readings transitions
 counting entry_bytes chart examples""".split()
 ROOT = pathlib.Path(__file__).resolve().parent.parent
 ITEM = re.compile(r'^ *pub(?:\(crate\))? (?:const |static |extern "C" )*(?:fn|struct|enum|trait|type|(?=[A-Z_]+:)) ?(\w+)')

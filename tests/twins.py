@@ -96,14 +96,22 @@ def tried(edit, copy):
     try:
         for path, text in texts.items():
             (crate / path).write_text(text, encoding="utf-8")
-        ran = subprocess.run(CHECK, cwd=crate, stdin=subprocess.DEVNULL, stdout=subprocess.PIPE, stderr=subprocess.STDOUT, text=True, errors="replace")
+        ran = subprocess.run(
+            CHECK,
+            cwd=crate,
+            stdin=subprocess.DEVNULL,
+            stdout=subprocess.PIPE,
+            stderr=subprocess.STDOUT,
+            text=True,
+            errors="replace",
+        )
     finally:
         for path, text in before.items():
             (crate / path).write_text(text, encoding="utf-8")
     lines = ran.stdout.rstrip().split("\n")
     if ran.returncode == 0:
         return True, "proved"
-    told = [line for line in lines if re.search(r"error", line)] or lines
+    told = [line for line in lines if re.search(r": error|error\[|it is not proved", line)] or lines[-4:]
     return False, "REFUSED: " + "\n    ".join(told[:4])
 
 
@@ -111,7 +119,8 @@ def main():
     about, _, more = __doc__.partition("\n\n")
     args = argparse.ArgumentParser(description=about, epilog=more, formatter_class=argparse.RawDescriptionHelpFormatter)
     args.add_argument("--list", action="store_true", help="lists the edits that have a twin, and tries none")
-    args.add_argument("names", metavar="NAME", nargs="*", help="a crate, CRATE/EDIT or an edit file; all that have a twin where none is given")
+    which = "a crate, CRATE/EDIT or an edit file; all that have a twin where none is given"
+    args.add_argument("names", metavar="NAME", nargs="*", help=which)
     given = args.parse_args()
     edits = edits_named(given.names)
     if edits is None:

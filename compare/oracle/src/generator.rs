@@ -158,6 +158,9 @@ impl Script<'_> {
     /// A line, with a show behind a share of them. A long history makes a show of 10 kB, so there they are rare.
     fn call(&mut self, line: &str) -> io::Result<()> {
         self.give(line)?;
+        if self.random.one_in(16) {
+            self.give("due")?;
+        }
         let (view, _) = &self.seen;
         let long = view.as_ref().is_some_and(|view| view.history_length > 40);
         if self.random.one_in(if long { 50 } else { 5 }) {
@@ -1235,7 +1238,9 @@ impl Script<'_> {
     }
 }
 
-const UNREADABLE: [&str; 76] = [
+const UNREADABLE: [&str; 78] = [
+    "due 1",
+    "due ",
     "unknown",
     "Nmt 3",
     "nmt",

@@ -83,6 +83,7 @@ impl Oracle {
             Call::Add { node, timeout } => head.add(node, timeout, &mut self.run),
             Call::Remove(node) => head.remove(node, &mut self.run),
             Call::Bitmap => head.bitmap(&self.run),
+            Call::Due => head.due(&self.run),
             Call::HandOut => head.hand_out(),
             Call::Arm(time) => head.arm(time),
             Call::Load(load) => head.load(&load),

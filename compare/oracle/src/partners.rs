@@ -8,6 +8,7 @@ use crate::head::{Answer, Head, LAST_TIME, try_node};
 use crate::run::{PLACES, Run};
 use crate::script::Watched;
 use powerlink_rs::NodeId;
+use powerlink_rs::nmt::states::NmtState;
 use std::collections::BTreeMap;
 
 /// Timeout and last heard of each node, as the original keeps them.
@@ -131,6 +132,28 @@ impl Head {
         removed.ok_or(7)?;
         self.give_back_only(run);
         Ok(forms::taken(&[]))
+    }
+
+    /// When the next tick is due, by docs/RULES.md 7.13, of the original's own fields: it has no such call. 0 is at once.
+    pub fn due(&mut self, run: &Run) -> Answer {
+        self.lend(run)?;
+        let state = self.context.nmt_state_machine.current_state;
+        let timeout = self.context.nmt_state_machine.basic_ethernet_timeout;
+        let mut moments: Vec<u64> = self.context.next_tick_us.into_iter().collect();
+        if moments.is_empty() && state == NmtState::NmtNotActive && timeout > 0 {
+            moments.push(0);
+        }
+        if state as u8 >= 0x5D {
+            for (timeout, heard) in self.context.heartbeat_consumers.values() {
+                match (*timeout, *heard) {
+                    (_, 0) => moments.push(0),
+                    (0, _) => {}
+                    (timeout, heard) => moments.push(heard + timeout + 1),
+                }
+            }
+        }
+        let first = moments.into_iter().min();
+        Ok(forms::taken(&[first.map_or("none".to_string(), |moment| moment.to_string())]))
     }
 
     /// "written as 32 bytes .. with the number of nodes counted from those bits"

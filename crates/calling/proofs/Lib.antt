@@ -1,3 +1,6 @@
 mod Places
 pub mod Playing
 pub mod Starting
+pub mod Waiting
+pub mod Declines
+pub mod Asked

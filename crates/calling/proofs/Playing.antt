@@ -1,6 +1,6 @@
 -- One action more, at the end of those that were taken; and its answer, written behind theirs.
 -- Assumes nothing.
-use Rattle.std.proofs.Common.{◌≡◌, refl, sym, ap, ◌∙◌, ℕ, zero, suc, ◌+◌, ◌<◌, List, [], ◌∷◌, ◌++◌, length, get_or, take, set, arith}
+use Rattle.std.proofs.Common.{◌≡◌, refl, sym, ap, ◌∙◌, ℕ, suc, ◌+◌, ◌<◌, List, [], ◌∷◌, ◌++◌, length, get_or, take, set, arith}
 use Rattle.std.proofs.lemmas.List.{take_more, length-take-le}
 use Rattle.calling.specs.declared.play.Action.{Action}
 use Rattle.calling.specs.Held.{Held}
@@ -13,7 +13,9 @@ pub and_then :
 and_then a o stop t = next t stop
 and_then a o (next f p) t = next f (and_then a o p t)
 
-pub as_many : {x x' : Held} {acts : List Action} {os : List Reply} → Played x acts os x' → length os ≡ length acts
+pub as_many :
+    {x x' : Held} {acts : List Action} {os : List Reply} →
+    Played x acts os x' → length os ≡ length acts
 as_many stop = refl
 as_many (next f p) = ap suc (as_many p)
 
@@ -24,7 +26,8 @@ unfolding written_over
 written_behind [] o [] = refl
 written_behind [] o (p ∷ out) = refl
 written_behind (q ∷ os) o [] = refl
-written_behind (q ∷ os) o (p ∷ out) = ap (λ (l : List Reply). q ∷ l) (written_behind os o out)
+written_behind (q ∷ os) o (p ∷ out) =
+    ap (λ (l : List Reply). q ∷ l) (written_behind os o out)
 
 pub none_yet : (x : Held) (acts : List Action) (out : List Reply) → PlayedInto x (take 0 acts) out x out
 unfolding written_over

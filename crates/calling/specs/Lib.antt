@@ -2,4 +2,5 @@ pub mod Held
 pub mod Values
 pub mod Table
 pub mod Made
+pub mod Declined
 pub mod Played

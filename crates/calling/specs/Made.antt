@@ -17,7 +17,7 @@ use Rattle.node.specs.InPlace.{unless_refused, nmt_words, dll_words, error_words
 use Rattle.node.specs.Loaded.{load_words, bytes_named}
 use Rattle.tick.specs.TickWords.{tick_words}
 use Rattle.calling.specs.declared.Call.{Call}
-use Rattle.calling.specs.declared.Call.TheVariants.{NmtEvent, DllEvent, Error, CycleComplete, Withdraw, Heard, HandOut, Load, Arm, Tick, Range, Margin, Add, Remove}
+use Rattle.calling.specs.declared.Call.TheVariants.{NmtEvent, DllEvent, Error, CycleComplete, Withdraw, Heard, HandOut, Load, Arm, Tick, Range, Margin, Add, Remove, NextDue}
 use Rattle.calling.specs.Held.{Held, plain_at, rings_of}
 use Rattle.calling.specs.Values.{call_of, Reply, said}
 use Rattle.calling.specs.Table.{row_of, if_lent}
@@ -34,7 +34,7 @@ module _ (x : Held) where
 
   -- the first of a call that is lent no run, the second of one that is
   abbrev pub by_lent : {A : Type 0} → Call → A → A → A
-  by_lent c y z = if_lent (row_of (call_of c x.lent)).lent y z
+  by_lent c y z = if_lent (row_of (call_of c x.lent)).lends y z
 
   -- the run that is left: a call that is not lent it leaves it
   abbrev pub lent_after : Call → Run
@@ -93,6 +93,7 @@ module _ (x : Held) where
   stored_after (Margin t) o r = words_only x.head
   stored_after (Add n p) o r = moment_only o r
   stored_after (Remove n) o r = moment_only o r
+  stored_after NextDue o r = words_only x.head
 
 -- A call c as it was made on x, which answered o and left x'. Head, answer and run are the plain
 -- head's; the run is known whether or not it was lent; every word of the head is known, and every

@@ -34,7 +34,12 @@ written_over (o ∷ os) [] = []
 written_over (o ∷ os) (p ∷ out) = o ∷ written_over os out
 
 -- A list that was played, and its answers in `out`.
-pub record PlayedInto (x : Held) (acts : List Action) (out : List Reply) (x' : Held) (out' : List Reply) : Type 0 where
+pub record PlayedInto
+    (x : Held)
+    (acts : List Action)
+    (out : List Reply)
+    (x' : Held)
+    (out' : List Reply) : Type 0 where
   pub answers : List Reply
   pub played : Played x acts answers x'
   pub written : out' ≡ written_over answers out
@@ -56,4 +61,5 @@ pub record StartedThen
 abbrev pub StartedInto :
     Setup → List Action → Result (Unit {0}) Refusal → Held → List Reply → Held → List Reply → Type 0
 StartedInto s acts (Ok _) x out x' out' = StartedThen s acts x out x' out'
-StartedInto s acts (Err r) x out x' out' = StartedOn x.head x.lent s (Err r) x'.head x'.lent × (x' ≡ x) × (out' ≡ out)
+StartedInto s acts (Err r) x out x' out' =
+    StartedOn x.head x.lent s (Err r) x'.head x'.lent × (x' ≡ x) × (out' ≡ out)

@@ -1,7 +1,7 @@
-// One typed entry for all calls on a head: which call is made is a value, `Call`, and so is what
-// it answers. `make` makes any of them; `play` makes a list of them, each on what the last one
-// left. The watched nodes are lent in either form (`nodes`). The single calls, which these make,
-// stay for what is hot.
+//! One typed entry for all calls on a head (RULES 3): which call is made is a value, `Call`, and so
+//! is what it answers. `make` makes any of them; `play` makes a list of them, each on what the last
+//! one left. The watched nodes are lent in either form (`nodes`). The single calls, which these
+//! make, stay for code that is called often.
 #![tactic(auto)]
 
 pub mod nodes;
@@ -27,84 +27,93 @@ use types::frame::error::types::DllErrors;
 use types::refusals::Refusal;
 use watched::nodes::{NodeWords, WatchedNode};
 
-/// A call on a head, with its arguments. Times, timeouts and readings of a clock are in
-/// microseconds, at most 2^62 − 1; any number may be given, and one that a call does not take is
-/// refused. The refusals of each call stand in the order in which they are tried.
+/// A call on a head, with its arguments. Times, timeouts and readings of a clock are in µs, at most
+/// 2^62 − 1. Any number may be given, and one that a call does not take is refused; the refusals
+/// stand in the order in which they are tried. WatchedNodes refuses a lent run that is not well
+/// formed (RULES 8.2).
 #[derive(Clone, Copy, PartialEq, Eq)]
 pub enum Call<'a> {
-    /// An NMT event by its number, from 0. Refused 4: the number names none. Answers `Nmt`.
+    /// An NMT event by its place, from 0 (RULES 4). Refused by UnknownNumber where no event has it.
+    /// Answers `Nmt`.
     NmtEvent(u64),
-    /// A DLL event by its number, from 0, in the head's own NMT state, and whether a PReq is
-    /// expected. Refused 4: the number names none. Answers `Dll`.
+    /// A DLL event by its place, from 0, in the head's own NMT state, and whether a PReq is
+    /// expected (RULES 5). Refused by UnknownNumber where no event has the place. Answers `Dll`.
     DllEvent {
         event: u64,
         expect_preq: bool,
     },
-    /// An error for the counters, by the number of its kind. `a` is the node that it carries, or
-    /// `a` and `b` are the state and event of an unexpected event; a number that the kind does
-    /// not carry is not read. Refused 4: the number names no kind; 1: `a` is no node number.
-    /// Answers `Error`.
+    /// An error for the counters, by the place of its kind, from 0 (RULES 6). `a` is the node that
+    /// it carries, or `a` and `b` are the state and event of an unexpected event; a number that the
+    /// kind does not carry is not looked at. Refused by UnknownNumber where no kind has the place,
+    /// then by NodeNumber where `a` is to be a node and is none. Answers `Error`.
     Error {
         kind: u64,
         a: u8,
         b: u8,
     },
-    /// A cycle ended: 1 is taken from each counter's level above 0. Never refused. Answers `Cycle`.
+    /// A cycle is complete: each level above 0 falls by 1 (RULES 6.4). Never refused. Answers
+    /// `Cycle`.
     CycleComplete,
-    /// The application takes its ready word back. Refused 8: the head is at ReadyToOperate.
-    /// Answers `Taken`.
+    /// The application is not ready any more (RULES 4.3). Refused by ReadyToOperate where the head
+    /// is in that state. Answers `Taken`.
     Withdraw,
-    /// A watched node was heard. Refused 3: the lent run; 5: the time; 7: the node is not
-    /// watched. Answers `Taken`.
+    /// A watched node was heard at a time. Refused by WatchedNodes, then by TimeLimit for the time,
+    /// then by NotWatched. Answers `Taken`.
     Heard {
         node: u8,
         time: u64,
     },
-    /// The oldest entry leaves the emergency queue. Never refused. Answers `HandedOut`.
+    /// The oldest entry leaves the emergency queue (RULES 9.4). Never refused. Answers `HandedOut`.
     HandOut,
-    /// Values of the dictionary, and the error history where one is named: the bytes of its
-    /// entries, 20 each, newest first. Of more than 254 entries the newest 254 are taken, and
-    /// bytes at the end that make no entry are not read. Never refused. Answers `Taken`.
+    /// Sets the values of the dictionary that are named and, where one is named, the error history:
+    /// the bytes of its entries, 20 each, newest first. Of more than 254 entries the newest 254 are
+    /// taken, and bytes behind the last whole entry are no entry. Never refused. Answers `Taken`.
     Load {
         values: DictionaryUpdate,
         history: Option<&'a [u8]>,
     },
-    /// An SoC was received: the SoC check goes on where there is a cycle time, with a deadline.
-    /// Refused 5: the time. Answers `Taken`.
+    /// An SoC was received at a time: the last SoC is that time. With a cycle above 0 the SoC check
+    /// goes on with a deadline, and with cycle 0 it goes off. Refused by TimeLimit. Answers
+    /// `Taken`.
     Arm(u64),
-    /// A tick. Refused 3: the lent run; 5: the time; 6: it is before a watched node was last
-    /// heard. Answers `Tick`.
+    /// A tick at a time (RULES 7). Refused by WatchedNodes, then by TimeLimit, then by BeforeHeard,
+    /// in a state that checks heartbeats, where the time is before a watched node was last heard.
+    /// Answers `Tick`.
     Tick(u64),
-    /// What the SoC check says of a clock known within a range; the head is only read. Refused 5:
-    /// a reading; 21: the earliest is after the latest. Answers `Range`.
+    /// Whether the SoC is lost between two readings of a clock (RULES 7.10); the head is only read.
+    /// Refused by TimeLimit for either reading, then by EarliestAfterLatest. Answers `Range`.
     Range {
         earliest: u64,
         latest: u64,
     },
-    /// How much is left of the SoC check's limit at a reading; the head is only read. Refused 5:
-    /// the reading. Answers `Margin`.
+    /// The limit of the SoC check minus the time since the last SoC, at one reading of a clock
+    /// (RULES 7.10); the head is only read. Refused by TimeLimit. Answers `Margin`.
     Margin(u64),
-    /// A node is watched from now on; a timeout of 0 never fires. Refused 1: no node number; 3:
-    /// the lent run, or the timeout; 10: it is watched already; 9: 32 are. Answers `Taken`.
+    /// A node is watched, never heard yet; with a timeout of 0 it is never late. Refused by
+    /// NodeNumber, then by WatchedNodes, also where the timeout is above 2^62 − 1, then by
+    /// AlreadyWatched, then by AllWatched where 32 are. Answers `Taken`.
     Add {
         node: u8,
         timeout: u64,
     },
-    /// A node is watched no more. Refused 3: the lent run; 7: it is not watched. Answers `Taken`.
+    /// A node is watched no more. Refused by WatchedNodes, then by NotWatched. Answers `Taken`.
     Remove(u8),
+    /// When the next tick is due (RULES 7.13): a tick that is taken before then finds nothing to
+    /// do. Head and nodes are only read. Refused by WatchedNodes. Answers `Due`.
+    NextDue,
 }
 
 /// What a call answers that is not refused.
 #[derive(Clone, Copy, PartialEq, Eq)]
 pub enum Answer {
-    /// The call was taken, and has nothing to say.
+    /// The call was taken, and has nothing to tell.
     Taken,
-    /// The errors that were reported; of a reset the states that it entered and the ranges to
-    /// restore.
+    /// The errors that were reported; of a reset the states that it passed and the ranges to
+    /// restore, in order (RULES 4.4).
     Nmt(NmtTaken),
     /// The errors that were reported.
     Dll(DllErrors),
-    /// The action that is asked for, whether the error is signalled, and what is logged.
+    /// The action that is asked for, whether the error signals, and what is logged.
     Error(ErrorTaken),
     /// Whether the last level above 0 reached 0.
     Cycle(bool),
@@ -112,15 +121,19 @@ pub enum Answer {
     HandedOut(Option<ErrorEntry>),
     /// What was logged.
     Tick(DllErrors),
-    /// Whether the SoC is lost at every reading of the range, at none, or at some.
+    /// The SoC is lost at every reading of the range (`Lost`), at none (`Kept`), or at some
+    /// (`Open`).
     Range(SocVerdict),
-    /// In microseconds; below 0 the SoC is lost.
+    /// What is left of the limit, in µs; below 0 the SoC is lost.
     Margin(i64),
+    /// A moment in µs, 0 meaning at once; where it is none, no tick finds anything to do.
+    Due(Option<u64>),
 }
 
-/// Makes a call on a head with the memory of its queue and history and the watched nodes, of
-/// which the first `number` are watched (0 to 32; more are refused with 3 by each call that is
-/// lent the nodes). A call that is refused answers its first refusal and changes nothing.
+/// Makes a call on a head with the memory of its queue and history and the watched nodes, which are
+/// the first `number` of the lent ones (0 to 32; WatchedNodes refuses more in each call that is
+/// lent them). A call that is refused answers the first refusal that applies and changes nothing
+/// (RULES 2).
 pub fn make<N: Nodes>(
     head: &mut Head,
     queue: &mut [u8; 640],
@@ -163,10 +176,11 @@ pub fn make<N: Nodes>(
             .add(head, number, node, timeout)
             .map(|()| Answer::Taken),
         Call::Remove(node) => nodes.remove(head, number, node).map(|()| Answer::Taken),
+        Call::NextDue => nodes.next_due(head, *number).map(Answer::Due),
     }
 }
 
-/// `make` with the nodes in words: every word of theirs is known too.
+/// `make` with the nodes in words, whose every word is known afterwards.
 pub fn make_over_words(
     head: &mut Head,
     queue: &mut [u8; 640],
@@ -178,14 +192,14 @@ pub fn make_over_words(
     ensures made { Made (held head.old queue.old history.old (run (nodes_of nodes.old) number.old))
         call.entry result
         (held head.new queue.new history.new (run (nodes_of nodes.new) number.new)) }
-    ensures words { let x = held head.old queue.old history.old (run (nodes_of nodes.old) number.old) in
+    ensures words { let x = held head.old queue.old history.old
+        (run (nodes_of nodes.old) number.old) in
         nodes.new ≡ words_of (lent_after x call.entry).places }
 {
     make(head, queue, history, nodes, number, call)
 }
 
-/// `make` with a run of records, of any length: what stands in the caller's run afterwards is
-/// what the call left.
+/// `make` with a run of records, of any length; the caller's run is then what the call left.
 pub fn make_over_records(
     head: &mut Head,
     queue: &mut [u8; 640],

@@ -1,5 +1,5 @@
-// The watched nodes, in either form in which they are lent: words, or a run of records. Each call
-// that is lent them is a method, which makes the call of that form.
+//! The watched nodes, in either form in which they are lent: words, or a run of records (RULES
+//! 8.1). Each call that is lent them is a method, which makes the call of that form.
 ghost use Rattle.std.specs.Prelude.{◌≡◌, ℕ, List, set};
 ghost use Rattle.watched.specs.declared.nodes.WatchedNode.{WatchedNode as Watched};
 ghost use Rattle.watched.specs.Watched.{run};
@@ -8,7 +8,9 @@ ghost use Rattle.node.specs.Heard.{HeardOn};
 ghost use Rattle.tick.specs.TickIn.{TickedOn};
 ghost use Rattle.partners.specs.Partners.{AddedOn, RemovedOn};
 ghost use Rattle.start.specs.Started.{StartedOn};
+ghost use Rattle.due.specs.Moment.{next_due};
 
+use due::{run as records, words};
 use head::state::Head;
 use lent::{arrivals, calls, ticks};
 use node::heard::heard;
@@ -30,26 +32,26 @@ pub trait Nodes {
     // said of what the caller lent.
     ghost name: { Self → ℕ };
 
-    /// The caller's own change: the watched node at a place, from 0, is another. Past the places
-    /// none is.
+    /// A change of the caller's own: another watched node stands at a place, from 0. Past the
+    /// places nothing changes.
     fn set(&mut self, place: usize, node: WatchedNode)
         ensures on { places self.new ≡ set (places self.old) place node }
         ensures same_reference { name self.new ≡ name self.old };
 
-    /// A fresh head; no watched node was heard yet. Refused 1: no node number; 2: the queue's
-    /// capacity; 3: the nodes; 14: a threshold.
+    /// Makes the head fresh (RULES 1.9), with each watched node never heard. Refused by NodeNumber,
+    /// QueueCapacity, WatchedNodes or ThresholdLimit, in this order.
     fn start(&mut self, head: &mut Head, number: usize, setup: Setup) -> Result<(), Refusal>
         ensures on { StartedOn head.old (run (places self.old) number) setup result
             head.new (run (places self.new) number) }
         ensures same_reference { name self.new ≡ name self.old };
 
-    /// `Call::Heard`.
+    /// Makes the call `Call::Heard`, with its refusals.
     fn heard(&mut self, head: &mut Head, number: usize, node: u8, time: u64) -> Result<(), Refusal>
         ensures on { HeardOn head.old (run (places self.old) number) node time result
             head.new (run (places self.new) number) }
         ensures same_reference { name self.new ≡ name self.old };
 
-    /// `Call::Tick`.
+    /// Makes the call `Call::Tick`, with its refusals.
     fn tick(
         &mut self,
         head: &mut Head,
@@ -58,11 +60,11 @@ pub trait Nodes {
         number: usize,
         time: u64,
     ) -> Result<DllErrors, Refusal>
-        ensures on { TickedOn head.old queue.old history.old (run (places self.old) number) time result
-            head.new queue.new history.new (run (places self.new) number) }
+        ensures on { TickedOn head.old queue.old history.old (run (places self.old) number) time
+            result head.new queue.new history.new (run (places self.new) number) }
         ensures same_reference { name self.new ≡ name self.old };
 
-    /// `Call::Add`.
+    /// Makes the call `Call::Add`, with its refusals.
     fn add(
         &mut self,
         head: &mut Head,
@@ -74,11 +76,15 @@ pub trait Nodes {
             head.new (run (places self.new) number.new) }
         ensures same_reference { name self.new ≡ name self.old };
 
-    /// `Call::Remove`.
+    /// Makes the call `Call::Remove`, with its refusals.
     fn remove(&mut self, head: &mut Head, number: &mut usize, node: u8) -> Result<(), Refusal>
         ensures on { RemovedOn head.old (run (places self.old) number.old) node result
             head.new (run (places self.new) number.new) }
         ensures same_reference { name self.new ≡ name self.old };
+
+    /// Makes the call `Call::NextDue`, with its refusals.
+    fn next_due(&self, head: &Head, number: usize) -> Result<Option<u64>, Refusal>
+        ensures { result ≡ next_due head.now (run (places self.now) number) };
 }
 
 impl Nodes for NodeWords {
@@ -86,6 +92,7 @@ impl Nodes for NodeWords {
 
     ghost name = { λ a. 0 };
 
+    #[tactic(auto, using(crate::proofs::Places::past_none))]
     fn set(&mut self, place: usize, node: WatchedNode) {
         if place < 32 {
             NodeRecord::from(node).put(self, place);
@@ -130,12 +137,17 @@ impl Nodes for NodeWords {
     fn remove(&mut self, head: &mut Head, number: &mut usize, node: u8) -> Result<(), Refusal> {
         remove(head, self, number, node)
     }
+
+    fn next_due(&self, head: &Head, number: usize) -> Result<Option<u64>, Refusal> {
+        words::next_due(head, self, number)
+    }
 }
 
-/// A run of records, of any length; one that has not 32 places is refused with 3 by each call
+/// A run of records, of any length; WatchedNodes refuses one that has not 32 places in each call
 /// that is lent it.
 #[derive(Drop)]
 pub struct Records<'a> {
+    /// The records, in their places.
     pub run: &'a mut [WatchedNode],
 }
 
@@ -187,5 +199,9 @@ impl Nodes for Records<'_> {
 
     fn remove(&mut self, head: &mut Head, number: &mut usize, node: u8) -> Result<(), Refusal> {
         arrivals::remove(head, number, self.run, node)
+    }
+
+    fn next_due(&self, head: &Head, number: usize) -> Result<Option<u64>, Refusal> {
+        records::next_due(head, self.run, number)
     }
 }

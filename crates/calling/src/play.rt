@@ -1,4 +1,4 @@
-// A list of actions from a head as it stands, or from a start: each on what the last one left.
+//! A list of actions on a head as it stands, or behind a start: each on what the last one left.
 ghost use Rattle.std.specs.Prelude.{◌≡◌, set};
 ghost use Rattle.watched.specs.Watched.{run};
 ghost use Rattle.calling.specs.Held.{held};
@@ -16,9 +16,9 @@ use watched::nodes::WatchedNode;
 pub enum Action<'a> {
     /// A call.
     Call(Call<'a>),
-    /// What is lent with the next calls: the watched node at a place, from 0, is another, and so
-    /// many nodes are watched. Past the places none is set. Any numbers may be given; the calls
-    /// refuse nodes that are not in order.
+    /// Other watched nodes are lent with the next calls: at a place, from 0, stands another node,
+    /// and the first `number` are watched. Past the places none is set. Any numbers may be given;
+    /// the calls refuse a run that is not well formed.
     Lend {
         place: usize,
         node: WatchedNode,
@@ -26,7 +26,7 @@ pub enum Action<'a> {
     },
 }
 
-/// One action. A change of what is lent answers as a call does that was taken.
+/// Takes one action. A change of what is lent is never refused and answers `Taken`.
 pub fn act<N: Nodes>(
     head: &mut Head,
     queue: &mut [u8; 640],
@@ -35,7 +35,8 @@ pub fn act<N: Nodes>(
     number: &mut usize,
     action: Action<'_>,
 ) -> Result<Answer, Refusal>
-    ensures acted { Acted (held head.old queue.old history.old (run (N.places nodes.old) number.old))
+    ensures acted { Acted
+        (held head.old queue.old history.old (run (N.places nodes.old) number.old))
         action.entry result
         (held head.new queue.new history.new (run (N.places nodes.new) number.new)) }
     ensures same_reference { N.name nodes.new ≡ N.name nodes.old }
@@ -54,7 +55,7 @@ pub fn act<N: Nodes>(
     }
 }
 
-// An answer at a place; past the end it is not written.
+// Writes an answer at a place; past the end it is not written.
 fn put(out: &mut [Result<Answer, Refusal>], place: usize, answer: Result<Answer, Refusal>)
     ensures { out.new ≡ set out.old place answer }
 {
@@ -63,7 +64,7 @@ fn put(out: &mut [Result<Answer, Refusal>], place: usize, answer: Result<Answer,
     }
 }
 
-/// Every action of a list. What each answers goes to `out`, in their order, as far as that
+/// Takes every action of a list. What each answers goes to `out`, in their order, as far as that
 /// reaches; what `out` has beyond them stays.
 pub fn play<N: Nodes>(
     head: &mut Head,
@@ -74,7 +75,8 @@ pub fn play<N: Nodes>(
     actions: &[Action<'_>],
     out: &mut [Result<Answer, Refusal>],
 )
-    ensures played { PlayedInto (held head.old queue.old history.old (run (N.places nodes.old) number.old))
+    ensures played { PlayedInto
+        (held head.old queue.old history.old (run (N.places nodes.old) number.old))
         actions.now out.old
         (held head.new queue.new history.new (run (N.places nodes.new) number.new)) out.new }
     ensures same_reference { N.name nodes.new ≡ N.name nodes.old }
@@ -85,8 +87,9 @@ pub fn play<N: Nodes>(
     }
 }
 
-/// Starts a head and takes every action of a list. A start that is refused (1, 2, 3, 14, in this
-/// order) changes nothing, and no action is taken.
+/// Starts a head and takes every action of a list. The start is refused by NodeNumber,
+/// QueueCapacity, WatchedNodes or ThresholdLimit, in this order; then nothing changes, and no
+/// action is taken.
 pub fn start_and_play<N: Nodes>(
     head: &mut Head,
     queue: &mut [u8; 640],

@@ -243,7 +243,7 @@ unfolding crossing_entry
 crossing_fits e t =
     record { profile = omega arith; code = code_below e; seconds = omega arith; nanoseconds = omega arith; information = omega arith }
 
--- the entry of the bench example, 0x8245 at 0 s 12,100,000 ns
+-- the entry of a crossing, 0x8245 at 0 s 12,100,000 ns
 pub crossing_bytes :
     entry_bytes (crossing_entry LossOfSoc 12100) ≡
     0x02 ∷ 0x70 ∷ 0x45 ∷ 0x82 ∷ 0 ∷ 0 ∷ 0 ∷ 0 ∷ 0xA0 ∷ 0xA1 ∷ 0xB8 ∷ 0 ∷ 0 ∷ 0 ∷ 0 ∷ 0 ∷ 0 ∷ 0 ∷ 0 ∷ 0 ∷ []

@@ -1,4 +1,4 @@
--- The error history without moving (document 02, No. 10), from the contract of the function that writes it.
+-- The error history without moving, from the contract of the function that writes it.
 -- κs: the lifetimes; a: the arguments; o: what is returned; x: what is lent, as it is left.
 -- Assumes nothing.
 use Prim.Native.Nat.{ℕ, ◌/◌}
@@ -11,7 +11,7 @@ use Rattle.entries.specs.History.{history, place_before}
 use Rattle.entries.proofs.Lists.{history_joined, others_stay, joined_long}
 use Rattle.entries.proofs.error_history.ErrorHistory.write_error_to_history.Reads as write-history
 
--- "Each kept crossing writes one of the 254 places and leaves the others as they were", full or not: the memory keeps its length, and a byte of another
+-- An entry that joins writes one of the 254 places, full or not: the memory keeps its length, and a byte of another
 -- place than the one before the newest is as it was.
 pub one_place :
     (κs : _) (a : _) (o : _) (x : _) →
@@ -23,7 +23,7 @@ one_place κs a o x l long = (
   λ k ne. ap (λ (m : List ℕ). get_or m k 0) l.1 ∙ others_stay a.1.0.now a.0.now a.1.1.0 long k ne,
 )
 
--- "Read newest first, the list equals the old one": the entry, then of the old list the first 253.
+-- Read newest first it is the entry, then of the old list the first 253 (RULES 9.5).
 pub read_newest_first :
     (κs : _) (a : _) (o : _) (x : _) →
     write-history.Learnt κs a o x →

@@ -1,5 +1,6 @@
--- A part written is the head with that part replaced, and nothing else. Each law is computed on words written out one by one (`whole`), with what
--- was written as it stands; what is read of it is put in then.
+-- A part written is the head with that part replaced, and nothing else. Each law is computed on
+-- words written out one by one (`whole`), with what was written as it stands; what is read of it is
+-- put in then.
 -- Assumes nothing.
 use Rattle.std.proofs.Common.{◌≡◌, ℕ, ◌+◌, ◌/◌, ◌%◌, ◌<◌, ◌≤◌, Bool, true, false, List, length, set, sym, refl, ap, ◌∙◌, arith, eqb-true}
 use Rattle.types.specs.States.{state_number, read_state, same_state}

@@ -18,7 +18,7 @@ use Rattle.head.specs.declared.state.Statistic.TheVariants.{Counter1, Counter2, 
 use Rattle.head.specs.declared.state.SocWatch.{SocWatch}
 use Rattle.head.specs.declared.state.Dictionary.{Dictionary}
 
--- "Kept of CnContext", with the dictionary values; of queue and history, their places
+-- The parts of a head (RULES 1); of queue and history, where their entries stand.
 pub record Head : Type 0 where
   pub nmt : CnNmtStateMachine
   pub dll : DllCsStateMachine
@@ -27,7 +27,7 @@ pub record Head : Type 0 where
   pub od : Dictionary
   pub queue : EmergencyQueue
   pub history : ErrorHistory
-  -- "The head shows the earliest moment at which a watched node would be late" (document 02, No. 1)
+  -- the earliest moment at which a watched node would be late, or none
   pub earliest : Option ℕ
 
 -- the moment of a deadline, where there is one
@@ -35,6 +35,7 @@ abbrev pub moment_in : Deadline → Option ℕ
 moment_in (At t) = Some t
 moment_in Nothing = None
 
+-- a watch by its last SoC, its check, its deadline and `error_status_changed`
 abbrev pub soc_watch : ℕ → Bool → Deadline → Bool → SocWatch
 soc_watch t on d changed =
     record {
@@ -44,6 +45,7 @@ soc_watch t on d changed =
       error_status_changed = changed;
     }
 
+-- the values of a dictionary, in the order of its fields
 abbrev pub dictionary : ℕ → Option ℕ → Option ℕ → ℕ → ℕ → ℕ → ℕ → Dictionary
 dictionary r x y a b c d =
     record {
@@ -56,17 +58,19 @@ dictionary r x y a b c d =
       counter_5 = d;
     }
 
--- a value of the dictionary, and the dictionary with it replaced
+-- a value of the dictionary that may be missing
 abbrev pub object_in : Object → Dictionary → Option ℕ
 object_in CycleTime o = o.cycle_time
 object_in Tolerance o = o.tolerance
 
+-- a counter of object 0x1102
 abbrev pub statistic_in : Statistic → Dictionary → ℕ
 statistic_in Counter1 o = o.counter_1
 statistic_in Counter2 o = o.counter_2
 statistic_in Counter3 o = o.counter_3
 statistic_in Counter5 o = o.counter_5
 
+-- the dictionary with one of its values replaced
 abbrev pub with_register : ℕ → Dictionary → Dictionary
 with_register r o =
     dictionary r o.cycle_time o.tolerance o.counter_1 o.counter_2 o.counter_3 o.counter_5
@@ -87,6 +91,7 @@ with_statistic Counter3 n o =
 with_statistic Counter5 n o =
     dictionary o.error_register o.cycle_time o.tolerance o.counter_1 o.counter_2 o.counter_3 n
 
+-- a head of its parts, in the order of its fields
 abbrev pub of_parts : CnNmtStateMachine → DllCsStateMachine → CnErrorCounters → SocWatch → Dictionary → EmergencyQueue → ErrorHistory → Option ℕ → Head
 of_parts n d e s o q h x = record { nmt = n; dll = d; errors = e; soc = s; od = o; queue = q; history = h; earliest = x }
 
@@ -102,7 +107,7 @@ module _ (h : Head) where
   abbrev pub head_with_dll : DllCsStateMachine → Head
   head_with_dll d = of_parts h.nmt d h.errors h.soc h.od h.queue h.history h.earliest
 
-  -- what a reset forgets: the DLL state too
+  -- a head after a reset, but for its NMT machine: the DLL state is forgotten too
   abbrev pub forgetting : Head
   forgetting = of_parts h.nmt (record { state = NonCyclic }) h.errors (forgotten h.soc) h.od h.queue h.history h.earliest
 

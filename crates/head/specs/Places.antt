@@ -1,4 +1,5 @@
--- The place of each word of a head, 0 to 59. A time takes two words, its low one and its high one.
+-- The place of each word of a head, 0 to 59. A time takes two words, its low one and its high one;
+-- the word named is the low one.
 -- Assumes nothing.
 use Rattle.std.specs.Prelude.{ℕ, ◌+◌, ◌*◌}
 use Rattle.counters.specs.Counters.{place}
@@ -8,6 +9,8 @@ use Rattle.head.specs.declared.state.Object.TheVariants.{CycleTime, Tolerance}
 use Rattle.head.specs.declared.state.Statistic.{Statistic}
 use Rattle.head.specs.declared.state.Statistic.TheVariants.{Counter1, Counter2, Counter3, Counter5}
 
+-- the NMT machine: its state, node, feature flags and basic timeout, whether it is enabled, and
+-- ready
 abbrev pub state : ℕ
 state = 0
 
@@ -26,22 +29,27 @@ enabled = 4
 abbrev pub ready : ℕ
 ready = 5
 
+-- the DLL state
 abbrev pub dll : ℕ
 dll = 6
 
--- four words for each kind: cumulative count, level, threshold, count of crossings
+-- the counters, four words for each kind: cumulative count, level, threshold, count of crossings
 abbrev pub counter : CounterKind → ℕ
 counter k = 7 + 4 * place k
 
+-- the count of lost links
 abbrev pub links : ℕ
 links = 35
 
+-- the time of the last SoC
 abbrev pub last_soc : ℕ
 last_soc = 36
 
+-- the time of the deadline
 abbrev pub deadline : ℕ
 deadline = 38
 
+-- whether the SoC check is on
 abbrev pub check : ℕ
 check = 40
 
@@ -49,19 +57,22 @@ check = 40
 abbrev pub due : ℕ
 due = 41
 
+-- `error_status_changed`
 abbrev pub changed : ℕ
 changed = 42
 
+-- the error register
 abbrev pub register : ℕ
 register = 43
 
--- whether there is a value, and then the value
+-- cycle and tolerance: whether the value is there; the value is in the next word
 abbrev pub cycle : ℕ
 cycle = 44
 
 abbrev pub tolerance : ℕ
 tolerance = 46
 
+-- the counters of object 0x1102
 abbrev pub counter1 : ℕ
 counter1 = 48
 
@@ -74,7 +85,7 @@ counter3 = 50
 abbrev pub counter5 : ℕ
 counter5 = 51
 
--- the same by what they are of
+-- the places of the values that may be missing, and of the counters of object 0x1102
 abbrev pub object : Object → ℕ
 object CycleTime = cycle
 object Tolerance = tolerance
@@ -85,6 +96,7 @@ statistic Counter2 = counter2
 statistic Counter3 = counter3
 statistic Counter5 = counter5
 
+-- of the queue, the place of the oldest entry, how many wait, and how many may
 abbrev pub oldest : ℕ
 oldest = 52
 
@@ -94,6 +106,7 @@ queued = 53
 abbrev pub capacity : ℕ
 capacity = 54
 
+-- of the history, the place of the newest entry, and how many there are
 abbrev pub newest : ℕ
 newest = 55
 

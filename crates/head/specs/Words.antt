@@ -1,5 +1,6 @@
--- The head that words stand for. Any words stand for one: a state's number that none has is GsOff, a DLL state's NonCyclic; of a byte's word the
--- low byte counts, and a flag is on where its word is not 0.
+-- The head that words stand for. Any words stand for one: a number that names no NMT state is read
+-- as GsOff, one that names no DLL state as NonCyclic; of a byte's word the lowest byte counts, and
+-- a flag is on where its word is not 0.
 -- Assumes nothing.
 use Rattle.std.specs.Prelude.{ℕ, ◌+◌, ◌*◌, ◌%◌, Bool, true, false, not, List, ◌==◌, slice_index}
 use Rattle.types.specs.Pick.{pick}
@@ -33,23 +34,26 @@ use Rattle.head.specs.Head.{Head}
 use Rattle.head.specs.Head.{soc_watch}
 use Rattle.head.specs.Places as at
 
+-- the i-th word
 abbrev pub word : List ℕ → ℕ → ℕ
 word ws i = slice_index ws i
 
--- a flag, and a flag's word
+-- whether a flag's word is on, and the word of a flag
 abbrev pub yes : ℕ → Bool
 yes n = not (n == 0)
 
 abbrev pub one : Bool → ℕ
 one b = pick b 1 0
 
--- a time from its two words
+-- a time from its low and its high word
 abbrev pub time_of : ℕ → ℕ → ℕ
 time_of low high = low + 4294967296 * high
 
+-- the time in the two words from a place on
 abbrev pub time_at : List ℕ → ℕ → ℕ
 time_at ws i = time_of (word ws i) (word ws (i + 1))
 
+-- the NMT state in a word
 abbrev pub state_read : Result NmtState Refusal → NmtState
 state_read (Ok s) = s
 state_read (Err r) = NmtGsOff
@@ -57,6 +61,7 @@ state_read (Err r) = NmtGsOff
 abbrev pub state_of : ℕ → NmtState
 state_of n = state_read (read_state n)
 
+-- the NMT machine
 abbrev pub nmt_of : List ℕ → CnNmtStateMachine
 nmt_of ws =
     record {
@@ -68,6 +73,7 @@ nmt_of ws =
       app_ready = yes (word ws at.ready);
     }
 
+-- the DLL state in a word
 abbrev pub dll_read : Result DllCsState Refusal → DllCsState
 dll_read (Ok s) = s
 dll_read (Err r) = NonCyclic
@@ -75,29 +81,35 @@ dll_read (Err r) = NonCyclic
 abbrev pub dll_state : ℕ → DllCsState
 dll_state n = dll_read (read_cs_state n)
 
+-- the counter in the four words from a place on, and the counters of all kinds
 abbrev pub counter_at : List ℕ → ℕ → ThresholdCounter
 counter_at ws i = counter_of (word ws i) (word ws (i + 1)) (word ws (i + 2)) (word ws (i + 3))
 
 abbrev pub errors_of : List ℕ → CnErrorCounters
 errors_of ws = by_kind (λ (k : CounterKind). counter_at ws (at.counter k)) (word ws at.links)
 
+-- a deadline from whether there is one, and its time
 abbrev pub deadline_of : Bool → ℕ → Deadline
 deadline_of true t = At t
 deadline_of false t = Nothing
 
+-- the watch over the SoC
 abbrev pub soc_of : List ℕ → SocWatch
 soc_of ws =
     soc_watch (time_at ws at.last_soc) (yes (word ws at.check))
     (deadline_of (yes (word ws at.due)) (time_at ws at.deadline))
     (yes (word ws at.changed))
 
+-- a value that may be missing, from whether it is there and its word
 abbrev pub object_of : Bool → ℕ → Option ℕ
 object_of true n = Some n
 object_of false n = None
 
+-- the value in the two words from a place on
 abbrev pub object_at : List ℕ → ℕ → Option ℕ
 object_at ws i = object_of (yes (word ws i)) (word ws (i + 1))
 
+-- the values of the dictionary
 abbrev pub od_of : List ℕ → Dictionary
 od_of ws =
     record {
@@ -110,19 +122,23 @@ od_of ws =
       counter_5 = word ws at.counter5;
     }
 
+-- where the entries of queue and history stand
 abbrev pub queue_of : List ℕ → EmergencyQueue
 queue_of ws = queue (word ws at.oldest % 256) (word ws at.queued % 256) (word ws at.capacity % 256)
 
 abbrev pub history_of : List ℕ → ErrorHistory
 history_of ws = error_history (word ws at.newest % 256) (word ws at.count % 256)
 
+-- a moment from whether it is there, and its time
 abbrev pub moment_there : Bool → ℕ → Option ℕ
 moment_there true t = Some t
 moment_there false t = None
 
+-- the earliest moment at which a watched node would be late
 abbrev pub earliest_of : List ℕ → Option ℕ
 earliest_of ws = moment_there (yes (word ws at.awaited)) (time_at ws at.earliest)
 
+-- the head that words stand for
 unfoldable pub head_of : List ℕ → Head
 head_of ws =
     record {

@@ -1,5 +1,6 @@
-// A head: what a controlled node keeps (node/cn/state.rs), in 60 words that its owner lends. Any words are a head. Only this crate
-// knows which word is what; whoever has a head reads and writes it part by part.
+//! A head: what a controlled node keeps (RULES 1), in 60 words of 32 bits that its owner lends. Any
+//! words are a head. Only this crate knows which word is what; the others read and write a head
+//! part by part.
 #![tactic(auto)]
 
 pub mod parts;

@@ -1,10 +1,19 @@
-// A head in words: where each part stands, how it is read and how it is written. Any words are a head.
-ghost use Rattle.std.specs.Prelude.{◌≡◌, ℕ, ◌+◌, ◌%◌, ◌≤◌, ◌<◌, length, replicate, slice_set, MatchOption};
+//! A head in words: where each part stands, and a reader and a writer of each by its name; given a
+//! place, a caller could name any word. Any words are a head: a number that names no state is read
+//! as one, of a byte's word the lowest byte counts, and a flag is on where its word is not 0.
+ghost use Rattle.std.specs.Prelude.{◌≡◌, ℕ, ◌+◌, ◌%◌, ◌≤◌, ◌<◌, length, replicate, slice_set};
+ghost use Rattle.std.specs.Prelude.{MatchOption};
 ghost use Rattle.counters.specs.Counters.{of_kind};
 ghost use Rattle.dll.specs.Dll.{cs_state_number};
 ghost use Rattle.head.specs.Places as at;
-ghost use Rattle.head.specs.Words.{word, yes, one, time_at, state_of, nmt_of, dll_state, counter_at, errors_of, moment_there, soc_of, object_at, od_of, queue_of, history_of, earliest_of};
-ghost use Rattle.head.specs.Written.{forgotten_written, nmt_written, counter_written, each_written, levels_written, time_written, moment_written, deadline_written, earliest_written, soc_written, queue_written, history_written, identity_written, thresholds_written, object_written, od_written, WritesThere};
+ghost use Rattle.head.specs.Words.{word, yes, one, time_at, state_of, nmt_of, dll_state};
+ghost use Rattle.head.specs.Words.{counter_at, errors_of, moment_there, soc_of, object_at, od_of};
+ghost use Rattle.head.specs.Words.{queue_of, history_of, earliest_of};
+ghost use Rattle.head.specs.Written.{forgotten_written, nmt_written, counter_written, each_written};
+ghost use Rattle.head.specs.Written.{levels_written, time_written, moment_written};
+ghost use Rattle.head.specs.Written.{deadline_written, earliest_written, soc_written};
+ghost use Rattle.head.specs.Written.{queue_written, history_written, identity_written};
+ghost use Rattle.head.specs.Written.{thresholds_written, object_written, od_written, WritesThere};
 
 use crate::state::{Deadline, Dictionary, Head, Object, SocWatch, Statistic};
 use counters::counters::{ByKind, CnErrorCounters, CounterKind, ThresholdCounter};
@@ -77,6 +86,7 @@ fn time_at(head: &Head, place: usize) -> u64
     head[place] as u64 + 4294967296 * (head[place + 1] as u64)
 }
 
+// Writes a time into two words, the low one first.
 fn set_time(head: &mut Head, place: usize, time: u64)
     requires { place < 59 }
     ensures { head.new ≡ time_written head.old place time }
@@ -85,7 +95,7 @@ fn set_time(head: &mut Head, place: usize, time: u64)
     head[place + 1] = (time / 4294967296) as u32;
 }
 
-// A moment that may be missing: whether it is there, and its time.
+// A moment that may be missing: one word says whether it is there, two have its time.
 fn moment_at(head: &Head, there: usize, place: usize) -> Option<u64>
     requires { (there < 60) × (place < 59) }
     ensures { result ≡ moment_there (yes (word head.now there)) (time_at head.now place) }
@@ -93,11 +103,13 @@ fn moment_at(head: &Head, there: usize, place: usize) -> Option<u64>
     (head[there] != 0).then_some(time_at(head, place))
 }
 
-// Whether there is a value, and by `write` what it is: where there is none, its words stay as they were.
+// Writes whether there is a value, and by `write` what it is: where there is none, its words stay
+// as they were.
 fn set_option<T, F: FnOnce(&mut Head, T)>(head: &mut Head, there: usize, value: Option<T>, write: F)
     requires inside { there < 60 }
     requires callable { F.IsAlwaysCallable write }
-    ensures { MatchOption value (head.new ≡ slice_set head.old there 0) (λ t. WritesThere F.FnOnce write (slice_set head.old there 1) t head.new) }
+    ensures { MatchOption value (head.new ≡ slice_set head.old there 0)
+        (λ t. WritesThere F.FnOnce write (slice_set head.old there 1) t head.new) }
 {
     head[there] = u32::from(value.is_some());
     if let Some(value) = value {
@@ -105,6 +117,7 @@ fn set_option<T, F: FnOnce(&mut Head, T)>(head: &mut Head, there: usize, value: 
     }
 }
 
+// Writes a moment that may be missing.
 fn set_moment(head: &mut Head, there: usize, place: usize, moment: Option<u64>)
     requires { (there < 60) × (place < 59) }
     ensures { head.new ≡ moment_written head.old there place moment }
@@ -112,12 +125,15 @@ fn set_moment(head: &mut Head, there: usize, place: usize, moment: Option<u64>)
     set_option(head, there, moment, |head, t| set_time(head, place, t));
 }
 
+// The NMT state in a word; GsOff where the number names none.
 fn state_of(word: u32) -> NmtState
     ensures { result ≡ state_of word }
 {
     NmtState::try_from(word as u64).unwrap_or(NmtState::NmtGsOff)
 }
 
+/// The NMT machine. A number that names no state is read as GsOff; of the node's word the lowest
+/// byte counts.
 pub fn nmt_of(head: &Head) -> CnNmtStateMachine
     ensures { result ≡ nmt_of head.now }
 {
@@ -131,7 +147,7 @@ pub fn nmt_of(head: &Head) -> CnNmtStateMachine
     }
 }
 
-// An event changes state, enabled and ready.
+/// Writes what an event changes of the NMT machine: state, enabled and ready.
 pub fn set_nmt(head: &mut Head, machine: CnNmtStateMachine)
     ensures { head.new ≡ nmt_written head.old machine }
 {
@@ -140,25 +156,28 @@ pub fn set_nmt(head: &mut Head, machine: CnNmtStateMachine)
     head[READY] = u32::from(machine.app_ready);
 }
 
+/// The NMT state.
 pub fn state_at(head: &Head) -> NmtState
     ensures { result ≡ state_of (word head.now at.state) }
 {
     state_of(head[STATE])
 }
 
+/// Writes whether the application is ready.
 pub fn set_ready(head: &mut Head, ready: bool)
     ensures { head.new ≡ slice_set head.old at.ready (one ready) }
 {
     head[READY] = u32::from(ready);
 }
 
-// Any word is a state, so that no reading is refused: what names none is NonCyclic.
+// The DLL state in a word; NonCyclic where the number names none, so that no reading is refused.
 fn dll_state(word: u32) -> DllCsState
     ensures { result ≡ dll_state word }
 {
     DllCsState::try_from(word as u64).unwrap_or(DllCsState::NonCyclic)
 }
 
+/// The DLL machine. A number that names no state is read as NonCyclic.
 pub fn dll_of(head: &Head) -> DllCsStateMachine
     ensures { result ≡ record { state = dll_state (word head.now at.dll) } }
 {
@@ -167,19 +186,21 @@ pub fn dll_of(head: &Head) -> DllCsStateMachine
     }
 }
 
+/// Writes the DLL machine's state.
 pub fn set_dll(head: &mut Head, machine: DllCsStateMachine)
     ensures { head.new ≡ slice_set head.old at.dll (cs_state_number machine.state) }
 {
     head[DLL] = machine.state.as_u8() as u32;
 }
 
+// The first of the four words of a kind's counter.
 fn place_of(kind: CounterKind) -> usize
     ensures { (result ≡ at.counter kind) × (result ≤ 31) }
 {
     COLLISION + 4 * (kind as usize)
 }
 
-// The one counter of a kind.
+/// The counter of one kind.
 pub fn counter_of(head: &Head, kind: CounterKind) -> ThresholdCounter
     ensures { result ≡ counter_at head.now (at.counter kind) }
 {
@@ -192,7 +213,7 @@ pub fn counter_of(head: &Head, kind: CounterKind) -> ThresholdCounter
     }
 }
 
-// The threshold stays.
+/// Writes the counter of one kind, but for its threshold, which stays.
 pub fn set_counter(head: &mut Head, kind: CounterKind, counter: ThresholdCounter)
     ensures { head.new ≡ counter_written head.old kind counter }
 {
@@ -202,19 +223,21 @@ pub fn set_counter(head: &mut Head, kind: CounterKind, counter: ThresholdCounter
     head[place + 3] = counter.crossings_cnt;
 }
 
-// What is one word has a reader and a writer by name: over a place, a caller could name any word.
+/// The count of lost links.
 pub fn links_of(head: &Head) -> u32
     ensures { result ≡ word head.now at.links }
 {
     head[LOSS_OF_LINK]
 }
 
+/// Writes the count of lost links.
 pub fn set_links(head: &mut Head, links: u32)
     ensures { head.new ≡ slice_set head.old at.links links }
 {
     head[LOSS_OF_LINK] = links;
 }
 
+/// The counters of all kinds, and the count of lost links.
 pub fn errors_of(head: &Head) -> CnErrorCounters
     ensures { result ≡ errors_of head.now }
 {
@@ -224,7 +247,7 @@ pub fn errors_of(head: &Head) -> CnErrorCounters
     }
 }
 
-// A word of each counter, at one place of its four.
+// Writes a word of each counter, the nth of its four.
 fn set_each(head: &mut Head, nth: usize, words: ByKind<u32>)
     requires { nth < 4 }
     ensures { head.new ≡ each_written head.old nth (λ k. of_kind k words) }
@@ -234,7 +257,7 @@ fn set_each(head: &mut Head, nth: usize, words: ByKind<u32>)
     }
 }
 
-// A cycle changes the levels.
+/// Writes the levels of all counters, which a completed cycle changes.
 pub fn set_levels(head: &mut Head, errors: CnErrorCounters)
     ensures { head.new ≡ levels_written head.old errors }
 {
@@ -242,6 +265,7 @@ pub fn set_levels(head: &mut Head, errors: CnErrorCounters)
     set_each(head, 1, levels);
 }
 
+/// The watch over the SoC.
 pub fn soc_of(head: &Head) -> SocWatch
     ensures { result ≡ soc_of head.now }
 {
@@ -253,13 +277,14 @@ pub fn soc_of(head: &Head) -> SocWatch
     }
 }
 
-// Where there is no deadline, its time stays as it was.
+/// Writes the deadline. Where there is none, the words of its time stay as they were.
 pub fn set_deadline(head: &mut Head, deadline: Deadline)
     ensures { head.new ≡ deadline_written head.old deadline }
 {
     set_moment(head, DUE, DEADLINE, deadline.moment());
 }
 
+/// Writes the watch over the SoC.
 pub fn set_soc(head: &mut Head, soc: SocWatch)
     ensures { head.new ≡ soc_written head.old soc }
 {
@@ -269,13 +294,14 @@ pub fn set_soc(head: &mut Head, soc: SocWatch)
     set_deadline(head, soc.next_tick_us);
 }
 
+// The word that says whether there is a value; the value is behind it.
 fn object_place(object: Object) -> usize
     ensures { (result ≡ at.object object) × (result ≤ 46) }
 {
     object as usize
 }
 
-// The word that says whether there is a value, and the value behind it.
+// A value that may be missing.
 fn object_at(head: &Head, object: Object) -> Option<u32>
     ensures { result ≡ object_at head.now (at.object object) }
 {
@@ -283,12 +309,14 @@ fn object_at(head: &Head, object: Object) -> Option<u32>
     (head[place] != 0).then_some(head[place + 1])
 }
 
+// The word of a counter of object 0x1102.
 fn statistic_place(statistic: Statistic) -> usize
     ensures { (result ≡ at.statistic statistic) × (result ≤ 51) }
 {
     statistic as usize
 }
 
+/// A counter of object 0x1102.
 pub fn statistic_of(head: &Head, statistic: Statistic) -> u32
     ensures { result ≡ word head.now (at.statistic statistic) }
 {
@@ -296,6 +324,7 @@ pub fn statistic_of(head: &Head, statistic: Statistic) -> u32
     head[place]
 }
 
+/// The values of the dictionary.
 pub fn od_of(head: &Head) -> Dictionary
     ensures { result ≡ od_of head.now }
 {
@@ -310,24 +339,28 @@ pub fn od_of(head: &Head) -> Dictionary
     }
 }
 
+/// Sets `error_status_changed`.
 pub fn set_changed(head: &mut Head)
     ensures { head.new ≡ slice_set head.old at.changed 1 }
 {
     head[CHANGED] = 1;
 }
 
+/// The error register, object 0x1001.
 pub fn register_of(head: &Head) -> u8
     ensures { result ≡ word head.now at.register % 256 }
 {
     byte_at(head, REGISTER)
 }
 
+/// Writes the error register.
 pub fn set_register(head: &mut Head, register: u8)
     ensures { head.new ≡ slice_set head.old at.register register }
 {
     head[REGISTER] = register as u32;
 }
 
+/// Where the entries of the emergency queue stand.
 pub fn queue_of(head: &Head) -> EmergencyQueue
     ensures { result ≡ queue_of head.now }
 {
@@ -338,7 +371,7 @@ pub fn queue_of(head: &Head) -> EmergencyQueue
     }
 }
 
-// The capacity stays.
+/// Writes where the entries of the emergency queue stand, but for the capacity, which stays.
 pub fn set_queue(head: &mut Head, queue: EmergencyQueue)
     ensures { head.new ≡ queue_written head.old queue }
 {
@@ -346,6 +379,7 @@ pub fn set_queue(head: &mut Head, queue: EmergencyQueue)
     head[QUEUED] = queue.length as u32;
 }
 
+/// Where the entries of the error history stand.
 pub fn history_of(head: &Head) -> ErrorHistory
     ensures { result ≡ history_of head.now }
 {
@@ -355,6 +389,7 @@ pub fn history_of(head: &Head) -> ErrorHistory
     }
 }
 
+/// Writes where the entries of the error history stand.
 pub fn set_history(head: &mut Head, history: ErrorHistory)
     ensures { head.new ≡ history_written head.old history }
 {
@@ -362,40 +397,43 @@ pub fn set_history(head: &mut Head, history: ErrorHistory)
     head[COUNT] = history.count as u32;
 }
 
-// The deadline, opened by its caller.
+/// The deadline.
 pub fn deadline_at(head: &Head) -> Deadline
     ensures { result ≡ (soc_of head.now).next_tick_us }
 {
     moment_at(head, DUE, DEADLINE).map_or(Deadline::Nothing, Deadline::At)
 }
 
+/// Whether the SoC check is on.
 pub fn check_of(head: &Head) -> bool
     ensures { result ≡ yes (word head.now at.check) }
 {
     head[CHECK] != 0
 }
 
+/// Puts the SoC check off.
 pub fn check_off(head: &mut Head)
     ensures { head.new ≡ slice_set head.old at.check 0 }
 {
     head[CHECK] = 0;
 }
 
-// The earliest moment at which a watched node would be late.
+/// The earliest moment, in µs, at which a watched node would be late, or none.
 pub fn earliest_of(head: &Head) -> Option<u64>
     ensures { result ≡ earliest_of head.now }
 {
     moment_at(head, AWAITED, EARLIEST)
 }
 
-// Where there is no moment, its time stays as it was.
+/// Writes the earliest moment. Where there is none, the words of its time stay as they were.
 pub fn set_earliest(head: &mut Head, earliest: Option<u64>)
     ensures { head.new ≡ earliest_written head.old earliest }
 {
     set_moment(head, AWAITED, EARLIEST, earliest);
 }
 
-// What a reset forgets besides state, enabled and ready: the deadline, the check and the DLL state.
+/// What a reset forgets besides enabled and ready (RULES 4.5): no deadline stands, the SoC check is
+/// off, and the DLL machine is NonCyclic.
 pub fn forget(head: &mut Head)
     ensures { head.new ≡ forgotten_written head.old }
 {
@@ -404,20 +442,22 @@ pub fn forget(head: &mut Head)
     head[DLL] = 0;
 }
 
+/// The basic timeout, in µs.
 pub fn timeout_of(head: &Head) -> u32
     ensures { result ≡ word head.now at.timeout }
 {
     head[TIMEOUT]
 }
 
-// Every word 0.
+/// Writes 0 into every word.
 pub fn clear(head: &mut Head)
     ensures { head.new ≡ replicate 60 0 }
 {
     *head = [0; 60];
 }
 
-// What start gives the NMT machine, and no event changes.
+/// Writes what start gives the NMT machine and no event changes: node, feature flags and basic
+/// timeout.
 pub fn set_identity(head: &mut Head, machine: CnNmtStateMachine)
     ensures { head.new ≡ identity_written head.old machine }
 {
@@ -426,6 +466,7 @@ pub fn set_identity(head: &mut Head, machine: CnNmtStateMachine)
     head[TIMEOUT] = machine.basic_ethernet_timeout;
 }
 
+/// Writes the thresholds of all counters.
 pub fn set_thresholds(head: &mut Head, errors: CnErrorCounters)
     ensures { head.new ≡ thresholds_written head.old errors }
 {
@@ -433,6 +474,7 @@ pub fn set_thresholds(head: &mut Head, errors: CnErrorCounters)
     set_each(head, 2, thresholds);
 }
 
+/// Writes a value that may be missing. Where it is, its own word stays as it was.
 pub fn set_object(head: &mut Head, object: Object, value: Option<u32>)
     ensures { head.new ≡ object_written head.old (at.object object) value }
 {
@@ -440,6 +482,7 @@ pub fn set_object(head: &mut Head, object: Object, value: Option<u32>)
     set_option(head, place, value, |head, n| head[place + 1] = n);
 }
 
+/// Writes a counter of object 0x1102.
 pub fn set_statistic(head: &mut Head, statistic: Statistic, count: u32)
     ensures { head.new ≡ slice_set head.old (at.statistic statistic) count }
 {
@@ -447,14 +490,16 @@ pub fn set_statistic(head: &mut Head, statistic: Statistic, count: u32)
     head[place] = count;
 }
 
-// One more, from the 32-bit top to 0.
+/// Raises a counter of object 0x1102 by 1; from 2^32 - 1 it goes to 0.
 pub fn increment_counter(head: &mut Head, statistic: Statistic)
-    ensures { head.new ≡ slice_set head.old (at.statistic statistic) ((word head.old (at.statistic statistic) + 1) % 4294967296) }
+    ensures { head.new ≡ slice_set head.old (at.statistic statistic)
+        ((word head.old (at.statistic statistic) + 1) % 4294967296) }
 {
     let count = statistic_of(head, statistic);
     set_statistic(head, statistic, count.wrapping_add(1));
 }
 
+/// Writes the values of the dictionary.
 pub fn set_od(head: &mut Head, od: Dictionary)
     ensures { head.new ≡ od_written head.old od }
 {
@@ -467,6 +512,7 @@ pub fn set_od(head: &mut Head, od: Dictionary)
     set_statistic(head, Statistic::Counter5, od.counter_5);
 }
 
+/// Writes the capacity of the emergency queue.
 pub fn set_capacity(head: &mut Head, capacity: u8)
     ensures { head.new ≡ slice_set head.old at.capacity capacity }
 {

@@ -1,5 +1,5 @@
--- The heartbeats in words: the look at the nodes, and the walk over the late ones. What they make of the head is by the laws on a head by its parts;
--- the words are beside it.
+-- The heartbeats in words: the look at the nodes, and the walk over the late ones. What they make
+-- of the head is by the laws on a head by its parts; the words are beside it.
 -- Assumes nothing.
 use Rattle.std.proofs.Common.{◌≡◌, ℕ, suc, ◌+◌, ◌-◌, ◌*◌, ◌<◌, ◌≤◌, Bool, true, false, eqb, ltb, leb, List, [], ◌∷◌, ◌++◌, map, length, get_or, take, drop, set, sym, refl, ap, ◌∙◌, subst, ap₂, add-one, arith, take-append-drop, length-take-le, get_or-take, ltb-true, le-ltb, lt-ltb, ne_eqb, eqb-true, leb-true}
 use Prim.Native.Nat.{min}

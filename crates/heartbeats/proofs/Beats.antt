@@ -1,4 +1,5 @@
--- The heartbeats of the tick, over plain variables: the look at the watched nodes, and the walk over the late ones.
+-- The heartbeats of the tick, over plain variables: the look at the watched nodes, and the walk
+-- over the late ones.
 -- Assumes nothing.
 use Rattle.std.proofs.Common.{◌≡◌, ℕ, ◌+◌, ◌<◌, ◌≤◌, Bool, true, false, List, [], ◌∷◌, ◌++◌, length, get_or, take, drop, sym, refl, ap, ◌∙◌, ap₂}
 use Rattle.types.specs.Pick.{pick}
@@ -66,7 +67,8 @@ module _ (h : Head) (w : WatchedNode) (r : HandledError) (e : r ≡ handled h.er
       Ticks h q m (beat (plain h q m) w) f q m
   beat_signalled z s u k = beat_ends true z s u.0 (record { queue = u.1.queue; history = u.1.history }) k
 
--- a heartbeat that brings no action: nothing is logged, and the walk goes on from the head that it left
+-- a heartbeat that brings no action: nothing is logged, and the walk goes on from the head that it
+-- left
 beat_crossings : (p : Plain) (w : WatchedNode) → (beat p w).crossings ≡ []
 unfolding beat
 beat_crossings p w = refl
@@ -93,8 +95,8 @@ pub beats_end : (p : Plain) (w : WatchedNode) (ws : List WatchedNode) → (beat 
 unfolding beat_all
 beats_end p w ws n = ap (λ (b : Bool). pick b (beat p w) (behind (beat p w) (beat_all (beat p w).head ws))) n
 
--- What the walk keeps, whatever stands in the memory: the late ones among the nodes vs that are left give what those of
--- all the nodes ws give, and nothing has joined, been logged or ended.
+-- What the walk keeps, whatever stands in the memory: the late ones among the nodes vs that are
+-- left give what those of all the nodes ws give, and nothing has joined, been logged or ended.
 pub record Beating (t : ℕ) (ws : List WatchedNode) (h₀ : Head) (d : PartLeft) (vs : List WatchedNode) : Type 0 where
   pub alike : (q m : List ℕ) → Alike (beat_all (plain h₀ q m) (late_ones t ws)) (beat_all (plain d.head q m) (late_ones t vs))
   pub joined : (q m : List ℕ) → rings d.head q m ≡ rings h₀ q m

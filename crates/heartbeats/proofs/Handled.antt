@@ -1,4 +1,5 @@
--- An error that was handled in words: what the answer and the words that were written say of the head, and of how the error ends.
+-- An error that was handled in words: what the answer and the words that were written say of the
+-- head, and of how the error ends.
 -- Assumes nothing.
 use Rattle.std.proofs.Common.{◌≡◌, ℕ, Bool, List, length, sym, ap, ◌∙◌, subst}
 use Rattle.types.specs.declared.frame.error.types.DllError.{DllError}

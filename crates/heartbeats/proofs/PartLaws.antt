@@ -1,4 +1,5 @@
--- What the handling of an error in a tick makes of a head, over plain variables; and the errors that are quiet.
+-- What the handling of an error in a tick makes of a head, over plain variables; and the errors
+-- that are quiet.
 -- Assumes nothing.
 use Rattle.std.proofs.Common.{◌≡◌, Bool, true, false, [], sym, refl, ap, ◌∙◌, true≢false}
 use mathlib.Core.Bool.{false≢true}
@@ -56,7 +57,8 @@ module _ (g : Head) (es : DllErrors) (ends : Bool) where
         ended = refl;
       }
 
--- An error that counts for a kind, or for none, is quiet: nothing is signalled or logged unless it brings an action.
+-- An error that counts for a kind, or for none, is quiet: nothing is signalled or logged unless it
+-- brings an action.
 pub record Quiet (r : HandledError) : Type 0 where
   pub signal : r.signal ≡ false
   pub logged : reported r.logged ≡ []

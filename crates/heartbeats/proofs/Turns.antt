@@ -1,4 +1,5 @@
--- A signal, an event in a tick and the end of an error, in words: a claim about what is written is computed on words written out one by one.
+-- A signal, an event in a tick and the end of an error, in words: a claim about what is written is
+-- computed on words written out one by one.
 -- Assumes nothing.
 use Rattle.std.proofs.Common.{◌≡◌, ℕ, ◌+◌, ◌%◌, Bool, true, false, List, length, set, sym, refl, ap, ◌∙◌, subst, arith, eq-eqb, ne_eqb}
 use Rattle.types.specs.Pick.{pick}

@@ -1,5 +1,5 @@
--- The words of the watched nodes after the look, and of the head after an error in a tick and after the heartbeats: every word, as a function of what
--- came in.
+-- The words of the watched nodes after the look, and of the head after an error in a tick and after
+-- the heartbeats: every word, as a function of what came in.
 -- Assumes nothing.
 use Rattle.std.specs.Prelude.{ℕ, zero, suc, ◌+◌, ◌*◌, ◌%◌, Bool, List, [], ◌∷◌, ◌==◌, slice_index, slice_set}
 use Rattle.types.specs.Pick.{pick, either}
@@ -16,7 +16,7 @@ use Rattle.head.specs.Words.{word, nmt_of, errors_of}
 use Rattle.head.specs.Written.{nmt_written}
 use Rattle.node.specs.InPlace.{effect_words}
 
--- the look at one node: the time that is left of its last-heard time
+-- the time that the look at one node leaves as its last-heard time
 abbrev pub looked_time : ℕ → ℕ → ℕ → ℕ
 looked_time t timeout last = pick (either (last == 0) (is_late t (watched_node 0 timeout last))) t last
 
@@ -28,25 +28,26 @@ unfoldable pub looked_words : ℕ → ℕ → List ℕ → List ℕ
 looked_words t zero ns = ns
 looked_words t (suc i) ns = look_words t i (looked_words t i ns)
 
--- a signal
+-- a signal: `error_status_changed`, the register's lowest bit, and counter 5 where that changes it
 abbrev pub signal_words : List ℕ → List ℕ
 signal_words ws =
     pick (is_even (word ws at.register % 256))
     (slice_set (slice_set (slice_set ws at.changed 1) at.register (word ws at.register % 256 + 1)) at.counter5 (one_more (word ws at.counter5)))
     (slice_set ws at.changed 1)
 
--- an NMT event in a tick, and the end of an error
+-- an NMT event in a tick, with the check off
 unfoldable pub event_words : List ℕ → NmtEvent → List ℕ
 event_words ws e = slice_set (nmt_written ws (Nmt.processed (nmt_of ws) e).machine) at.check 0
 
+-- the end of an error: where it ends the tick, the event Error
 unfoldable pub finished_words : Bool → List ℕ → List ℕ
 finished_words ends ws = pick ends (event_words ws Error) ws
 
--- a walk over errors: the first that brings an action ends it
+-- an error ends the walk over errors, where it brings an action
 abbrev pub ends_by : List ℕ → DllError → Bool
 ends_by ws e = acts (handled (errors_of ws) e).action
 
--- the error of a late node
+-- the error of a late node, and those of all
 unfoldable pub beat_words : List ℕ → WatchedNode → List ℕ
 beat_words ws w =
     finished_words (ends_by ws (timeout_of w))

@@ -26,15 +26,16 @@ pub record Finishes (g : Head) (es : DllErrors) (ends : Bool) (r : PartLeft) : T
   pub logged : r.logged ≡ es
   pub ended : r.ended ≡ ends
 
--- on a head h with its memory: the head and the memory left stand for the plain tick's head, and the entries of its crossings
--- have joined
+-- on a head h with its memory: the head and the memory left stand for the plain tick's head, and
+-- the entries of its crossings have joined
 pub record Ticks (h : Head) (q m : List ℕ) (k : Ticked) (r : PartLeft) (q' m' : List ℕ) : Type 0 where
   pub head : plain r.head q' m' ≡ k.head
   pub logged : reported r.logged ≡ k.logged
   pub ended : r.ended ≡ k.ended
   pub joined : rings r.head q' m' ≡ joins_all (rings h q m) k.crossings
 
--- an error that counts for a kind, or for none, is quiet: nothing is signalled or logged unless it brings an action
+-- an error that counts for a kind, or for none, is quiet: nothing is signalled or logged unless it
+-- brings an action
 abbrev pub quiet_effect : Effect → Bool
 quiet_effect (counts k) = true
 quiet_effect loses_link = false

@@ -1,4 +1,5 @@
-// The heartbeats of a tick: the look at the watched nodes, and the errors of the late ones.
+//! The heartbeats of a tick: the look at the watched nodes, and the errors of the late ones
+//! (RULES 7.3, 7.4).
 ghost use Rattle.std.specs.Prelude.{◌≡◌, ℕ, ◌≤◌, true, List, map};
 ghost use Rattle.watched.specs.declared.nodes.WatchedNode.{WatchedNode};
 ghost use Rattle.watched.specs.Watched.{well_formed, watched_of};
@@ -19,14 +20,16 @@ use types::types::NodeId;
 use watched::nodes::{Formed, NEVER, NodeWords, moment, set_heard};
 use watched::record::NodeRecord;
 
-// A node that was heard once, and then not for longer than its timeout.
+/// Whether a node is late at a time in µs: it was heard once, and then not for longer than its
+/// timeout, which is not 0.
 pub fn is_late(node: NodeRecord, time: u64) -> bool
     ensures { result ≡ is_late time (node_of node) }
 {
     node.last_heard != 0 && node.timeout != 0 && node.timeout < time_since(time, node.last_heard)
 }
 
-// A node that was never heard, or is late, counts as heard now.
+/// When a node counts as heard behind the look at a time in µs: now, where it was never heard or is
+/// late.
 pub fn looked(node: NodeRecord, time: u64) -> u64
     ensures { result ≡ looked_time time node.timeout node.last_heard }
 {
@@ -36,12 +39,14 @@ pub fn looked(node: NodeRecord, time: u64) -> u64
     node.last_heard
 }
 
-// All nodes, and the soonest moment at which one would be late then. It writes them, so they are no Formed, which is lent to be read.
+/// Looks at all nodes, which sets their times, and answers the soonest moment at which one would be
+/// late then. It writes the nodes, so they are no `Formed`, which is lent to be read.
 pub fn look_all(nodes: &mut NodeWords, count: usize, time: u64) -> Option<u64>
     requires { well_formed (watched_of (nodes_of nodes.old) count) ≡ true }
     ensures { (nodes.new ≡ looked_words time count nodes.old)
         × (nodes_of nodes.new ≡ looked_first time count (nodes_of nodes.old))
-        × (result ≡ moment_of (soonest never (map (looked time) (watched_of (nodes_of nodes.old) count)))) }
+        × (result ≡ moment_of
+        (soonest never (map (looked time) (watched_of (nodes_of nodes.old) count)))) }
 {
     let mut early = NEVER;
     for i in 0..count {
@@ -56,7 +61,9 @@ pub fn look_all(nodes: &mut NodeWords, count: usize, time: u64) -> Option<u64>
 // The error of a late node: neither counter 1 nor an entry follows from it.
 fn beat(head: &mut Head, node: u64) -> Dealt
     requires { node ≤ 255 }
-    ensures { (w : WatchedNode) → w.node ≡ node → (q m : List ℕ) → TicksIn head.old q m (beat (plain (head_of head.old) q m) w) result head.new q m (beat_words head.old w) }
+    ensures { (w : WatchedNode) → w.node ≡ node → (q m : List ℕ) →
+        TicksIn head.old q m (beat (plain (head_of head.old) q m) w)
+        result head.new q m (beat_words head.old w) }
 {
     let node_id = NodeId(node as u8);
     let answer = handled(head, DllError::HeartbeatTimeout { node_id });
@@ -66,10 +73,15 @@ fn beat(head: &mut Head, node: u64) -> Dealt
     finish(head, answer.logged, acts(answer.action))
 }
 
-// The errors of the late nodes, ascending: the first whose handling brings an action ends the walk. The nodes are those before the look.
+/// Counts the errors of the nodes that are late at a time in µs, ascending: the first whose
+/// handling brings an action ends the walk, and the tick with it. The nodes are those before the
+/// look.
 pub fn beat_all(head: &mut Head, formed: Formed, time: u64) -> Dealt
-    ensures { (q m : List ℕ) → TicksIn head.old q m (beat_all (plain (head_of head.old) q m) (late_ones time (watched_of (nodes_of formed.entry.nodes.now) formed.entry.count))) result head.new q m
-        (beat_all_words head.old (late_ones time (watched_of (nodes_of formed.entry.nodes.now) formed.entry.count))) }
+    ensures { (q m : List ℕ) →
+        let nodes = watched_of (nodes_of formed.entry.nodes.now) formed.entry.count in
+        let late = late_ones time nodes in
+        TicksIn head.old q m (beat_all (plain (head_of head.old) q m) late)
+        result head.new q m (beat_all_words head.old late) }
 {
     let mut dealt = Dealt::GOES_ON;
     'walk: for place in 0..formed.count {

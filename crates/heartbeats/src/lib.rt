@@ -1,5 +1,5 @@
-// The heartbeats of a tick: the look at the watched nodes, and the errors of the late ones; and what the handling of an error in a tick leaves, whichever
-// phase it comes from.
+//! The heartbeats of a tick: the look at the watched nodes, and the errors of the late ones; and
+//! what the handling of an error in a tick leaves, whichever phase it comes from.
 #![tactic(auto)]
 
 pub mod dealt;

@@ -1,4 +1,5 @@
--- Add and remove over a lent run, over plain variables: what the two walks leave is what the form in words leaves, and what the calls answer.
+-- Add and remove over a lent run, over plain variables: what the two walks leave is what the form
+-- in words leaves, and what the calls answer.
 -- Assumes nothing.
 use Prim.Native.Nat.{ℕ, zero, suc, ◌+◌, ◌-◌, ◌<◌, ◌≤◌}
 use mathlib.Core.Path.{◌≡◌, refl, sym, ap, ap₂, ◌∙◌}
@@ -194,7 +195,7 @@ module _ (ws : List ℕ) (vs : List WatchedNode) (k n : ℕ) (f : Findings) (ask
   lent : is_some o ≡ well_lent r
   lent = seen_lent k n 0 y (new_counter 0) vs o z
 
-  -- add, of a run that number 3 declines
+  -- add, of a run that is not well formed
   pub add_unformed : o ≡ None → is_node n ≡ true → (t : ℕ) → AddedOn ws r n t (Err WatchedNodes) ws r
   add_unformed p a t = Adding.add_unformed ws r n t true (sym a) (sym lent ∙ ap (λ (o : Option Findings). is_some o) p) false k (Err WatchedNodes) refl
 

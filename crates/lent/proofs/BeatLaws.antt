@@ -1,4 +1,5 @@
--- The errors of the late nodes, over plain variables: what the walk carries of them is what the plain tick makes of them, and what stands in the words.
+-- The errors of the late nodes, over plain variables: what the walk carries of them is what the
+-- plain tick makes of them, and what stands in the words.
 -- Assumes nothing.
 use Prim.Native.Nat.{ℕ}
 use mathlib.Core.Path.{◌≡◌, refl, sym, ap, ◌∙◌}

@@ -1,4 +1,5 @@
--- The bits of a run of records: by what was found of it, and what a walk over its watched places sets.
+-- The bits of a run of records: by what was found of it, and what a walk over its watched places
+-- sets.
 -- Assumes nothing.
 use Prim.Native.Nat.{ℕ, ◌≤◌}
 use mathlib.Core.Path.{◌≡◌, sym, ap, ◌∙◌}

@@ -1,5 +1,5 @@
--- The calls that are lent a run, by what was found of it, over plain variables: their refusals, and what they leave. What a call
--- makes of a run is by the laws that the form in words uses too.
+-- The calls that are lent a run, by what was found of it, over plain variables: their refusals, and
+-- what they leave. What a call makes of a run is by the laws that the form in words uses too.
 -- Assumes nothing.
 use Prim.Native.Nat.{ℕ}
 use mathlib.Core.Path.{◌≡◌, refl, sym, ap, subst, ◌∙◌}
@@ -90,7 +90,7 @@ module _ (ws : List ℕ) (vs : List WatchedNode) (k n t : ℕ) (f : Findings) (a
         ∙ ap earliest (sym watched) in
         heard_taken ws r n t true s.watched (sym saw.well) saw.watched (sym g ∙ e) long _ (left_as _ _ left) m moment ws' w
 
--- start, by whether number 3 does not stand
+-- start, by whether the nodes are well formed
 module _ (ws : List ℕ) (vs : List WatchedNode) (k : ℕ) (s : Setup) (g : Findings) (asks : g ≡ asked_for Unheard) (o : Option Findings) (sees : o ≡ surveyed k g vs)
     (formed : Bool) (p : formed ≡ is_some o) (a : Result (Unit {0}) Refusal) (ws' : List ℕ) (b : BeginsBy ws s formed a ws') where
   unheard_asked : o ≡ surveyed k (asked_for Unheard) vs
@@ -109,7 +109,7 @@ module _ (ws : List ℕ) (vs : List WatchedNode) (k : ℕ) (s : Setup) (g : Find
       subst (λ (a : Result (Unit {0}) Refusal). StartedOn ws (run vs k) s a ws' (run vs k)) g
       (begun vs (ap (λ (a : Result (Unit {0}) Refusal). start_left a (run vs k)) (sym g)))
 
--- the tick: numbers 3, 5 and 6, and what is taken
+-- the tick: its refusals, and what is taken
 module _ (ws q m : List ℕ) (vs : List WatchedNode) (k t : ℕ) (g : Findings) (asks : g ≡ for_tick ws t) (o : Option Findings) (sees : o ≡ surveyed k g vs) where
   e : o ≡ surveyed k (for_tick ws t) vs
   e = sees ∙ ap (λ (f : Findings). surveyed k f vs) asks

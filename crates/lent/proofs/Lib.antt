@@ -4,4 +4,3 @@ pub mod BeatLaws
 pub mod BitLaws
 pub mod JudgedLaws
 pub mod ArrivalLaws
-pub mod Links

@@ -1,4 +1,5 @@
--- What a walk over the places of a run has seen, of all of them, over plain variables: numbers 3, 6 and 7, the earliest moment, and the places as a walk sets them.
+-- What a walk over the places of a run has seen, of all of them, over plain variables: what the
+-- tests ask, the earliest moment, and the places as a walk sets them.
 -- Assumes nothing.
 use Prim.Native.Nat.{ℕ, zero, suc, ◌-◌, ◌≤◌, ◌<◌}
 use mathlib.Core.Path.{◌≡◌, refl, sym, ap, ap₂, ◌∙◌}
@@ -77,7 +78,7 @@ unfolding folded
 soonest_all s [] = refl
 soonest_all s (w ∷ ws) = soonest_all (found_by s w) ws
 
--- what is found where number 3 does not stand
+-- what is found of nodes that are well formed
 is_formed : (b : Bool) (f : Findings) → is_some (pick b (formed_of f) None) ≡ both b (is_some f.tried)
 is_formed false f = refl
 is_formed true f = by (is_some f.tried)
@@ -98,7 +99,8 @@ formed_same b f g e = by b (is_some f.tried) e
     by true false e = ap (some_or f) e
     by false c e = ap (some_or f) e
 
--- what was seen of a run that passes number 3; `moment` is the soonest moment of the nodes as they are set
+-- what was seen of a run that is well formed; `moment` is the soonest moment of the nodes as they
+-- are set
 pub record Seen (k n t : ℕ) (y : Setting) (c : ThresholdCounter) (vs : List WatchedNode) (s : Findings) : Type 0 where
   pub well : well_lent (run vs k) ≡ true
   pub formed : well_formed (watched_of vs k) ≡ true
@@ -142,7 +144,7 @@ module _ (k n t : ℕ) (y : Setting) (c : ThresholdCounter) (vs : List WatchedNo
           within (eqb-true (length vs) 32 h) (leb k 32) refl
           ∙ ap (λ (n : ℕ). both (leb n 32) (both (ascending (watched_of vs k)) (all_of fits (watched_of vs k)))) (sym many)
 
-  -- of a run that passes number 3
+  -- of a run that is well formed
   module _ (s : Findings) (p : o ≡ Some s) where
     well : well_lent (run vs k) ≡ true
     well = sym seen_lent ∙ ap (λ (o : Option Findings). is_some o) p

@@ -20,15 +20,17 @@ use Rattle.lent.specs.declared.run.Findings.{Findings}
 use Rattle.lent.specs.declared.run.Setting.{Setting}
 use Rattle.lent.specs.declared.run.Setting.TheVariants.{Nothing, Unheard, Heard, Looked}
 
--- number 3: above the one before, and within its limits
+-- the test of WatchedNodes at one node: above the one before, and within its limits
 abbrev pub tried_by : Option ℕ → WatchedNode → Option ℕ
 tried_by None w = None
 tried_by (Some l) w = pick (both (ltb l w.node) (fits w)) (Some w.node) None
 
--- the error of a late node, given to the heartbeat counter; the first crossing ends the errors
+-- the error of a late node, given to the heartbeat counter
 abbrev pub erred : Beats → WatchedNode → Beats
 erred s w = record { counter = (after_error s.counter).counter; crossed = pick (after_error s.counter).reached (Some w.node) None }
 
+-- the errors behind one more node: it adds none where it is not late, and the first crossing ends
+-- them
 abbrev pub beaten_by : ℕ → Beats → WatchedNode → Beats
 beaten_by t s w = pick (is_some s.crossed) s (pick (is_late t w) (erred s w) s)
 
@@ -39,6 +41,7 @@ settled Unheard w = heard_now 0 w
 settled (Heard n t) w = pick (eqb w.node n) (heard_now t w) w
 settled (Looked t) w = looked t w
 
+-- what is found behind one more node, and behind many
 abbrev pub found_by : Findings → WatchedNode → Findings
 found_by s w =
     record {
@@ -55,15 +58,16 @@ found_by s w =
 abbrev pub found_all : Findings → List WatchedNode → Findings
 found_all s vs = folded found_by s vs
 
--- A run of which k places are watched: "the places past that number are not tried". None where number 3 declines it: other than 32 places, a number above
--- them, or nodes that are not well formed.
+-- What is found of a run of which k places are watched; none where it is not well formed: other
+-- than 32 places, a number above them, or nodes that do not ascend or are not within their limits.
+-- The places past the number are not tried.
 abbrev pub formed_of : Findings → Option Findings
 formed_of f = pick (is_some f.tried) (Some f) None
 
 abbrev pub surveyed : ℕ → Findings → List WatchedNode → Option Findings
 surveyed k s vs = pick (both (eqb (length vs) 32) (leb k 32)) (formed_of (found_all s (take k vs))) None
 
--- before the first node: what a call asks for
+-- what is found before the first node: what a call asks for
 abbrev pub sought_from : ℕ → ℕ → Setting → ThresholdCounter → Findings
 sought_from n t y c =
     record {
@@ -77,13 +81,15 @@ sought_from n t y c =
       soonest = never;
     }
 
+-- of the nodes alone; of a node n that is heard at t; and of a time t, with a head's heartbeat
+-- counter
 abbrev pub asked_for : Setting → Findings
 asked_for y = sought_from 0 0 y (new_counter 0)
 
 abbrev pub for_heard : ℕ → ℕ → Findings
 for_heard n t = sought_from n 0 (Heard n t) (new_counter 0)
 
--- the words of a head: its heartbeat counter, and what a tick sets
+-- a head's heartbeat counter, and what a tick at t sets
 abbrev pub beats_at : List ℕ → ThresholdCounter
 beats_at ws = counter_at ws (at.counter HeartbeatTimeout)
 
@@ -101,6 +107,7 @@ pub record Settling : Type 0 where
 abbrev pub settling_of : ℕ → Setting → Settling
 settling_of k y = record { left = k; setting = y }
 
+-- what a walk sets at one place, and at all
 abbrev pub set_next : Settling → WatchedNode → WatchedNode × Settling
 set_next a w = (pick (ltb 0 a.left) (settled a.setting w) w, settling_of (a.left - 1) a.setting)
 

@@ -1,5 +1,6 @@
-// Heartbeat partners arrive and leave, over a lent run of records: a walk finds out what the tests ask, and a walk that carries the displaced record sets
-// the places, from the first for an add, from the last for a removal.
+//! Heartbeat partners arrive and leave (RULES 8.4), over a lent run of records: a walk finds out
+//! what the tests ask, and a walk that carries the displaced record sets the places, from the first
+//! for an add, from the last for a removal.
 ghost use Rattle.std.specs.Prelude.{◌≡◌};
 ghost use Rattle.watched.specs.Watched.{run};
 ghost use Rattle.partners.specs.Partners.{AddedOn, RemovedOn};
@@ -14,23 +15,30 @@ use types::refusals::Refusal;
 use types::types::NodeId;
 use watched::nodes::{WatchedNode, moment};
 
-// The record that takes the next place: so many of the places ahead are watched.
+/// An add at one place: what is carried there.
 #[derive(Clone, Copy)]
 pub struct Carrying {
+    /// How many of the places from this one on are watched.
     pub left: usize,
+    /// The record that takes the place of the first one above it.
     pub node: WatchedNode,
 }
 
-// A removal: the places up to this one, the number watched before it, the node, and what stood behind this place.
+/// A removal at one place; it goes from the last place to the first.
 #[derive(Clone, Copy)]
 pub struct Closing {
+    /// How many places there are up to this one.
     pub left: usize,
+    /// How many nodes are watched before the removal.
     pub number: usize,
+    /// The node that is removed.
     pub node: u8,
+    /// What stood behind this place.
     pub next: WatchedNode,
 }
 
-// One place, and what is carried on: the record that is carried takes the place of one above it, or the first past the number, which is cleared from there on.
+/// What a place becomes, and what is carried on: the record that is carried takes the place of one
+/// above it, or the first past the number, and the places behind that are cleared.
 pub fn carry_next(carrying: Carrying, w: WatchedNode) -> (WatchedNode, Carrying)
     ensures { result ≡ carry_next carrying w }
 {
@@ -51,7 +59,7 @@ pub fn carry_next(carrying: Carrying, w: WatchedNode) -> (WatchedNode, Carrying)
     (w, Carrying { left, node })
 }
 
-// All places, from the first.
+/// Sets all places, from the first.
 pub fn carry(nodes: &mut [WatchedNode], carrying: Carrying)
     ensures { nodes.new ≡ carried_all carrying nodes.old }
 {
@@ -59,7 +67,8 @@ pub fn carry(nodes: &mut [WatchedNode], carrying: Carrying)
 }
 
 impl Closing {
-    // What a place becomes: below the node it stays, from there on it takes what stood behind it, and it is cleared where that is not watched.
+    // What a place becomes: below the node it stays, from there on it takes what stood behind it,
+    // and it is cleared where that is not watched.
     fn moved_down(self, w: WatchedNode) -> WatchedNode
         ensures { result ≡ moved_down self.left self.number self.node self.next w }
     {
@@ -73,7 +82,7 @@ impl Closing {
     }
 }
 
-// One place, from the last, and what stands behind the next one.
+/// What a place becomes, and the removal at the place before it.
 pub fn close_next(closing: Closing, w: WatchedNode) -> (WatchedNode, Closing)
     ensures { result ≡ close_next closing w }
 {
@@ -85,14 +94,17 @@ pub fn close_next(closing: Closing, w: WatchedNode) -> (WatchedNode, Closing)
     (closing.moved_down(w), next)
 }
 
-// All places, from the last.
+/// Sets all places, from the last.
 pub fn close(nodes: &mut [WatchedNode], closing: Closing)
     ensures { nodes.new ≡ closed_all closing nodes.old }
 {
     scan_back(nodes, closing, |closing, w| close_next(closing, w))
 }
 
-// A node is watched from now on, with its timeout, and not yet heard.
+/// Watches a node from now on, with its timeout in µs and not heard yet. It stands in its place,
+/// ascending; `number` rises by 1, and the places past it are cleared. Refused, in this order:
+/// NodeNumber, WatchedNodes (also where the timeout is above 2^62 - 1 µs), AlreadyWatched,
+/// AllWatched; then nothing changes.
 pub fn add(
     head: &mut Head,
     number: &mut usize,
@@ -100,7 +112,8 @@ pub fn add(
     node: u8,
     timeout: u64,
 ) -> Result<(), Refusal>
-    ensures { AddedOn head.old (run nodes.old number.old) node timeout result head.new (run nodes.new number.new) }
+    ensures { AddedOn head.old (run nodes.old number.old) node timeout
+        result head.new (run nodes.new number.new) }
 {
     let count = *number;
     NodeId::try_from(node)?;
@@ -121,15 +134,18 @@ pub fn add(
     Ok(())
 }
 
-// A node is watched no more. The soonest moment with it not heard is that of the others.
+/// Watches a node no more: those behind it move up, `number` falls by 1, and the places past it are
+/// cleared. Refused, in this order: WatchedNodes, NotWatched; then nothing changes.
 pub fn remove(
     head: &mut Head,
     number: &mut usize,
     nodes: &mut [WatchedNode],
     node: u8,
 ) -> Result<(), Refusal>
-    ensures { RemovedOn head.old (run nodes.old number.old) node result head.new (run nodes.new number.new) }
+    ensures { RemovedOn head.old (run nodes.old number.old) node
+        result head.new (run nodes.new number.new) }
 {
+    // The soonest moment with the node not heard is that of the others.
     let found = survey(nodes, *number, for_heard(node, 0)).ok_or(Refusal::WatchedNodes)?;
     try_remove(Some(found.watched))?;
     let closing = Closing {

@@ -1,4 +1,4 @@
-// The calls that are lent the watched nodes as a run of records, but for the tick, add and remove.
+//! The calls that are lent the watched nodes as a run of records, but for the tick, add and remove.
 ghost use Rattle.watched.specs.Watched.{run};
 ghost use Rattle.node.specs.Heard.{HeardOn};
 ghost use Rattle.start.specs.Started.{StartedOn};
@@ -11,7 +11,9 @@ use start::start::{Setup, begin};
 use types::refusals::Refusal;
 use watched::nodes::{WatchedNode, moment};
 
-// A watched node was heard.
+/// A watched node was heard at a time in µs, 0 to 2^62 - 1: that is its last-heard time, and the
+/// earliest moment is worked out anew. Refused, in this order: WatchedNodes, TimeLimit, NotWatched,
+/// also for a number that no node has; then nothing changes.
 pub fn heard(
     head: &mut Head,
     nodes: &mut [WatchedNode],
@@ -19,7 +21,8 @@ pub fn heard(
     node: u8,
     time: u64,
 ) -> Result<(), Refusal>
-    ensures { HeardOn head.old (run nodes.old number) node time result head.new (run nodes.new number) }
+    ensures { HeardOn head.old (run nodes.old number) node time
+        result head.new (run nodes.new number) }
 {
     let found = survey(nodes, number, for_heard(node, time)).ok_or(Refusal::WatchedNodes)?;
     try_heard(Some(found.watched), time)?;
@@ -28,14 +31,17 @@ pub fn heard(
     Ok(())
 }
 
-// A fresh head, with an empty queue and an empty history; no watched node was heard yet.
+/// Makes a fresh head of any words (RULES 1.9), with an empty queue and an empty history. The
+/// watched nodes count as never heard. Refused, in this order: NodeNumber, QueueCapacity,
+/// WatchedNodes, ThresholdLimit; then nothing changes.
 pub fn start(
     head: &mut Head,
     nodes: &mut [WatchedNode],
     number: usize,
     setup: Setup,
 ) -> Result<(), Refusal>
-    ensures { StartedOn head.old (run nodes.old number) setup result head.new (run nodes.new number) }
+    ensures { StartedOn head.old (run nodes.old number) setup
+        result head.new (run nodes.new number) }
 {
     let setting = Setting::Unheard;
     let formed = survey(nodes, number, for_nodes(setting)).is_some();

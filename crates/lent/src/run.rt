@@ -1,7 +1,9 @@
-// The watched nodes as a lent run of records, with the number watched beside it: what a walk over its places finds out, and what a walk sets.
+//! The watched nodes as a lent run of records, with the number watched beside it: what a walk over
+//! its places finds out, and what a walk sets.
 ghost use Rattle.std.specs.Prelude.{◌≡◌};
 ghost use Rattle.watched.specs.Nodes.{sooner_by};
-ghost use Rattle.lent.specs.Runs.{sought_from, asked_for, for_heard, for_tick, tried_by, beaten_by, found_by, found_all, surveyed, settled, settling_of, settled_all};
+ghost use Rattle.lent.specs.Runs.{sought_from, asked_for, for_heard, for_tick, tried_by, beaten_by};
+ghost use Rattle.lent.specs.Runs.{found_by, found_all, surveyed, settled, settling_of, settled_all};
 
 use counters::counters::{CounterKind, ThresholdCounter};
 use head::parts::{counter_of, state_at};
@@ -12,42 +14,50 @@ use tick::tick::checks_heartbeats;
 use watched::nodes::{NEVER, WatchedNode};
 use watched::record::NodeRecord;
 
-// The errors of the late nodes, ascending: the first that crosses ends them.
+/// The errors of the late nodes, ascending: the first that crosses ends them.
 #[derive(Clone, Copy)]
 pub struct Beats {
+    /// The counter of HeartbeatTimeout.
     pub counter: ThresholdCounter,
-    // The node of the crossing.
+    /// The node of the crossing.
     pub crossed: Option<u8>,
 }
 
-// What a call sets: nothing, all last-heard times to 0, that of one node, or those that a tick sets.
+/// What a call sets of the watched nodes' last-heard times.
 #[derive(Clone, Copy)]
 pub enum Setting {
+    /// No time.
     Nothing,
+    /// All times, to 0: never heard.
     Unheard,
+    /// That of one node, to this time in µs.
     Heard(u8, u64),
+    /// Those that a look at this time in µs sets.
     Looked(u64),
 }
 
-// What a walk over the watched nodes finds out.
+/// What a walk over the watched nodes is asked, and finds out.
 #[derive(Clone, Copy)]
 pub struct Findings {
-    // Asked for: a node, a time, and what is to be set.
+    /// Asked for: whether this node is watched.
     pub node: u8,
+    /// Asked for: whether all were heard by this time, and which are late then, in µs.
     pub time: u64,
+    /// What will be set, as `soonest` counts it.
     pub setting: Setting,
-    // Number 3, node by node: the last one's number while they ascend, each within its limits.
+    /// The last node's number where the nodes ascend, each within its limits; otherwise none.
     pub tried: Option<u8>,
-    // The node is among them.
+    /// The node is among them.
     pub watched: bool,
-    // The time is before no node's last one (number 6).
+    /// BeforeHeard is not to be given: no node that has a timeout was heard after the time.
     pub after: bool,
+    /// The errors of those that are late at the time.
     pub beats: Beats,
-    // The soonest moment at which a node would be late, once all are set.
+    /// The soonest moment at which a node would be late, once all are set.
     pub soonest: u64,
 }
 
-// Before the first place.
+/// What is found before the first place.
 pub fn ask(node: u8, time: u64, setting: Setting, counter: ThresholdCounter) -> Findings
     ensures { result ≡ sought_from node time setting counter }
 {
@@ -66,14 +76,15 @@ pub fn ask(node: u8, time: u64, setting: Setting, counter: ThresholdCounter) -> 
     }
 }
 
-// Of the nodes alone.
+/// Asks for the nodes alone.
 pub(crate) fn for_nodes(setting: Setting) -> Findings
     ensures { result ≡ asked_for setting }
 {
     ask(0, 0, setting, ThresholdCounter::new(0))
 }
 
-// Of a node too, heard at a time; where it is 0, the soonest moment is that of the others.
+/// Asks for a node too, heard at a time in µs; where it is 0, the soonest moment is that of the
+/// others.
 pub fn for_heard(node: u8, time: u64) -> Findings
     ensures { result ≡ for_heard node time }
 {
@@ -85,7 +96,8 @@ pub fn for_heard(node: u8, time: u64) -> Findings
     )
 }
 
-// Of a time too, with the head's heartbeat counter; the times are set where heartbeats are checked.
+/// Asks for a time too, in µs, with the head's heartbeat counter; the times are set where
+/// heartbeats are checked.
 pub fn for_tick(head: &Head, time: u64) -> Findings
     ensures { result ≡ for_tick head.now time }
 {
@@ -122,7 +134,7 @@ fn beat(mut beats: Beats, w: WatchedNode, time: u64) -> Beats
     beats
 }
 
-// One node.
+/// A node as a setting leaves it.
 pub fn set(setting: Setting, w: WatchedNode) -> WatchedNode
     ensures { result ≡ settled setting w }
 {
@@ -143,7 +155,7 @@ fn soonest_with(soonest: u64, setting: Setting, w: WatchedNode) -> u64
     NodeRecord::from(after).sooner(soonest)
 }
 
-// One node.
+/// What is found behind one more node.
 pub fn see(found: Findings, w: WatchedNode) -> Findings
     ensures { result ≡ found_by found w }
 {
@@ -157,14 +169,16 @@ pub fn see(found: Findings, w: WatchedNode) -> Findings
     }
 }
 
-// Any records, in order, behind what was found before them.
+/// What is found behind any records, in order.
 pub fn walk(nodes: &[WatchedNode], first: Findings) -> Findings
     ensures { result ≡ found_all first nodes.now }
 {
     fold(nodes, first, |found, w| see(found, w))
 }
 
-// The watched places, in order, where the nodes pass number 3: 32 places, the number within them, and its nodes well formed. Those past the number are not tried.
+/// What is found behind the watched places, in order; none where the run is not well formed: other
+/// than 32 places, a number above them, or nodes that do not ascend or are not within their limits.
+/// The places past the number are not tried.
 pub fn survey(nodes: &[WatchedNode], number: usize, first: Findings) -> Option<Findings>
     ensures { result ≡ surveyed number first nodes.now }
 {
@@ -176,7 +190,7 @@ pub fn survey(nodes: &[WatchedNode], number: usize, first: Findings) -> Option<F
     Some(found)
 }
 
-// The first so many places.
+/// Sets the first so many places.
 pub fn settle(nodes: &mut [WatchedNode], number: usize, setting: Setting)
     ensures { nodes.new ≡ settled_all (settling_of number setting) nodes.old }
 {

@@ -1,5 +1,5 @@
-// The tick over a lent run of watched nodes: a walk finds out what numbers 3 and 6 and the heartbeats ask, the head's part
-// follows, and a walk sets the last-heard times.
+//! The tick over a lent run of watched nodes: a walk finds out what the tests and the heartbeats
+//! ask, the head's part follows, and a walk sets the last-heard times.
 ghost use Rattle.std.specs.Prelude.{◌≡◌, true, List, ℕ};
 ghost use Rattle.head.specs.Words.{nmt_of, head_of};
 ghost use Rattle.node.specs.Tick.{checks_heartbeats, late_ones, beat_all, tick_taken};
@@ -24,10 +24,12 @@ use types::types::NodeId;
 use watched::nodes::{WatchedNode, moment};
 use watched::time::Time;
 
-// What the errors of the late nodes leave: the heartbeat counter, and, where one crossed, what a crossing brings.
+// What the errors of the late nodes leave: the heartbeat counter, and, where one crossed, what a
+// crossing brings.
 fn beaten(head: &mut Head, beats: Beats) -> Dealt
     ensures { (t : ℕ) (vs : List WatchedNode) → beats ≡ beats_all head.old t vs → (q m : List ℕ) →
-        TicksIn head.old q m (beat_all (plain (head_of head.old) q m) (late_ones t vs)) result head.new q m (beat_all_words head.old (late_ones t vs)) }
+        TicksIn head.old q m (beat_all (plain (head_of head.old) q m) (late_ones t vs))
+        result head.new q m (beat_all_words head.old (late_ones t vs)) }
 {
     let counter = beats.counter;
     set_counter(head, CounterKind::HeartbeatTimeout, counter);
@@ -53,7 +55,10 @@ fn phases(
 ) -> Dealt
     requires { checks_heartbeats (nmt_of head.old).current_state ≡ true }
     ensures { (vs : List WatchedNode) → beats ≡ beats_all head.old time.us vs →
-        TicksIn head.old queue.old history.old (tick_taken (plain (head_of head.old) queue.old history.old) time.us vs) result head.new queue.new history.new (tick_words head.old queue.old history.old time.us vs) }
+        TicksIn head.old queue.old history.old
+        (tick_taken (plain (head_of head.old) queue.old history.old) time.us vs)
+        result head.new queue.new history.new
+        (tick_words head.old queue.old history.old time.us vs) }
 {
     let dealt = beaten(head, beats);
     if dealt.ended {
@@ -62,7 +67,10 @@ fn phases(
     by_deadline(head, queue, history, time)
 }
 
-// A tick at a time in microseconds, on a head with its memory and the watched nodes. Where heartbeats are not checked, no node asks for anything.
+/// A tick at a time in µs, on a head, the bytes of its queue and of its history, and the watched
+/// nodes: the heartbeats, the deadline and the SoC check, and the earliest moment anew (RULES 7).
+/// Answers what is logged. Refused, in this order: WatchedNodes, TimeLimit where the time is above
+/// 2^62 - 1, BeforeHeard where heartbeats are checked; then nothing changes.
 pub fn process_tick(
     head: &mut Head,
     queue: &mut [u8; 640],
@@ -71,10 +79,12 @@ pub fn process_tick(
     number: usize,
     time: u64,
 ) -> Result<DllErrors, Refusal>
-    ensures { TickedOn head.old queue.old history.old (run nodes.old number) time result head.new queue.new history.new (run nodes.new number) }
+    ensures { TickedOn head.old queue.old history.old (run nodes.old number) time
+        result head.new queue.new history.new (run nodes.new number) }
 {
     let found = survey(nodes, number, for_tick(head, time)).ok_or(Refusal::WatchedNodes)?;
     let soonest = moment(found.soonest);
+    // Where heartbeats are not checked, no node asks for anything.
     if !checks_heartbeats(state_at(head)) {
         return tick_still(head, queue, history, time, soonest);
     }

@@ -1,4 +1,5 @@
--- Document 01's bench examples marked ●, proved together over one table of them: of each call the plain head makes exactly what is stated.
+-- The twelve examples of RULES 11.4, proved together over one table of them: of each call the plain
+-- head makes exactly what is stated.
 -- Assumes nothing.
 use mathlib.Core.Path.{◌≡◌, refl}
 use mathlib.Core.List.{map}

@@ -1,4 +1,5 @@
--- The contracts fix the whole answer: of a call on a head, no two answers meet its contract. That every word is fixed, they say themselves.
+-- The contracts fix the whole answer: of a call on a head, no two answers meet its contract. That
+-- every word is fixed, they say themselves.
 -- Assumes nothing.
 use Prim.Native.Nat.{ℕ}
 use mathlib.Core.Path.{◌≡◌, refl, sym, ap, ◌∙◌}
@@ -20,7 +21,7 @@ use Rattle.types.specs.declared.frame.error.types.DllErrors.{DllErrors}
 use Rattle.counters.specs.declared.counters.ErrorTaken.{ErrorTaken}
 use Rattle.node.specs.declared.range.SocVerdict.{SocVerdict}
 use Rattle.node.specs.declared.range.SocVerdict.TheVariants.{Open}
-use Rattle.node.specs.Plain.{Call, Answer, refused, taken, nmt_answer, dll_answer, error_answer, cycle_answer, hand_out_answer, tick_answer, range_answer, margin_answer}
+use Rattle.node.specs.Plain.{Call, Answer, refused, taken, nmt_answer, dll_answer, error_answer, cycle_answer, hand_out_answer, tick_answer, range_answer, margin_answer, due_answer}
 use Rattle.node.specs.InPlace.{InPlace, said, nmt_said, dll_said, error_said, range_said, margin_said}
 
 -- a call leaves one answer and one head
@@ -28,7 +29,8 @@ pub in_place_fixes :
     {c : Call} {a b : Answer} {ws ws' ws'' known : List ℕ} → InPlace ws c a ws' known → InPlace ws c b ws'' known → (a ≡ b) × (ws' ≡ ws'')
 in_place_fixes x y = ((x.refines [] []).answer ∙ sym (y.refines [] []).answer, x.words ∙ sym y.words)
 
--- the parts of an answer, where it has them: whether it is a refusal and which, errors, reset, action and signal
+-- the parts of an answer, where it has them: whether it is a refusal and which, errors, reset,
+-- action and signal
 pub record Parts : Type 0 where
   pub declines : Bool
   pub refusal : ℕ
@@ -48,6 +50,7 @@ parts (hand_out_answer f) = record { declines = false; refusal = 0; errors = [];
 parts (tick_answer es) = record { declines = false; refusal = 0; errors = es; reset = record { states = []; ranges = [] }; action = None; signal = false }
 parts (range_answer v) = record { declines = false; refusal = 0; errors = []; reset = record { states = []; ranges = [] }; action = None; signal = false }
 parts (margin_answer z) = record { declines = false; refusal = 0; errors = []; reset = record { states = []; ranges = [] }; action = None; signal = false }
+parts (due_answer d) = record { declines = false; refusal = 0; errors = []; reset = record { states = []; ranges = [] }; action = None; signal = false }
 
 -- the verdict and the margin, where an answer is one
 abbrev pub verdict_in : Answer → SocVerdict
@@ -61,6 +64,7 @@ verdict_in (hand_out_answer f) = Open
 verdict_in (tick_answer es) = Open
 verdict_in (range_answer v) = v
 verdict_in (margin_answer z) = Open
+verdict_in (due_answer d) = Open
 
 abbrev margin_in : Answer → ℤ
 margin_in (refused n) = pos 0
@@ -73,6 +77,7 @@ margin_in (hand_out_answer f) = pos 0
 margin_in (tick_answer es) = pos 0
 margin_in (range_answer v) = pos 0
 margin_in (margin_answer z) = z
+margin_in (due_answer d) = pos 0
 
 -- one that is declined and one that is taken are not alike
 pub apart : {A : Type 0} {a b : Answer} → a ≡ b → (parts a).declines ≡ true → (parts b).declines ≡ false → A

@@ -1,4 +1,5 @@
--- Heard: on a run in whatever form, over plain variables; then in words, by the law of a time written.
+-- Heard: on a run in whatever form, over plain variables; then in words, by the law of a time
+-- written.
 -- Assumes nothing.
 use Prim.Native.Nat.{ℕ, ◌≤◌, ◌<◌, ◌+◌, ◌*◌}
 use mathlib.Core.Path.{◌≡◌, refl, sym, ap, subst, ◌∙◌}
@@ -30,7 +31,7 @@ use Rattle.node.specs.Heard.{heard_answer, HeardOn, Heard}
 use Rattle.node.proofs.Moments.{moment_of_lem, all_fit, heard_fits}
 use Rattle.node.proofs.OnRuns.{run_declined, run_taken}
 
--- what was found of the nodes: whether they pass number 3, and then whether a node is among them
+-- what was found of the nodes: whether they are well formed, and then whether a node is among them
 module _ (a : Option Bool) (f w : Bool) (e : a ≡ then_some f w) where
   pub found_none : a ≡ None → f ≡ false
   found_none h = by f (sym h ∙ e)

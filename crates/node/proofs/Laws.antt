@@ -1,4 +1,5 @@
--- Each call's refinement of the plain head, over plain variables: what the parts below answered gives what the call must leave.
+-- Each call's refinement of the plain head, over plain variables: what the parts below answered
+-- gives what the call must leave.
 -- Assumes nothing.
 use Prim.Native.Nat.{ℕ, ◌+◌, ◌<◌, ◌≤◌, min}
 use mathlib.Core.Path.{◌≡◌, refl, sym, ap, ◌∙◌}
@@ -129,7 +130,7 @@ cycle_taken_lem h r s = (
   record { queue = refl; history = refl },
 )
 
--- withdraw: number 8 at ReadyToOperate, taken elsewhere
+-- withdraw: refused at ReadyToOperate, taken elsewhere
 abbrev withdraw_by : Plain → NmtState → Step
 withdraw_by p s =
     tried (must (not (same_state s NmtReadyToOperate)) 8 ∷ []) (declines p no_run) (answers (with_nmt p (withdrawn p.nmt)) taken no_run)

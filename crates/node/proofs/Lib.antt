@@ -7,7 +7,6 @@ pub mod Hearing
 pub mod Loading
 pub mod Signed
 pub mod Ranging
-pub mod Links
 pub mod Examples
 pub mod Fixed
 pub mod Verdicts

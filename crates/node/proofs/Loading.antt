@@ -1,4 +1,5 @@
--- Load in words: each word that is named is written, the value that it stands for replaced, and nothing else.
+-- Load in words: each word that is named is written, the value that it stands for replaced, and
+-- nothing else.
 -- Assumes nothing.
 use Prim.Native.Nat.{ℕ, ◌+◌}
 use mathlib.Core.Path.{◌≡◌, refl, sym, ap, subst, ◌∙◌}

@@ -1,4 +1,5 @@
--- The earliest moment at which a watched node would be late, as a walk's number and as the plain head has it.
+-- The earliest moment at which a watched node would be late, as a walk's number and as the plain
+-- head has it.
 -- Assumes nothing.
 use Prim.Native.Nat.{ℕ, ◌+◌, ◌≤◌, ◌<◌, min}
 use mathlib.Core.Path.{◌≡◌, refl, ap, ap₂, ◌∙◌}
@@ -68,7 +69,8 @@ soonest_moment s (w ∷ ws) f =
 pub moment_of_lem : (ws : List WatchedNode) → all_of fits ws ≡ true → moment_of (soonest never ws) ≡ earliest ws
 moment_of_lem ws f = soonest_moment never ws f
 
--- nodes that pass number 3 are within their limits, and so they are with one heard at a time that a call takes
+-- nodes that are well formed are within their limits, and so they are with one heard at a time that
+-- a call takes
 pub all_fit : (ws : List WatchedNode) → well_formed ws ≡ true → all_of fits ws ≡ true
 unfolding well_formed
 all_fit ws h = both_second (ascending ws) (all_of fits ws) (both_second (leb (length ws) 32) (both (ascending ws) (all_of fits ws)) h)

@@ -1,4 +1,5 @@
--- The calls that are lent a run: one law for a declined call and one for a call that is taken, in whatever form the run is lent.
+-- The calls that are lent a run: one law for a declined call and one for a call that is taken, in
+-- whatever form the run is lent.
 -- Assumes nothing.
 use Prim.Native.Nat.{ℕ}
 use mathlib.Core.Path.{◌≡◌, refl, ap, ◌∙◌}

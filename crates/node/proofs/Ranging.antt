@@ -1,4 +1,5 @@
--- The readings of a clock: a reading after a loss is a loss, so that the two ends say it of all between them; and what the calls answer of them.
+-- The readings of a clock: a reading after a loss is a loss, so that the two ends say it of all
+-- between them; and what the calls answer of them.
 -- Assumes nothing.
 use Prim.Native.Nat.{ℕ, zero, suc, ◌+◌, ◌-◌, ◌≤◌, min}
 use mathlib.Core.Path.{◌≡◌, refl, sym, ap, subst, ◌∙◌}

@@ -1,4 +1,5 @@
--- Each call's contract over plain variables: what the functions by value answered, and the words that were written, give what the call must leave.
+-- Each call's contract over plain variables: what the functions by value answered, and the words
+-- that were written, give what the call must leave.
 -- Assumes nothing.
 use Prim.Native.Nat.{ℕ, ◌<◌}
 use mathlib.Core.Path.{◌≡◌, refl, sym, ap, subst, ◌∙◌}

@@ -1,4 +1,5 @@
--- Signed numbers: a 64-bit number below the top half is itself, and the difference of two such is one.
+-- Signed numbers: a 64-bit number below the top half is itself, and the difference of two such is
+-- one.
 -- Assumes nothing.
 use Prim.Native.Nat.{ℕ, zero, suc, ◌-◌, ◌≤◌, ◌<◌, ◌^◌}
 use mathlib.Core.Path.{◌≡◌, sym, subst, ◌∙◌}

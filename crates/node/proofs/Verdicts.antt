@@ -1,5 +1,6 @@
--- What document 02, No. 13, says of the answers: lost exactly where every reading is a loss, kept exactly where none is, open otherwise; and the SoC is lost
--- exactly where the margin is below 0.
+-- What the answers say of the readings (RULES 7.10): lost exactly where every reading is a loss,
+-- kept exactly where none is, open otherwise; and the SoC is lost exactly where the margin is below
+-- 0.
 -- Assumes nothing.
 use Prim.Native.Nat.{ℕ, zero, suc, ◌-◌, ◌≤◌}
 use mathlib.Core.Path.{◌≡◌, refl, sym, ap, ◌∙◌}
@@ -93,7 +94,7 @@ module _ (p : Plain) (a b : ℕ) (h : a ≤ b) (l : b ≤ latest) where
       by f g (kept x y) = absurd (g (none_lost p a b h y))
       by f g (undecided x y) = says (open_ends p a b h x y)
 
--- "the margin is shown as a signed number, limit minus elapsed, and the SoC is lost exactly when it is below 0"
+-- the SoC is lost exactly where the margin, limit minus elapsed, is below 0
 pub margin_shown : (p : Plain) (t : ℕ) → t ≤ latest → (step p (margin t)).answer ≡ margin_answer (pos (limit_of p.od) -ℤ pos (elapsed p t))
 margin_shown p t l = ap (λ (x : Bool). (pick x (answers p (margin_answer (margin_of p t)) no_run) (declines p no_run 5)).answer) (le-leb t latest l)
 

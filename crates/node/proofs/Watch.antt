@@ -1,5 +1,5 @@
--- How long the watch sleeps, of the plain tick and of arm's watch: no part of a tick but the check of the SoC moves the deadline, and only an end of the
--- tick puts the check off.
+-- How long the watch sleeps, of the plain tick and of arm's watch: no part of a tick but the check
+-- of the SoC moves the deadline, and only an end of the tick puts the check off.
 -- Assumes nothing.
 use Prim.Native.Nat.{ℕ, ◌+◌, ◌-◌, ◌*◌, ◌/◌, ◌≤◌, ◌<◌, min, max}
 use mathlib.Core.Path.{◌≡◌, refl, sym, ap, subst, ◌∙◌}
@@ -34,7 +34,7 @@ use Rattle.node.specs.Watch.{Watching, OffOrLater, off, later, Sleeps, Raised, M
 use Rattle.node.proofs.Refining.{picked}
 
 -- by a test, of whose outcome each side may know
-tested : {A : Type 0} (P : A → Type 0) (b : Bool) {x y : A} → (b ≡ true → P x) → (b ≡ false → P y) → P (pick b x y)
+pub tested : {A : Type 0} (P : A → Type 0) (b : Bool) {x y : A} → (b ≡ true → P x) → (b ≡ false → P y) → P (pick b x y)
 tested P true f g = f refl
 tested P false f g = g refl
 
@@ -58,7 +58,8 @@ watch p =
       tolerance = p.od.tolerance;
     }
 
--- a part of a tick that handles errors: it leaves all of this, or ends the tick with the check off and the deadline as it was
+-- a part of a tick that handles errors: it leaves all of this, or ends the tick with the check off
+-- and the deadline as it was
 record Handles (p : Plain) (k : Ticked) : Type 0 where
   stays : k.ended ≡ false → watch k.head ≡ watch p
   ends : k.ended ≡ true → k.head.soc.soc_timeout_check_active ≡ false
@@ -115,6 +116,10 @@ deal_all_lem t p (e ∷ es) =
     (deal_by_lem p (error_marks p.errors e) (crosses p.errors e) (crossing_entry e t) (handled p.errors e))
     (deal_all_lem t (deal t p e).head es)
 
+-- the errors of the check leave the deadline
+pub deal_all_deadline : (t : ℕ) (p : Plain) (es : List DllError) → (deal_all t p es).head.soc.next_tick_us ≡ p.soc.next_tick_us
+deal_all_deadline t p es = (deal_all_lem t p es).deadline
+
 -- the cycles that have begun end at most one cycle after now, and after it
 pub ahead : (e k : ℕ) → (e / k + 1) * k ≤ e + k
 ahead e k = omega (arith, div-mul-le_self e k, add-mul (e / k) 1 k)
@@ -122,7 +127,7 @@ ahead e k = omega (arith, div-mul-le_self e k, add-mul (e / k) 1 k)
 not_yet : (e k : ℕ) → 0 < k → e < (e / k + 1) * k
 not_yet e k h = omega (arith, lt-div-mul-add {a = e} {b = k} h, add-mul (e / k) 1 k)
 
-next_later : (l t k o : ℕ) → 0 < k → t < l + ((t - l) / k + 1) * k + o
+pub next_later : (l t k o : ℕ) → 0 < k → t < l + ((t - l) / k + 1) * k + o
 next_later l t k o h = omega (arith, not_yet (t - l) k h)
 
 next_soon : (l t k o : ℕ) → l + ((t - l) / k + 1) * k + o ≤ max t l + (k + o)

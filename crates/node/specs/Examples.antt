@@ -1,4 +1,5 @@
--- Document 01's bench examples marked ●, in its order: a head, the calls on it, and what is to come of each call. Its words stand above them.
+-- The twelve examples of RULES 11.4, in their order: a head, the calls on it, and what is to come
+-- of each call.
 -- Assumes nothing.
 use Rattle.std.specs.Prelude.{ℕ, Bool, true, false, List, [], ◌∷◌, ltb}
 use Rattle.types.specs.Pick.{pick}
@@ -28,8 +29,8 @@ use Rattle.node.specs.Steps.{plain_of, with_earliest, no_run, fresh}
 use Rattle.head.specs.Head.{soc_watch}
 use Rattle.node.specs.Run.{step}
 
--- What comes of a call: its whole step, the number of the NMT state after it, and the level to which a lost SoC raised its
--- counter, before the threshold is looked at.
+-- What comes of a call: its whole step, the number of the NMT state after it, and the level to
+-- which a lost SoC raised its counter, before the threshold is looked at.
 pub record Coming : Type 0 where
   pub all : Step
   pub state : ℕ
@@ -84,7 +85,8 @@ values r a b c e =
       counter_5 = e;
     }
 
--- occurrences, crossings and level of LossOfSoc, occurrences and level of HeartbeatTimeout; the other numbers are 0
+-- occurrences, crossings and level of LossOfSoc, occurrences and level of HeartbeatTimeout; the
+-- other numbers are 0
 abbrev pub counters_of : ℕ → ℕ → ℕ → ℕ → ℕ → CnErrorCounters
 counters_of socs crossings soc beats beat =
     record {
@@ -111,7 +113,8 @@ abbrev pub counting : CnErrorCounters → Plain
 counting e =
     plain_of (machine NmtOperational false true) NonCyclic e (soc_watch 0 false Nothing false) (values 0 0 0 0 0) 1 [] [] None
 
--- Operational, WaitSoc, check on, last SoC 10,000, a deadline; the level of LossOfSoc, and its occurrences, which are counter 1
+-- Operational, WaitSoc, check on, last SoC 10,000, a deadline; the level of LossOfSoc, and its
+-- occurrences, which are counter 1
 abbrev pub cycling : ℕ → ℕ → ℕ → Plain
 cycling deadline level lost =
     plain_of (machine NmtOperational false true) WaitSoc (counters_of lost 0 level 0 0) (soc_watch 10000 true (At deadline) false)
@@ -122,17 +125,18 @@ abbrev comes : ℕ → Plain → Answer → Coming
 comes n p a =
     record { all = record { head = p; answer = a; lent = no_run; event = no_event; marks = []; checked = []; crossings = [] }; state = n; raised = [] }
 
--- of an NMT event
+-- what is to come of an NMT event
 abbrev comes_by : NmtEvent → ℕ → Plain → Answer → Coming
 comes_by e n p a =
     record { all = record { head = p; answer = a; lent = no_run; event = made e; marks = []; checked = []; crossings = [] }; state = n; raised = [] }
 
--- and the marks, those of the SoC check among them, with the level to which a lost SoC raised its counter
+-- what is to come with marks, those of the SoC check among them, and with the level to which a lost
+-- SoC raised its counter
 abbrev counts : ℕ → Plain → Answer → List Mark → List Mark → List ℕ → Coming
 counts n p a ms checked ls =
     record { all = record { head = p; answer = a; lent = no_run; event = no_event; marks = ms; checked = checked; crossings = [] }; state = n; raised = ls }
 
--- of a call that is lent a run, also that
+-- what is to come of a call that is lent a run, with the run that is left
 abbrev leaving : Run → Coming → Coming
 leaving r c =
     record {
@@ -157,7 +161,7 @@ no_nodes = holding []
 abbrev pub nothing_passed : Passed
 nothing_passed = record { states = []; ranges = [] }
 
--- "Fresh, SwReset: five states entered, NotActive." And not ready any more (document 02, No. 7).
+-- Example 1: a fresh head takes SwReset: five states passed, NotActive, not ready.
 abbrev pub starts_with : Start
 starts_with = record { node = 1; flags = 0; timeout = 5; capacity = 1; od = values 0 0 0 0 0; thresholds = same_for_all 15; watched = no_nodes }
 
@@ -176,7 +180,7 @@ sw_reset =
       after = comes_by SwReset 0x1C (resting NmtNotActive false false) (nmt_answer [] whole_reset) ∷ [];
     }
 
--- "NotActive, Timeout: 0x1E."
+-- Example 2: NotActive takes Timeout: 0x1E.
 abbrev pub timeout : Example
 timeout =
     record {
@@ -185,7 +189,8 @@ timeout =
       after = comes_by Timeout 0x1E (resting NmtBasicEthernet false true) (nmt_answer [] nothing_passed) ∷ [];
     }
 
--- "PreOperational2, withdrawn, EnableReadyToOperate: stays, enabled; ready word: 0x6D."
+-- Example 3: PreOperational2, not enabled: a withdrawal; an enable, which leaves it there, enabled;
+-- the ready word: 0x6D.
 abbrev pub enable : Example
 enable =
     record {
@@ -198,7 +203,7 @@ enable =
           [];
     }
 
--- "ReadyToOperate, EnterPreOperational2: stays, error (0x6D, 2)."
+-- Example 4: ReadyToOperate takes EnterPreOperational2: it stays, with the error (0x6D, 2).
 abbrev pub no_row : Example
 no_row =
     record {
@@ -210,7 +215,7 @@ no_row =
           [];
     }
 
--- "Operational, NonCyclic, SocTimeout: error (0, 5)."
+-- Example 5: Operational, NonCyclic, takes SocTimeout: the error (0, 5).
 abbrev pub no_cycle : Example
 no_cycle =
     record {
@@ -233,7 +238,7 @@ first_loss = counts 0xFD (counting (counters_of 1 0 8 0 0)) quiet (given LossOfS
 abbrev lowers : ℕ → Coming
 lowers level = counts 0xFD (counting (counters_of 1 0 level 0 0)) (cycle_answer false) (drained LossOfSoc ∷ []) [] []
 
--- "Two SoC losses, one cycle between: 15, crossing."
+-- Example 6: two lost SoCs, one completed cycle between: the level comes to 15 and crosses.
 abbrev pub one_between : Example
 one_between =
     record {
@@ -246,7 +251,7 @@ one_between =
           [];
     }
 
--- "Two cycles between: 14, none."
+-- Example 7: two lost SoCs, two completed cycles between: the level is 14, no crossing.
 abbrev pub two_between : Example
 two_between =
     record {
@@ -260,8 +265,8 @@ two_between =
           [];
     }
 
--- "Operational, WaitSoc, levels and counts 0, queue of 1, check on, cycle 1000, tolerance 100,000 ns, last SoC 10,000,
--- deadline 10,500, tick 10,500: deadline 11,100."
+-- Example 8: Operational, WaitSoc, check on, levels 0, last SoC 10,000, deadline 10,500, tick at
+-- 10,500: deadline 11,100.
 abbrev pub early : Example
 early =
     record {
@@ -270,7 +275,7 @@ early =
       after = leaving no_nodes (comes 0xFD (cycling 11100 0 0) (tick_answer [])) ∷ [];
     }
 
--- "Tick 11,100, deadline 11,100: no loss, deadline 12,100."
+-- Example 9: the same head with the deadline 11,100, tick at 11,100: no loss, deadline 12,100.
 abbrev pub at_limit : Example
 at_limit =
     record {
@@ -279,14 +284,15 @@ at_limit =
       after = leaving no_nodes (comes 0xFD (cycling 12100 0 0) (tick_answer [])) ∷ [];
     }
 
--- "11,101 instead: loss, level 8, deadline 12,100."
+-- Example 10: that head, tick at 11,101: a loss, level 8, deadline 12,100.
 abbrev loss : Coming
 loss = leaving no_nodes (counts 0xFD (cycling 12100 8 1) (tick_answer []) (given LossOfSoc ∷ []) (given LossOfSoc ∷ []) (8 ∷ []))
 
 abbrev pub above_limit : Example
 above_limit = record { before = cycling 11100 0 0; calls = tick 11101 no_nodes ∷ []; after = loss ∷ [] }
 
--- "Then 12,100: crossing; entry 0x8245, 0 s 12,100,000 ns; PreOperational1, check off, no deadline."
+-- Example 11: then a tick at 12,100: a crossing, with the entry 0x8245 at 0 s 12,100,000 ns;
+-- PreOperational1, check off, no deadline.
 abbrev pub entry : ErrorEntry
 entry =
     record {
@@ -319,7 +325,8 @@ abbrev pub then_crossing : Example
 then_crossing =
     record { before = cycling 11100 0 0; calls = tick 11101 no_nodes ∷ tick 12100 no_nodes ∷ []; after = loss ∷ crossing_tick ∷ [] }
 
--- "Timeout 50, heard 100: 150 in time, 151 late." The earliest moment is the one at which it is late (document 02, No. 1).
+-- Example 12: a node with timeout 50 that was heard at 100: in time at 150, late at 151, which is
+-- the earliest moment.
 abbrev pub watching_one : ℕ → Run
 watching_one t = holding (watched_node 5 50 t ∷ [])
 
@@ -338,7 +345,7 @@ late =
           [];
     }
 
--- the table, as many as the document marks, in its order
+-- the twelve examples, in their order
 abbrev pub examples : List Example
 examples =
     sw_reset ∷

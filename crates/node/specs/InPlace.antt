@@ -1,4 +1,5 @@
--- What a call on a head in words has to leave: the one predicate of their contracts, what each answers, and every word that it leaves.
+-- What a call on a head in words has to leave: the one predicate of their contracts, what each
+-- answers, and every word that it leaves.
 -- Assumes nothing.
 use Rattle.std.specs.Prelude.{ℤ, ℕ, ◌≡◌, Bool, List, set}
 use Rattle.types.specs.Pick.{pick}
@@ -29,8 +30,9 @@ use Rattle.head.specs.Places as at
 use Rattle.head.specs.Words.{word, state_of, nmt_of, dll_state, counter_at, errors_of, soc_of, od_of, queue_of, head_of}
 use Rattle.head.specs.Written.{earliest_written, nmt_written, forgotten_written, counter_written, levels_written, soc_written, queue_written}
 
--- Of a call c on the words ws, which answered a and left the words ws': the head that they stand for is that of the plain head's step, queue and
--- history stand where they stood, and the words are all known.
+-- Of a call c on the words ws, which answered a and left the words ws': the head that they stand
+-- for is that of the plain head's step, queue and history stand where they stood, and the words are
+-- all known.
 pub record InPlace (ws : List ℕ) (c : Call) (a : Answer) (ws' known : List ℕ) : Type 0 where
   pub refines : (q m : List ℕ) → Refines (head_of ws) q m c (left (head_of ws') a) q m no_run
   pub places : SamePlaces (head_of ws) (head_of ws')
@@ -40,7 +42,7 @@ pub record InPlace (ws : List ℕ) (c : Call) (a : Answer) (ws' known : List ℕ
 abbrev pub Reading : List ℕ → Call → Answer → Type 0
 Reading ws c a = InPlace ws c a ws ws
 
--- what a call answers: "A declined call returns its number only", any other what it says
+-- what a call answers: the number of its refusal, or what it says
 abbrev pub answered : {A : Type 0} → (A → Answer) → Result A Refusal → Answer
 answered says (Ok a) = says a
 answered says (Err r) = refused (refusal_number r)
@@ -72,13 +74,15 @@ range_said = answered range_answer
 abbrev pub margin_said : Result ℤ Refusal → Answer
 margin_said = answered margin_answer
 
--- what a call, whatever it answers, leaves of what it was lent: a declined one all as it was
+-- what a call, whatever it answers, leaves of what it was lent: one that is refused leaves all as
+-- it was
 abbrev pub unless_refused : {T A : Type 0} → Result T Refusal → A → A → A
 unless_refused (Ok _) x y = y
 unless_refused (Err r) x y = x
 
--- Of a call c that is lent a run, on the words ws, which answered a and left the words ws' and the run r: head and run are the plain head's, queue and history
--- stand where they stood, and of the head's words those of the earliest moment are written; by a declined call none.
+-- Of a call c that is lent a run, on the words ws, which answered a and left the words ws' and the
+-- run r: head and run are the plain head's, queue and history stand where they stood, and of the
+-- head's words those of the earliest moment are written; by a call that is refused none.
 pub record OnRun (ws : List ℕ) (c : Call) (a : Result (Unit {0}) Refusal) (ws' : List ℕ) (r : Run) : Type 0 where
   pub refines : (q m : List ℕ) → Refines (head_of ws) q m c (left (head_of ws') (said a)) q m r
   pub places : SamePlaces (head_of ws) (head_of ws')
@@ -88,14 +92,15 @@ pub record OnRun (ws : List ℕ) (c : Call) (a : Result (Unit {0}) Refusal) (ws'
 abbrev pub withdraw_words : List ℕ → List ℕ
 withdraw_words ws = pick (same_state (state_of (word ws at.state)) NmtReadyToOperate) ws (set ws at.ready 0)
 
--- an NMT event writes the machine's part, and a reset forgets
+-- an NMT event writes state, enabled and ready, and a reset forgets
 abbrev pub reset_words : Bool → List ℕ → List ℕ
 reset_words b ws = pick b (forgotten_written ws) ws
 
 abbrev pub processed_words : List ℕ → NmtEvent → List ℕ
 processed_words ws e = reset_words (is_reset e) (nmt_written ws (Nmt.processed (nmt_of ws) e).machine)
 
--- Of an NMT event e on the words ws, which answered t and left ws': the machine's errors and reset, and every word.
+-- Of an NMT event e on the words ws, which answered t and left ws': the machine's errors and reset,
+-- and every word.
 pub record Processed (ws : List ℕ) (e : NmtEvent) (t : NmtTaken) (ws' : List ℕ) : Type 0 where
   pub errors : reported t.errors ≡ (Nmt.processed (nmt_of ws) e).errors
   pub reset : passed t.reset ≡ (Nmt.processed (nmt_of ws) e).reset

@@ -2,6 +2,7 @@ pub mod Plain
 pub mod Steps
 pub mod Tick
 pub mod Watch
+pub mod Due
 pub mod Range
 pub mod Run
 pub mod Examples

@@ -42,7 +42,8 @@ abbrev pub bytes_named : Option (Bor (List ℕ)) → Option (List ℕ)
 bytes_named (Some r) = Some r.now
 bytes_named None = None
 
--- of a load on the words ws and the history's bytes m, of the values u and, where es has them, the bytes of the history's entries
+-- of a load on the words ws and the history's bytes m, of the values u and, where es has them, the
+-- bytes of the history's entries
 pub record LoadedIn (ws m : List ℕ) (u : DictionaryUpdate) (es : Option (List ℕ)) (ws' m' : List ℕ) : Type 0 where
   pub refines : (q : List ℕ) → Refines (head_of ws) q m (Call.load u (history_update es)) (left (head_of ws') taken) q m' no_run
   pub queue : (head_of ws').queue ≡ (head_of ws).queue

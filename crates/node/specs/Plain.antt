@@ -1,4 +1,5 @@
--- The plain head: what document 01 keeps of a node, in plain values. The queue is a list, oldest first, the history one, newest first.
+-- The plain head: what a controlled node keeps, in plain values. The queue is a list, oldest first,
+-- the history one, newest first.
 -- Assumes nothing.
 use Rattle.std.specs.Prelude.{ℕ, Bool, List, ℤ}
 use Rattle.types.specs.declared.nmt.events.NmtEvent.{NmtEvent}
@@ -18,9 +19,9 @@ use Rattle.node.specs.declared.load.DictionaryUpdate.{DictionaryUpdate}
 use Rattle.node.specs.declared.range.SocVerdict.{SocVerdict}
 use Rattle.watched.specs.Watched.{Run}
 
--- "Kept of CnContext": the two machines, the error counters, the last SoC time, the check, the deadline and
--- error_status_changed; "Dictionary values kept"; the emergency queue with its capacity; the history; "the earliest moment at which
--- a watched node would be late" (document 02, No. 1)
+-- what a head keeps (RULES 1): the two machines, the error counters, the watch over the SoC, the
+-- values of the dictionary, the capacity of the emergency queue, queue and history, and the
+-- earliest moment at which a watched node would be late
 pub record Plain : Type 0 where
   pub nmt : CnNmtStateMachine
   pub dll : DllCsState
@@ -55,14 +56,15 @@ pub data Call : Type 0 where
   arm : ℕ → Call
   -- now
   tick : ℕ → Run → Call
-  -- the earliest and the latest reading of a clock (document 02, No. 13)
+  -- the earliest and the latest reading of a clock
   range : ℕ → ℕ → Call
   -- one reading
   margin : ℕ → Call
-  -- a node and its timeout (document 02, No. 1)
+  -- a node and its timeout
   add : ℕ → ℕ → Run → Call
   -- a node
   remove : ℕ → Run → Call
+  next_due : Run → Call
 
 -- what start is given
 pub record Start : Type 0 where
@@ -74,7 +76,7 @@ pub record Start : Type 0 where
   pub thresholds : Thresholds
   pub watched : Run
 
--- "A declined call returns its number only"; the others, what they answer
+-- what a call answers: the number of its refusal, or, where it is taken, one of the others
 pub data Answer : Type 0 where
   refused : ℕ → Answer
   taken : Answer
@@ -93,15 +95,17 @@ pub data Answer : Type 0 where
   range_answer : SocVerdict → Answer
   -- a signed number
   margin_answer : ℤ → Answer
+  -- the moment of the next tick, or none
+  due_answer : Option ℕ → Answer
 
 -- the NMT event that a call gave the machine, or none
 pub data EventMade : Type 0 where
   made : NmtEvent → EventMade
   no_event : EventMade
 
--- what comes of a call: the head after it, the answer, the run that was lent, and what is counted of it: the
--- NMT event, the marks of the counters, those of them that the errors of a tick's SoC check left, and the entries of the
--- crossings there
+-- what comes of a call: the head after it, the answer, the run that was lent, and what is counted
+-- of it: the NMT event, the marks of the counters, those of them that the errors of a tick's SoC
+-- check left, and the entries of the crossings there
 pub record Step : Type 0 where
   pub head : Plain
   pub answer : Answer
@@ -111,11 +115,12 @@ pub record Step : Type 0 where
   pub checked : List Mark
   pub crossings : List ErrorEntry
 
--- what comes of start: a head, or a number where it is declined; and the run that was lent
+-- what comes of start: a head, or the number of a refusal
 pub data Begun : Type 0 where
   begins : Plain → Begun
   declined : ℕ → Begun
 
+-- what start leaves, with the run that was lent
 pub record FirstStep : Type 0 where
   pub begun : Begun
   pub lent : Run

@@ -1,4 +1,5 @@
--- What a head with its lent memory stands for, what a call leaves, and the one predicate that every call's contract is.
+-- What a head with its lent memory stands for, what a call leaves, and the one predicate that every
+-- call's contract is.
 -- Assumes nothing.
 use Rattle.std.specs.Prelude.{ℕ, ◌≡◌, List, [], ◌∷◌}
 use Rattle.types.specs.Pick.{pick}
@@ -29,7 +30,8 @@ plain h q m =
       earliest = h.earliest;
     }
 
--- the queue and the history stand where they stood: of what Refines sees through the memory, nothing moved
+-- the queue and the history stand where they stood: of what Refines sees through the memory,
+-- nothing moved
 pub record SamePlaces (h h' : Head) : Type 0 where
   pub queue : h'.queue ≡ h.queue
   pub history : h'.history ≡ h.history
@@ -60,11 +62,12 @@ abbrev pub joins_all : Rings → List ErrorEntry → Rings
 joins_all r [] = r
 joins_all r (e ∷ es) = joins_all (joins r e) es
 
--- a head becomes what f makes of the plain head, whatever stands in its memory, and its queue and history stay in their places
+-- a head becomes what f makes of the plain head, whatever stands in its memory, and its queue and
+-- history stay in their places
 abbrev pub Becomes : Head → (Plain → Plain) → Head → Type 0
 Becomes h f g = ((q m : List ℕ) → plain g q m ≡ f (plain h q m)) × SamePlaces h g
 
--- what a call leaves: the head, and document 01's answer
+-- what a call leaves: the head, and the plain head's answer
 pub record Left : Type 0 where
   pub head : Head
   pub answer : Answer
@@ -86,8 +89,9 @@ abbrev pub loaded_memory : Option (List ℕ) → List ℕ → List ℕ
 loaded_memory (Some s) m = loaded_bytes m s
 loaded_memory None m = m
 
--- Of a call c on a head h with its memory q and m, which left o, the memory q' and m' and the run l: head and
--- memory stand for the plain head after c, the answer is the plain head's, and so is the run, all its places and the number.
+-- Of a call c on a head h with its memory q and m, which left o, the memory q' and m' and the run
+-- l: head and memory stand for the plain head after c, the answer is the plain head's, and so is
+-- the run, all its places and the number.
 pub record Refines (h : Head) (q m : List ℕ) (c : Call) (o : Left) (q' m' : List ℕ) (l : Run) : Type 0 where
   pub head : plain o.head q' m' ≡ (step (plain h q m) c).head
   pub answer : o.answer ≡ (step (plain h q m) c).answer

@@ -1,4 +1,4 @@
--- What the plain head does at each call, by document 01: its words stand above the definitions.
+-- What the plain head does at each call but the tick, a range and a margin (RULES 3).
 -- Assumes nothing.
 use Rattle.std.specs.Prelude.{ℕ, ◌+◌, ◌/◌, min, Bool, true, false, not, List, [], ◌∷◌, leb, ltb, take}
 use Rattle.types.specs.Pick.{pick, both}
@@ -36,7 +36,8 @@ use Rattle.watched.specs.declared.nodes.WatchedNode.{WatchedNode}
 use Rattle.watched.specs.Watched.{in_time, is_watched, unheard, watched_node, Run, run, watching, well_lent, changing, inserted, without, holding}
 use Rattle.node.specs.Plain.{Plain, HistoryUpdate, set, keep, Start, Answer, refused, taken, nmt_answer, dll_answer, error_answer, cycle_answer, hand_out_answer, made, no_event, Step, begins, declined, FirstStep}
 
--- A test that a call makes, and the refusal that it gives otherwise: document 01's number, or the value that stands for it in src/.
+-- a test that a call makes, and the refusal that it gives otherwise, as a number or as the value of
+-- src/
 pub record Test (R : Type 0) : Type 0 where
   pub holds : Bool
   pub otherwise : R
@@ -44,7 +45,8 @@ pub record Test (R : Type 0) : Type 0 where
 abbrev pub must : {R : Type 0} → Bool → R → Test R
 must b r = record { holds = b; otherwise = r }
 
--- "The first that applies is given, and none is given otherwise."
+-- the tests in their order: the first that does not hold gives its refusal, and where all hold the
+-- call is taken (RULES 2)
 abbrev pub tried : {R A : Type 0} → List (Test R) → (R → A) → A → A
 tried [] refuse accept = accept
 tried (t ∷ ts) refuse accept = pick t.holds (tried ts refuse accept) (refuse t.otherwise)
@@ -83,25 +85,28 @@ no_run = run [] 0
 abbrev pub answers : Plain → Answer → Run → Step
 answers p a l = record { head = p; answer = a; lent = l; event = no_event; marks = []; checked = []; crossings = [] }
 
--- "A declined call returns its number only"; the head and what was lent stay as they are
+-- a call that is refused by a number: the head and what was lent stay as they are
 abbrev pub declines : Plain → Run → ℕ → Step
 declines p l n = answers p (refused n) l
 
--- "the earliest moment at which a watched node would be late: the smallest of last heard + timeout + 1, over nodes where both are above 0,
--- or none" (document 02, No. 1)
+-- the moment at which a node would be late (RULES 8.5): last heard + timeout + 1 where both are
+-- above 0, or none
 abbrev pub late_from : WatchedNode → Option ℕ
 late_from w = pick (both (ltb 0 w.timeout) (ltb 0 w.last_heard)) (Some (w.last_heard + w.timeout + 1)) None
 
+-- the smaller of two moments, where there are any
 abbrev pub smaller : Option ℕ → Option ℕ → Option ℕ
 smaller None d = d
 smaller (Some a) None = Some a
 smaller (Some a) (Some b) = Some (min a b)
 
+-- the earliest moment of nodes
 unfoldable pub earliest : List WatchedNode → Option ℕ
 earliest [] = None
 earliest (w ∷ ws) = smaller (late_from w) (earliest ws)
 
--- "after each accepted start, tick, heard, add or removal, equals the value worked out afresh from the run"
+-- the head with the earliest moment of a run, as each accepted start, tick, heard, add and removal
+-- leaves it
 abbrev pub up_to_date : Plain → Run → Plain
 up_to_date p r = with_earliest p (earliest (watching r))
 
@@ -109,15 +114,15 @@ up_to_date p r = with_earliest p (earliest (watching r))
 abbrev pub leaves : Plain → Run → Step
 leaves p r = answers (up_to_date p r) taken r
 
--- Start. "A fresh head is at GsInitialising, not enabled, ready, DLL NonCyclic, check off, no deadline, last SoC 0, all
--- nodes last heard 0, levels and counts 0, error_status_changed off, queue empty." "Start gives these values, with an
--- empty history." "Each of the seven thresholds becomes part of the head, given at start" (document 02, No. 6)
+-- Start. A fresh head (RULES 1.9): at GsInitialising, not enabled, ready, DLL NonCyclic, check off,
+-- no deadline, last SoC 0, levels and counts 0, `error_status_changed` off, queue and history
+-- empty, no earliest moment, and the values that start gives.
 unfoldable pub fresh : Start → Plain
 fresh s =
     plain_of (Nmt.new_machine (node s.node) (flags s.flags) s.timeout) NonCyclic (new_counters s.thresholds)
     (soc_watch 0 false Nothing false) s.od s.capacity [] [] None
 
--- numbers 1, 2 and 3; then "14, a threshold above the limit, after number 3 at start" (document 02, No. 6)
+-- NodeNumber, QueueCapacity, WatchedNodes, ThresholdLimit
 abbrev pub start_tests : Start → List (Test ℕ)
 start_tests s =
     must (is_node s.node) 1 ∷
@@ -126,18 +131,20 @@ start_tests s =
     must (thresholds_fit s.thresholds) 14 ∷
     []
 
+-- start: the head is fresh, and all watched nodes count as never heard
 unfoldable pub started : Start → FirstStep
 started s =
     tried (start_tests s)
     (λ n. record { begun = declined n; lent = s.watched })
     (record { begun = begins (fresh s); lent = changing unheard s.watched })
 
--- "Every reset event now also clears the readiness, the deadline and the SoC check, and puts the DLL machine at NonCyclic."
--- (document 02, No. 7) The readiness is the machine's.
+-- what a reset forgets (RULES 4.5), but for the ready word, which is the machine's: the deadline
+-- and the check are off, and the DLL machine is NonCyclic
 abbrev pub forgets : Plain → Plain
 forgets p = plain_of p.nmt NonCyclic p.errors (forgotten p.soc) p.od p.capacity p.queue p.history p.earliest
 
--- An NMT event: number 4, or what the machine makes of it. "Errors of NMT and DLL events are reported and not counted."
+-- An NMT event: what the machine makes of it, or UnknownNumber. Its errors are reported and not
+-- counted.
 abbrev pub nmt_taken : Plain → NmtEvent → Nmt.Outcome → Step
 nmt_taken p e o =
     record {
@@ -154,7 +161,8 @@ abbrev pub nmt_step : Plain → Result NmtEvent Refusal → Step
 nmt_step p (Ok e) = nmt_taken p e (Nmt.processed p.nmt e)
 nmt_step p (Err r) = declines p no_run (refusal_number r)
 
--- "A DLL event takes the head's own NMT state and is told whether a PReq is expected."
+-- A DLL event: what the machine makes of it in the head's own NMT state, told whether a PReq is
+-- expected, or UnknownNumber. Its errors are reported and not counted.
 abbrev pub dll_taken : Plain → Dll.CsOutcome → Step
 dll_taken p o = answers (with_dll p o.state) (dll_answer o.errors) no_run
 
@@ -162,7 +170,8 @@ abbrev pub dll_step : Plain → Bool → Result DllCsEvent Refusal → Step
 dll_step p expected (Ok e) = dll_taken p (Dll.cs_processed p.dll e p.nmt.current_state expected)
 dll_step p expected (Err r) = declines p no_run (refusal_number r)
 
--- "An error given to the counters touches only them." Numbers 1 and 4 are in its reading.
+-- An error given to the counters: it changes only them. UnknownNumber and NodeNumber are given
+-- where the error is read.
 abbrev pub error_taken : Plain → HandledError → List Mark → Step
 error_taken p r ms =
     record {
@@ -179,7 +188,7 @@ abbrev pub error_step : Plain → Result DllError Refusal → Step
 error_step p (Ok e) = error_taken p (handled p.errors e) (error_marks p.errors e)
 error_step p (Err r) = declines p no_run (refusal_number r)
 
--- Cycle complete. "It answers yes when the last level reaches 0."
+-- Cycle complete: each level above 0 falls by 1; the answer is whether the last one reached 0.
 abbrev pub cycle_taken : Plain → CompletedCycle → List Mark → Step
 cycle_taken p r ms =
     record {
@@ -192,19 +201,19 @@ cycle_taken p r ms =
       crossings = [];
     }
 
--- Withdraw: ready off; number 8.
+-- Withdraw: the application is not ready any more; ReadyToOperate in the state of that name.
 abbrev pub withdrawn : CnNmtStateMachine → CnNmtStateMachine
 withdrawn m = Nmt.with m m.current_state m.ready_to_operate_enabled false
 
 abbrev pub withdraw_tests : Plain → List (Test ℕ)
 withdraw_tests p = must (not (same_state p.nmt.current_state NmtReadyToOperate)) 8 ∷ []
 
--- Heard: numbers 3, 5 and 7.
+-- Heard: WatchedNodes, TimeLimit, NotWatched.
 abbrev pub heard_tests : ℕ → ℕ → Run → List (Test ℕ)
 heard_tests n t r = must (well_lent r) 3 ∷ must (in_time t) 5 ∷ must (is_watched n (watching r)) 7 ∷ []
 
--- "9, adding when 32 are watched; 10, adding a node already watched (tried before 9); numbers 1 and 3 keep their meaning for the added node
--- and come before both, and removing an unwatched node gives 7" (document 02, No. 1)
+-- Add: NodeNumber, WatchedNodes, also where the timeout is above the limit of a time,
+-- AlreadyWatched, AllWatched. Remove: WatchedNodes, NotWatched.
 abbrev pub add_tests : ℕ → ℕ → Run → List (Test ℕ)
 add_tests n o r =
     must (is_node n) 1 ∷
@@ -216,18 +225,19 @@ add_tests n o r =
 abbrev pub remove_tests : ℕ → Run → List (Test ℕ)
 remove_tests n r = must (well_lent r) 3 ∷ must (is_watched n (watching r)) 7 ∷ []
 
--- "A node can be added (with its timeout, last heard 0) and removed while the head runs."
+-- a node is added in its place, never heard yet; or it is removed; the places past the number are
+-- zeros
 abbrev pub added : ℕ → ℕ → Run → Run
 added n o r = holding (inserted (watched_node n o 0) (watching r))
 
 abbrev pub removed : ℕ → Run → Run
 removed n r = holding (without n (watching r))
 
--- "Hand out the oldest entry": the first of the queue, or "none".
+-- Hand out: the oldest entry of the queue, which leaves it; of an empty queue, none.
 abbrev pub hand_out_step : Plain → Step
 hand_out_step p = answers (with_queue p (rest p.queue)) (hand_out_answer (nth p.queue 0)) no_run
 
--- "A load names the values that it sets (cycle and tolerance also to missing) and leaves the others"
+-- Load: the values that are named are set, cycle and tolerance also to missing; the others stay.
 abbrev pub updated_byte : ℕ → Option ℕ → ℕ
 updated_byte old (Some n) = n
 updated_byte old None = old
@@ -252,12 +262,12 @@ updated o u =
       counter_5 = updated_counter o.counter_5 u.counter_5;
     }
 
--- "of a longer history the newest 254 are taken"
+-- of a history that is named the newest 254 entries are kept
 abbrev pub updated_history : List ErrorEntry → HistoryUpdate → List ErrorEntry
 updated_history old (set l) = take 254 l
 updated_history old keep = old
 
--- "0x1006 cycle and 0x1C14 tolerance in ns, either of which may be missing (then 0 and 100,000)"
+-- cycle and tolerance, either of which may be missing: then 0 and 100,000 ns count
 abbrev pub value_or : ℕ → Option ℕ → ℕ
 value_or none (Some n) = n
 value_or none None = none
@@ -268,16 +278,16 @@ cycle_of o = value_or 0 o.cycle_time
 abbrev pub tolerance_of : Dictionary → ℕ
 tolerance_of o = value_or 100000 o.tolerance
 
--- "limit = cycle + tolerance/1000 rounded down"
+-- the limit (RULES 7.6): cycle + tolerance / 1000, rounded down, in µs
 abbrev pub limit_of : Dictionary → ℕ
 limit_of o = cycle_of o + tolerance_of o / 1000
 
--- Arm: number 5.
+-- Arm: TimeLimit.
 abbrev pub arm_tests : ℕ → List (Test ℕ)
 arm_tests t = must (in_time t) 5 ∷ []
 
--- "Arm takes an SoC time and sets the last SoC time; with cycle above 0 the check goes on and the deadline is that
--- time + limit, with cycle 0 the check is off and no deadline stands."
+-- an SoC at t: with a cycle above 0 the check goes on and the deadline is t + limit; with cycle 0
+-- the check is off and no deadline stands
 unfoldable pub armed : SocWatch → Dictionary → ℕ → SocWatch
 armed s o t =
     pick (ltb 0 (cycle_of o))

@@ -1,4 +1,4 @@
--- The tick of the plain head, by document 01, 'The tick': its words, in its order, stand above the definitions.
+-- The tick of the plain head (RULES 7).
 -- Assumes nothing.
 use Rattle.std.specs.Prelude.{ℕ, ◌+◌, ◌-◌, ◌*◌, ◌/◌, ◌%◌, min, Bool, true, false, List, [], ◌∷◌, ◌++◌, map, eqb, leb, ltb, length, take}
 use Rattle.types.specs.Pick.{pick, both, either, all_of}
@@ -31,7 +31,8 @@ use Rattle.node.specs.Plain.{Plain, tick_answer, EventMade, made, no_event, Step
 use Rattle.node.specs.Steps.{Test, must, tried, plain_of, with_nmt, with_dll, with_errors, with_soc, declines, up_to_date, cycle_of, tolerance_of, limit_of}
 use Rattle.head.specs.Head.{soc_watch}
 
--- What a tick has come to: the head, what was logged, what is counted of it, and whether it has ended.
+-- what a tick has come to: the head, what was logged, what is counted of it, and whether it has
+-- ended
 pub record Ticked : Type 0 where
   pub head : Plain
   pub logged : List DllError
@@ -41,10 +42,11 @@ pub record Ticked : Type 0 where
   pub crossings : List ErrorEntry
   pub ended : Bool
 
+-- nothing came of a part of the tick, which has not ended
 abbrev pub goes_on : Plain → Ticked
 goes_on p = record { head = p; logged = []; event = no_event; marks = []; checked = []; crossings = []; ended = false }
 
--- the second behind the first, which has not ended
+-- the second part behind the first, which has not ended the tick
 abbrev pub behind : Ticked → Ticked → Ticked
 behind a b =
     record {
@@ -57,11 +59,11 @@ behind a b =
       ended = b.ended;
     }
 
--- "Heartbeats are checked where the state's number is 0x5D or more, so not in CsStopped (0x4D)."
+-- heartbeats are checked where the state's number is 0x5D or more, so not in CsStopped (0x4D)
 abbrev pub checks_heartbeats : NmtState → Bool
 checks_heartbeats s = leb 0x5D (state_number s)
 
--- numbers 3, 5 and 6
+-- WatchedNodes, TimeLimit, BeforeHeard; the last one only where heartbeats are checked
 abbrev pub tick_tests : Plain → ℕ → Run → List (Test ℕ)
 tick_tests p t r =
     must (well_lent r) 3 ∷
@@ -69,26 +71,28 @@ tick_tests p t r =
     must (pick (checks_heartbeats p.nmt.current_state) (all_of (not_before t) (watching r)) true) 6 ∷
     []
 
--- "timeout 0 never fires; otherwise elapsed strictly above the timeout is late"
+-- a node is late where more than its timeout has passed since it was heard; never where it was not
+-- heard yet or its timeout is 0
 abbrev pub is_late : ℕ → WatchedNode → Bool
 is_late t w =
     both (ltb 0 w.last_heard) (both (ltb 0 w.timeout) (ltb w.timeout (t - w.last_heard)))
 
--- "Last heard 0 is set to now"; a late node's "time is set to now"
+-- the look at a node: its last-heard time becomes now where it was never heard or is late
 abbrev pub looked : ℕ → WatchedNode → WatchedNode
 looked t w = pick (either (eqb w.last_heard 0) (is_late t w)) (heard_now t w) w
 
+-- the late nodes, in order
 abbrev pub late_ones : ℕ → List WatchedNode → List WatchedNode
 late_ones t [] = []
 late_ones t (w ∷ ws) = pick (is_late t w) (w ∷ late_ones t ws) (late_ones t ws)
 
--- "The first error whose handling brings an action": an action other than none
+-- an error brings an action: its action is another than none
 abbrev pub acts : NmtAction → Bool
 acts action.None = false
 acts action.ResetCommunication = true
 acts (action.ResetNode n) = true
 
--- one more: the counters 1, 2, 3 and 5 do as `increment_counter` does, from the 32-bit top to 0
+-- one more, as the counters 1, 2, 3 and 5 rise: from 2^32 - 1 to 0
 abbrev pub one_more : ℕ → ℕ
 one_more n = (n + 1) % 4294967296
 
@@ -96,7 +100,8 @@ one_more n = (n + 1) % 4294967296
 abbrev pub is_even : ℕ → Bool
 is_even n = eqb (n % 2) 0
 
--- "signals, sets the error register's lowest bit (counter 5 rises if that changes it)"
+-- what a signal makes of the dictionary's values: the error register's lowest bit is set, and
+-- counter 5 rises where that changes it
 abbrev pub registered : Dictionary → Dictionary
 registered o =
     record {
@@ -109,7 +114,7 @@ registered o =
       counter_5 = pick (is_even o.error_register) (one_more o.counter_5) o.counter_5;
     }
 
--- `error_status_changed`, "which a signal in a tick sets and no call clears"
+-- what a signal makes of the watch: `error_status_changed` is set, which start alone clears
 abbrev pub changed : SocWatch → SocWatch
 changed s =
     soc_watch s.last_soc_reception_time_us s.soc_timeout_check_active s.next_tick_us true
@@ -119,15 +124,17 @@ abbrev pub signalled : Plain → Plain
 signalled p =
     plain_of p.nmt p.dll p.errors (changed p.soc) (registered p.od) p.capacity p.queue p.history p.earliest
 
--- an NMT event in a tick: "event Error, check off", "the event Timeout follows and the check goes off"
+-- the watch with the check off
 abbrev pub check_off : SocWatch → SocWatch
 check_off s =
     soc_watch s.last_soc_reception_time_us false s.next_tick_us s.error_status_changed
 
+-- an NMT event in a tick, which is Error or Timeout: the check goes off
 abbrev pub event_in_tick : Plain → NmtEvent → Plain
 event_in_tick p e = with_soc (with_nmt p (Nmt.processed p.nmt e).machine) (check_off p.soc)
 
--- what an error's handling leaves of the head p: "event Error, check off" where it ends the tick
+-- what an error's handling leaves of the head p: where it ends the tick, the event Error, with the
+-- check off
 abbrev pub finished : Bool → List DllError → List Mark → List Mark → List ErrorEntry → Plain → Ticked
 finished ends logged marks checked crossings p =
     record {
@@ -140,33 +147,37 @@ finished ends logged marks checked crossings p =
       ended = ends;
     }
 
--- an action ends the tick
+-- an error that brings an action ends the tick
 abbrev pub dealt : HandledError → List Mark → List Mark → List ErrorEntry → Plain → Ticked
 dealt r ms checked cs p = finished (acts r.action) (reported r.logged) ms checked cs p
 
--- "neither counter 1 nor an entry follows from a heartbeat"
+-- the error of a late node: neither counter 1 nor an entry follows from it
 abbrev pub beat_by : Plain → List Mark → HandledError → Ticked
 beat_by p ms r =
     dealt r ms [] [] (pick r.signal (signalled (with_errors p r.counters)) (with_errors p r.counters))
 
+-- the error that a late node brings
 abbrev pub timeout_of : WatchedNode → DllError
 timeout_of w = HeartbeatTimeout (node w.node)
 
+-- the error of a late node, given to the counters
 unfoldable pub beat : Plain → WatchedNode → Ticked
 beat p w = beat_by p (error_marks p.errors (timeout_of w)) (handled p.errors (timeout_of w))
 
--- "All nodes are looked at before any error is counted, ascending." The first action ends the walk.
+-- the errors of late nodes in order: the first that brings an action ends the walk, and the tick
 unfoldable pub beat_all : Plain → List WatchedNode → Ticked
 beat_all p [] = goes_on p
 beat_all p (w ∷ ws) = pick (beat p w).ended (beat p w) (behind (beat p w) (beat_all (beat p w).head ws))
 
--- the heartbeats of a tick: what comes of the late nodes, and the run as the look leaves it
+-- the heartbeats of a tick: what comes of the late nodes; and the run as the look leaves it. All
+-- nodes are looked at before any error is counted.
 abbrev pub heartbeats : Plain → ℕ → List WatchedNode → Ticked
 heartbeats p t ws = pick (checks_heartbeats p.nmt.current_state) (beat_all p (late_ones t ws)) (goes_on p)
 
 abbrev pub looked_at : Plain → ℕ → Run → Run
 looked_at p t r = pick (checks_heartbeats p.nmt.current_state) (changing (map (looked t)) r) r
 
+-- the head with a deadline
 abbrev pub with_deadline : Plain → Deadline → Plain
 with_deadline p d =
     with_soc p
@@ -178,14 +189,16 @@ at_not_active p = same_state p.nmt.current_state NmtNotActive
 abbrev pub basic_timeout : Plain → ℕ
 basic_timeout p = p.nmt.basic_ethernet_timeout
 
--- "At NotActive without a deadline, one is set at now + basic timeout, if that is above 0, and the tick ends."
+-- at NotActive without a deadline, one is set at now + basic timeout, where that timeout is above 0
 abbrev pub sets_basic : Plain → ℕ → Plain
 sets_basic p t = pick (ltb 0 (basic_timeout p)) (with_deadline p (At (t + basic_timeout p))) p
 
--- "At NotActive the event Timeout follows and the check goes off, if the basic timeout is above 0; the tick ends either way."
+-- at NotActive a deadline that passes gives the event Timeout and puts the check off, where the
+-- basic timeout is above 0
 abbrev pub times_out : Plain → Plain
 times_out p = pick (ltb 0 (basic_timeout p)) (event_in_tick p Timeout) p
 
+-- a deadline that passed at NotActive: the tick ends, with the event Timeout or without
 abbrev pub timed_out : Plain → Ticked
 timed_out p =
     record {
@@ -214,11 +227,12 @@ statistics o a b c =
       counter_5 = o.counter_5;
     }
 
--- "Each error adds to counter 1."
+-- an error at the SoC check adds to counter 1
 abbrev pub counter1 : Plain → Plain
 counter1 p = with_od p (statistics p.od (one_more p.od.counter_1) p.od.counter_2 p.od.counter_3)
 
--- "then queues an entry (counter 2, and history) or drops it (counter 3)": dropped exactly where the queue is full
+-- the entry of a crossing joins queue and history, with counter 2, or is dropped where the queue is
+-- full, with counter 3
 abbrev pub kept : Plain → ErrorEntry → Plain
 kept p e =
     plain_of p.nmt p.dll p.errors p.soc
@@ -231,7 +245,7 @@ dropped_one p = with_od p (statistics p.od p.od.counter_1 p.od.counter_2 (one_mo
 unfoldable pub queued : Plain → ErrorEntry → Plain
 queued p e = pick (ltb (length p.queue) p.capacity) (kept p e) (dropped_one p)
 
--- one error of the SoC check; where it crosses, it reaches the threshold of its kind, with the entry of that
+-- one error of the SoC check; one that crosses signals, and its entry is queued
 abbrev pub deal_by : Plain → List Mark → Bool → ErrorEntry → HandledError → Ticked
 deal_by p ms crosses x r =
     dealt r ms ms (pick crosses (x ∷ []) [])
@@ -240,58 +254,62 @@ deal_by p ms crosses x r =
 unfoldable pub deal : ℕ → Plain → DllError → Ticked
 deal t p e = deal_by p (error_marks p.errors e) (crosses p.errors e) (crossing_entry e t) (handled p.errors e)
 
--- "The first error whose handling brings an action ends the tick."
+-- the errors of the SoC check in order: the first that brings an action ends the tick
 unfoldable pub deal_all : ℕ → Plain → List DllError → Ticked
 deal_all t p [] = goes_on p
 deal_all t p (e ∷ es) = pick (deal t p e).ended (deal t p e) (behind (deal t p e) (deal_all t (deal t p e).head es))
 
--- "elapsed = now − last SoC, at least 0". No call leaves a last SoC time above the latest that a call takes; one is read as that.
+-- the time of the last SoC, and how long ago it was, at least 0. No call leaves one above the
+-- latest time that a call takes; one is read as that.
 abbrev pub last_soc : Plain → ℕ
 last_soc p = min p.soc.last_soc_reception_time_us latest
 
 abbrev pub elapsed : Plain → ℕ → ℕ
 elapsed p t = t - last_soc p
 
--- "Still none: last SoC + (elapsed/cycle + 1) × cycle + tolerance in µs; with cycle 0 the check goes off."
+-- the end of the cycle that runs now, with the tolerance in µs
 abbrev pub next_deadline : Plain → ℕ → ℕ
 next_deadline p t =
     last_soc p + (elapsed p t / cycle_of p.od + 1) * cycle_of p.od + tolerance_of p.od / 1000
 
+-- the deadline is set anew, or with cycle 0 the check goes off
 abbrev pub rescheduled : Plain → ℕ → Plain
 rescheduled p t =
     pick (ltb 0 (cycle_of p.od)) (with_deadline p (At (next_deadline p t))) (with_soc p (check_off p.soc))
 
--- "Within the limit, with cycle above 0, the deadline is last SoC + limit if that is after now."
+-- not lost: with a cycle above 0 the deadline is last SoC + limit, where that is after now;
+-- otherwise it is set anew
 abbrev pub within_limit : Plain → ℕ → Plain
 within_limit p t =
     pick (both (ltb 0 (cycle_of p.od)) (ltb t (last_soc p + limit_of p.od))) (with_deadline p (At (last_soc p + limit_of p.od)))
     (rescheduled p t)
 
--- "Elapsed strictly above the limit": a loss
+-- the SoC is lost where strictly more than the limit has elapsed
 abbrev pub is_loss : Plain → ℕ → Bool
 is_loss p t = ltb (limit_of p.od) (elapsed p t)
 
--- "Elapsed strictly above the limit is a SocTimeout with PReq expected."
+-- a lost SoC is the DLL event SocTimeout, with a PReq expected
 abbrev pub soc_timeout : Plain → Dll.CsOutcome
 soc_timeout p = Dll.cs_processed p.dll SocTimeout p.nmt.current_state true
 
--- where no error ended the tick, the check goes on
+-- where no error ended the tick, the deadline is set anew
 abbrev pub after_loss : ℕ → Ticked → Ticked
 after_loss t k = pick k.ended k (behind k (goes_on (rescheduled k.head t)))
 
 abbrev pub lost : Plain → ℕ → Ticked
 lost p t = after_loss t (deal_all t (with_dll p (soc_timeout p).state) (soc_timeout p).errors)
 
--- "SoC check, made only with the check on (otherwise the tick ends here)"
+-- the SoC check, where it is on; otherwise the tick ends
 unfoldable pub soc_check : Plain → ℕ → Ticked
 soc_check p t =
     pick p.soc.soc_timeout_check_active
     (pick (is_loss p t) (lost p t) (goes_on (within_limit p t))) (goes_on p)
 
--- "A deadline passes at now ≥ deadline and is used up."
+-- a deadline passes where now has reached it, and is used up
 abbrev pub used_up : Plain → ℕ → Ticked
 used_up p t = pick (at_not_active p) (timed_out p) (soc_check p t)
 
+-- what follows from the deadline, or from none
 abbrev pub by_deadline : Plain → ℕ → Deadline → Ticked
 by_deadline p t Nothing = goes_on (pick (at_not_active p) (sets_basic p t) p)
 by_deadline p t (At d) = pick (leb d t) (used_up (with_deadline p Nothing) t) (goes_on p)
@@ -302,7 +320,7 @@ tick_taken p t ws =
     let b = heartbeats p t ws in
     pick b.ended b (behind b (by_deadline b.head t b.head.soc.next_tick_us))
 
--- the earliest moment is worked out of the run that is left, however the tick ended
+-- however the tick ended, the earliest moment is worked out from the run that is left
 abbrev pub tick_answered : Ticked → Run → Step
 tick_answered k r =
     record {

@@ -1,4 +1,5 @@
-// The calls on a head in words, but for start, heard, load, the tick and what is asked of a clock known within a range. Nothing is written before the last test is passed.
+//! The calls on a head in words that are lent no watched nodes, but for load, range and margin.
+//! Nothing is written before the last test is passed.
 ghost use Rattle.std.specs.Prelude.{◌≡◌, true, false, List, ℕ};
 ghost use Rattle.types.specs.Events.{read_event};
 ghost use Rattle.types.specs.CsEvents.{read_cs_event};
@@ -11,7 +12,9 @@ ghost use Rattle.entries.specs.Queue.{handed_out};
 ghost use Rattle.head.specs.Head.{head_with_queue};
 ghost use Rattle.head.specs.Places as at;
 ghost use Rattle.head.specs.Words.{counter_at, errors_of, head_of};
-ghost use Rattle.node.specs.InPlace.{InPlace, Processed, said, nmt_said, dll_said, error_said, effect_words, withdraw_words, nmt_words, dll_words, error_words, cycle_words, arm_words, hand_out_words};
+ghost use Rattle.node.specs.InPlace.{InPlace, Processed, said, nmt_said, dll_said, error_said};
+ghost use Rattle.node.specs.InPlace.{effect_words, withdraw_words, nmt_words, dll_words};
+ghost use Rattle.node.specs.InPlace.{error_words, cycle_words, arm_words, hand_out_words};
 
 use crate::timing::armed;
 pub use counters::counters::ErrorTaken;
@@ -30,13 +33,17 @@ use types::nmt::states::NmtState;
 use types::refusals::Refusal;
 use watched::time::Time;
 
+/// What an NMT event that is taken answers.
 #[derive(Clone, Copy, PartialEq, Eq)]
 pub struct NmtTaken {
+    /// Reported and not counted.
     pub errors: DllErrors,
+    /// The states passed and the ranges to restore, of a reset.
     pub reset: ResetSequence,
 }
 
-// The application takes its ready word back.
+/// The application takes its ready word back. Refused by ReadyToOperate, in that state; then no
+/// word changes.
 pub fn withdraw(head: &mut Head) -> Result<(), Refusal>
     ensures { InPlace head.old Call.withdraw (said result) head.new (withdraw_words head.old) }
 {
@@ -62,17 +69,22 @@ fn process_event(head: &mut Head, event: NmtEvent) -> NmtTaken
     }
 }
 
-// An NMT event, by its number.
+/// An NMT event by its place, 0 to 18 (RULES 4.9). Refused by UnknownNumber; then no word changes.
+/// The errors are reported and not counted; a reset forgets (RULES 4.5).
 pub fn nmt_event(head: &mut Head, event: u64) -> Result<NmtTaken, Refusal>
-    ensures { InPlace head.old (Call.nmt_event event) (nmt_said result) head.new (nmt_words head.old (read_event event)) }
+    ensures { InPlace head.old (Call.nmt_event event) (nmt_said result)
+        head.new (nmt_words head.old (read_event event)) }
 {
     let event = NmtEvent::try_from(event)?;
     Ok(process_event(head, event))
 }
 
-// A DLL event, by its number, in the head's own NMT state.
+/// A DLL event by its place, 0 to 5 (RULES 5.4), in the head's own NMT state, with whether a PReq
+/// is expected. Refused by UnknownNumber; then no word changes. The errors are reported and not
+/// counted.
 pub fn dll_event(head: &mut Head, event: u64, expect_preq: bool) -> Result<DllErrors, Refusal>
-    ensures { InPlace head.old (Call.dll_event event expect_preq) (dll_said result) head.new (dll_words head.old expect_preq (read_cs_event event)) }
+    ensures { InPlace head.old (Call.dll_event event expect_preq) (dll_said result)
+        head.new (dll_words head.old expect_preq (read_cs_event event)) }
 {
     let event = DllCsEvent::try_from(event)?;
     let answer = dll_of(head).process_event(event, state_at(head), expect_preq);
@@ -80,9 +92,11 @@ pub fn dll_event(head: &mut Head, event: u64, expect_preq: bool) -> Result<DllEr
     Ok(answer.errors)
 }
 
-// Whether an error that counts for a kind crosses: of the counters, only that kind's is read and written.
+// Whether an error that counts for a kind crosses: of the counters, only that kind's is read and
+// written.
 fn count(head: &mut Head, kind: CounterKind) -> bool
-    ensures { (result ≡ (after_error (counter_at head.old (at.counter kind))).reached) × (head.new ≡ effect_words head.old (counts kind)) }
+    ensures { (result ≡ (after_error (counter_at head.old (at.counter kind))).reached) ×
+        (head.new ≡ effect_words head.old (counts kind)) }
 {
     let mut counter = counter_of(head, kind);
     let reached = counter.count_error();
@@ -90,9 +104,11 @@ fn count(head: &mut Head, kind: CounterKind) -> bool
     reached
 }
 
-// One error to the counters.
+/// Gives one error to the counters, and changes nothing else: the action is asked for and not
+/// carried out.
 pub fn handled(head: &mut Head, error: DllError) -> ErrorTaken
-    ensures { (result ≡ replied (handled (errors_of head.old) error)) × (head.new ≡ effect_words head.old (effect error)) }
+    ensures { (result ≡ replied (handled (errors_of head.old) error)) ×
+        (head.new ≡ effect_words head.old (effect error)) }
 {
     match effect_of(error) {
         ErrorEffect::Counts(kind) => ErrorTaken::counted(count(head, kind), error),
@@ -105,17 +121,23 @@ pub fn handled(head: &mut Head, error: DllError) -> ErrorTaken
     }
 }
 
-// One error to the counters, by its kind; a is its node, or a and b are its state and event.
+/// Gives an error to the counters, by the place of its kind, 0 to 21 (RULES 6.8), and what it
+/// carries: a is the node, or a and b are the state and the event of an UnexpectedEventInState;
+/// what a kind does not carry is not looked at. Refused, in this order: UnknownNumber, NodeNumber
+/// for a kind that carries a node; then no word changes.
 pub fn handle_error(head: &mut Head, kind: u64, a: u8, b: u8) -> Result<ErrorTaken, Refusal>
-    ensures { InPlace head.old (Call.error kind a b) (error_said result) head.new (error_words head.old (read_error kind a b)) }
+    ensures { InPlace head.old (Call.error kind a b) (error_said result)
+        head.new (error_words head.old (read_error kind a b)) }
 {
     let error = DllError::try_from(kind, a, b)?;
     Ok(handled(head, error))
 }
 
-// Whether the last level reached 0.
+/// A completed cycle takes 1 from each level above 0. Answers whether the last one reached 0: one
+/// was above 0 before and none is after.
 pub fn on_cycle_complete(head: &mut Head) -> bool
-    ensures { InPlace head.old Call.cycle_complete (cycle_answer result) head.new (cycle_words head.old) }
+    ensures { InPlace head.old Call.cycle_complete (cycle_answer result)
+        head.new (cycle_words head.old) }
 {
     let mut errors = errors_of(head);
     let cleared = errors.on_cycle_complete();
@@ -123,7 +145,9 @@ pub fn on_cycle_complete(head: &mut Head) -> bool
     cleared
 }
 
-// An SoC was received at a time: the check goes on where there is a cycle, with a deadline.
+/// An SoC was received at a time in µs, 0 to 2^62 - 1: with a cycle above 0 the check goes on, with
+/// the deadline behind the limit; with cycle 0 it is off and no deadline stands. Refused by
+/// TimeLimit; then no word changes.
 pub fn arm(head: &mut Head, time: u64) -> Result<(), Refusal>
     ensures { InPlace head.old (Call.arm time) (said result) head.new (arm_words head.old time) }
 {
@@ -133,11 +157,14 @@ pub fn arm(head: &mut Head, time: u64) -> Result<(), Refusal>
     Ok(())
 }
 
-// The oldest entry leaves the queue; of an empty one, none does.
+/// The oldest entry, which leaves the emergency queue; of an empty queue, none.
 pub fn hand_out(head: &mut Head, memory: &[u8; 640]) -> Option<ErrorEntry>
-    ensures { ((m : List ℕ) → Refines (head_of head.old) memory.now m Call.hand_out (left (head_of head.new) (hand_out_answer result)) memory.now m no_run)
-        × (head.new ≡ hand_out_words head.old memory.now)
-        × (head_of head.new ≡ head_with_queue (head_of head.old) (handed_out memory.now (head_of head.old).queue).queue) }
+    ensures { ((m : List ℕ) → Refines (head_of head.old) memory.now m Call.hand_out
+        (left (head_of head.new) (hand_out_answer result)) memory.now m no_run) ×
+        (head.new ≡ hand_out_words head.old memory.now) ×
+        (head_of head.new ≡
+        head_with_queue (head_of head.old)
+        (handed_out memory.now (head_of head.old).queue).queue) }
 {
     let mut queue = queue_of(head);
     let entry = queue.hand_out(memory);

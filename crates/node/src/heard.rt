@@ -1,4 +1,5 @@
-// Heard: the last-heard time of one watched node, and the earliest moment at which one would be late.
+//! Heard: the last-heard time of one watched node, and the earliest moment at which one would be
+//! late.
 ghost use Rattle.std.specs.Prelude.{◌≡◌, Bool};
 ghost use Rattle.std.specs.Bool.{then_some};
 ghost use Rattle.node.specs.Heard.{heard_answer, Heard};
@@ -9,9 +10,11 @@ use types::refusals::Refusal;
 use watched::nodes::{NodeWords, find, moment, set_heard};
 use watched::time::in_time;
 
-// Numbers 3, 5 and 7, by what was found of the watched nodes: whether the node is among them, where they pass number 3.
+/// The tests of heard, by what was found: whether the node is among the watched ones, or `None`
+/// where they are not well formed. Refused, in this order: WatchedNodes, TimeLimit, NotWatched.
 pub fn try_heard(watched: Option<bool>, time: u64) -> Result<(), Refusal>
-    ensures { (formed among : Bool) → watched ≡ then_some formed among → result ≡ heard_answer formed time among }
+    ensures { (formed among : Bool) → watched ≡ then_some formed among →
+        result ≡ heard_answer formed time among }
 {
     let watched = watched.ok_or(Refusal::WatchedNodes)?;
     if !in_time(time) {
@@ -23,7 +26,9 @@ pub fn try_heard(watched: Option<bool>, time: u64) -> Result<(), Refusal>
     Ok(())
 }
 
-// A watched node was heard.
+/// A watched node was heard at a time in µs, 0 to 2^62 - 1: that is its last-heard time, and the
+/// earliest moment is worked out anew. Refused, in this order: WatchedNodes, TimeLimit, NotWatched,
+/// also for a number that no node has; then no word changes.
 pub fn heard(
     head: &mut Head,
     nodes: &mut NodeWords,

@@ -1,27 +1,38 @@
-// Load: the words of the dictionary values that a load names, and the history.
+//! Load: the values of the dictionary that a load names, and the history.
 ghost use Rattle.std.specs.Prelude.{◌≡◌};
 ghost use Rattle.node.specs.Steps.{updated};
 ghost use Rattle.head.specs.Places as at;
 ghost use Rattle.head.specs.Words.{od_of, head_of};
-ghost use Rattle.node.specs.Loaded.{number_loaded, object_loaded, ByteFits, values_loaded, bytes_named, LoadedIn};
+ghost use Rattle.node.specs.Loaded.{number_loaded, object_loaded, ByteFits, values_loaded};
+ghost use Rattle.node.specs.Loaded.{bytes_named, LoadedIn};
 ghost use Rattle.head.specs.Head.{head_with_od};
 
 use entries::error_history::ErrorHistory;
 use head::parts::{set_history, set_object, set_register, set_statistic};
 use head::state::{Head, Object, Statistic};
 
+/// The values of the dictionary that a load names; `None` leaves one as it is. Cycle and tolerance
+/// may also be set to missing.
 #[derive(Clone, Copy, PartialEq, Eq)]
 pub struct DictionaryUpdate {
+    /// The error register, object 0x1001.
     pub error_register: Option<u8>,
+    /// The cycle, object 0x1006, in µs.
     pub cycle_time: Option<Option<u32>>,
+    /// The tolerance of the SoC, object 0x1C14, in ns.
     pub tolerance: Option<Option<u32>>,
+    /// Counter 1 of object 0x1102.
     pub counter_1: Option<u32>,
+    /// Counter 2 of object 0x1102.
     pub counter_2: Option<u32>,
+    /// Counter 3 of object 0x1102.
     pub counter_3: Option<u32>,
+    /// Counter 5 of object 0x1102.
     pub counter_5: Option<u32>,
 }
 
-// A writer for each type of value and no generic one, which would take the line of each as a closure, seven times.
+// A writer for each type of value and no generic one, which would take the line of each as a
+// closure, seven times.
 fn load_register(head: &mut Head, update: Option<u8>)
     ensures { (head.new ≡ number_loaded head.old at.register update) × ByteFits update }
 {
@@ -46,7 +57,7 @@ fn load_statistic(head: &mut Head, statistic: Statistic, update: Option<u32>)
     }
 }
 
-// The words of the values that are named, and no others.
+// Writes the words of the values that are named, and no others.
 fn load_values(head: &mut Head, values: DictionaryUpdate)
     ensures { (head_of head.new ≡ head_with_od (head_of head.old) (updated (od_of head.old) values))
         × (head.new ≡ values_loaded head.old values) }
@@ -60,7 +71,9 @@ fn load_values(head: &mut Head, values: DictionaryUpdate)
     load_statistic(head, Statistic::Counter5, values.counter_5);
 }
 
-// Sets the values that are named and, where its entries are, the history from their bytes, newest first: the newest 254 whole entries are taken.
+/// Sets the values that are named and, where entries are given, the history from their bytes, 20 an
+/// entry, newest first: of more than 254 whole entries the first 254 are taken, and bytes behind
+/// the last whole one are no entry. What is not named stays as it is; nothing is refused.
 pub fn load(
     head: &mut Head,
     memory: &mut [u8; 5080],

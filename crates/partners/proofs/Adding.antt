@@ -82,7 +82,7 @@ module _ (ws : List ℕ) (r : Run) (n o : ℕ) (v : Bool) (a : v ≡ is_node n) 
   declines_by : (y : Refusal) → ((p : Plain) → step p (add n o r) ≡ declines p r (refusal_number y)) → (c : Result (Unit {0}) Refusal) → c ≡ Err y → Declined c
   declines_by y s c g = subst Declined (sym g) (run_declined ws (add n o r) r y s)
 
-  -- of a run that number 3 declines, nothing else is asked
+  -- of a run that is not well formed, nothing else is asked
   pub add_unformed : well_lent r ≡ false → (w : Bool) (k : ℕ) (c : Result (Unit {0}) Refusal) → c ≡ add_answer v false o w k → Declined c
   add_unformed f w k c = by v (sym a)
     where

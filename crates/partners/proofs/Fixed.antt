@@ -1,4 +1,5 @@
--- The places of a run fix every word that was lent: 96 words are those of the 32 places that they stand for.
+-- The places of a run fix every word that was lent: 96 words are those of the 32 places that they
+-- stand for.
 -- Assumes nothing.
 use Prim.Native.Nat.{ℕ, zero, suc, ◌+◌, ◌*◌}
 use mathlib.Core.Path.{◌≡◌, refl, sym, ap, ◌∙◌}

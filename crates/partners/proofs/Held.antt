@@ -1,4 +1,5 @@
--- The run that an add or a removal leaves: what it watches, and its earliest moment, which is that of the nodes with the one added or removed not heard.
+-- The run that an add or a removal leaves: what it watches, and its earliest moment, which is that
+-- of the nodes with the one added or removed not heard.
 -- Assumes nothing.
 use Prim.Native.Nat.{ℕ, ◌+◌, ◌-◌}
 use mathlib.Core.Path.{◌≡◌, refl, sym, ap, ◌∙◌}
@@ -60,7 +61,8 @@ nowhere_heard n t (w ∷ ws) e = by (eqb w.node n) (nowhere_heard n t ws) e
     by true more e = cc
     by false more e = ap (λ (l : List WatchedNode). w ∷ l) (more e)
 
--- a walk's number over the nodes as they were lent, with n not heard, is the earliest moment of the run that is left
+-- a walk's number over the nodes as they were lent, with n not heard, is the earliest moment of the
+-- run that is left
 module _ (r : Run) (n : ℕ) (f : well_lent r ≡ true) where
   abbrev vs : List WatchedNode
   vs = watching r

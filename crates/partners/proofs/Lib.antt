@@ -6,5 +6,4 @@ pub mod Removing
 pub mod Left
 pub mod Told
 pub mod Fixed
-pub mod Links
 pub mod Moved

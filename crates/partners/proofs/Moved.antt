@@ -1,4 +1,5 @@
--- Places that are moved by moving their words, three a place; and what the moves of an add and a removal leave.
+-- Places that are moved by moving their words, three a place; and what the moves of an add and a
+-- removal leave.
 -- Assumes nothing.
 use Prim.Native.Nat.{ℕ, zero, suc, ◌+◌, ◌-◌, ◌*◌, ◌<◌, ◌≤◌}
 use mathlib.Core.Path.{◌≡◌, refl, sym, ap, ap₂, ◌∙◌}

@@ -33,7 +33,7 @@ module _ (ws : List ℕ) (r : Run) (n : ℕ) where
   declines_by : (y : Refusal) → ((p : Plain) → step p (remove n r) ≡ declines p r (refusal_number y)) → (c : Result (Unit {0}) Refusal) → c ≡ Err y → Declined c
   declines_by y s c g = subst Declined (sym g) (run_declined ws (remove n r) r y s)
 
-  -- of a run that number 3 declines, nothing else is asked
+  -- of a run that is not well formed, nothing else is asked
   pub remove_unformed : well_lent r ≡ false → (w : Bool) (c : Result (Unit {0}) Refusal) → c ≡ remove_answer false w → Declined c
   remove_unformed f w c g = declines_by WatchedNodes (λ p. rw f) c g
 

@@ -1,4 +1,5 @@
--- Add and remove on nodes in words, over plain variables: what was found and what the walks left gives what the call must answer and leave.
+-- Add and remove on nodes in words, over plain variables: what was found and what the walks left
+-- gives what the call must answer and leave.
 -- Assumes nothing.
 use Prim.Native.Nat.{ℕ, ◌+◌, ◌-◌, ◌<◌, ◌≤◌}
 use mathlib.Core.Path.{◌≡◌, refl, sym, ap, ◌∙◌}

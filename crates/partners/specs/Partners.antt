@@ -1,4 +1,5 @@
--- Heartbeat partners arrive and leave (document 02, No. 1): what add and remove answer by their tests, and what they leave.
+-- Heartbeat partners arrive and leave (RULES 8.4): what add and remove answer by their tests, and
+-- what they leave.
 -- Assumes nothing.
 use Rattle.std.specs.Prelude.{ℕ, ◌≡◌, Bool, not, List, [], ◌∷◌, ltb}
 use Rattle.types.specs.Pick.{both}
@@ -13,18 +14,20 @@ use Rattle.node.specs.Plain.{Call}
 use Rattle.node.specs.Steps.{must, tried, added, removed}
 use Rattle.node.specs.InPlace.{unless_refused, OnRun}
 
--- numbers 1, 3, 10 and 9, by what was found: whether a node has the number, whether the run passes number 3, and whether the node is watched
+-- NodeNumber, WatchedNodes, AlreadyWatched, AllWatched, by what was found: whether a node has the
+-- number, whether the run is well formed, and whether the node is watched
 abbrev pub add_answer : Bool → Bool → ℕ → Bool → ℕ → Result (Unit {0}) Refusal
 add_answer known formed o watched k =
     tried
     (must known NodeNumber ∷ must (both formed (in_time o)) WatchedNodes ∷ must (not watched) AlreadyWatched ∷ must (ltb k 32) AllWatched ∷ [])
     Err (Ok tt)
 
--- numbers 3 and 7
+-- WatchedNodes, NotWatched
 abbrev pub remove_answer : Bool → Bool → Result (Unit {0}) Refusal
 remove_answer formed watched = tried (must formed WatchedNodes ∷ must watched NotWatched ∷ []) Err (Ok tt)
 
--- Of a call on the words ws and the run r, which answered a and left ws' and r'.
+-- of an add of n with the timeout o, or a removal of n, on the words ws and the run r, which
+-- answered a and left ws' and r'
 abbrev pub AddedOn : List ℕ → Run → ℕ → ℕ → Result (Unit {0}) Refusal → List ℕ → Run → Type 0
 AddedOn ws r n o a ws' r' = OnRun ws (Call.add n o r) a ws' r'
 
@@ -36,8 +39,9 @@ abbrev pub words_of : List WatchedNode → List ℕ
 words_of [] = []
 words_of (v ∷ vs) = v.node ∷ v.timeout ∷ v.last_heard ∷ words_of vs
 
--- The same of nodes in the words ns, of which the first k are watched; and every word of theirs: those of all 32 places of the run that is left, and by a
--- declined call none is written.
+-- Of an add or a removal on the words ws and nodes in the words ns, of which the first k are
+-- watched: as on their run; and every word of theirs, those of all 32 places of the run that is
+-- left; by a call that is refused none is written.
 pub record Added (ws ns : List ℕ) (k n o : ℕ) (a : Result (Unit {0}) Refusal) (ws' ns' : List ℕ) (k' : ℕ) : Type 0 where
   pub on : AddedOn ws (run (nodes_of ns) k) n o a ws' (run (nodes_of ns') k')
   pub nodes : ns' ≡ unless_refused a ns (words_of (added n o (run (nodes_of ns) k)).places)

@@ -10,8 +10,8 @@ abbrev pub place_before : ℕ → List WatchedNode → ℕ
 place_before n [] = 0
 place_before n (w ∷ ws) = pick (ltb n w.node) 0 (suc (place_before n ws))
 
--- The node v is carried along: it takes the place of the first node above it, which is carried on; behind the watched nodes it takes the next place, and the
--- places past that are cleared.
+-- The node v is carried along: it takes the place of the first node above it, which is carried on;
+-- behind the watched nodes it takes the next place, and the places past that are cleared.
 abbrev pub carried : ℕ → WatchedNode → List WatchedNode → List WatchedNode
 carried k v [] = []
 carried zero v (w ∷ ws) = v ∷ carried zero no_node ws

@@ -1,5 +1,6 @@
-// Heartbeat partners arrive and leave (document 02, No. 1): a node is added to the watched nodes of a head, or removed from them. Of nodes in words 32 places
-// are lent, three words each, with the number of the first ones that are watched.
+//! Heartbeat partners arrive and leave: a node is added to the watched nodes of a head, or removed
+//! from them (RULES 8.4). Of nodes in words 32 places are lent, three words each, with the number
+//! of the first ones that are watched.
 #![tactic(auto)]
 
 ghost use Rattle.std.specs.Prelude.{◌≡◌, ◌++◌, ◌-◌, ◌≤◌, ◌<◌, Bool, true, take, drop, replicate};
@@ -20,7 +21,8 @@ use watched::time::in_time;
 // Where a node is to stand: before the first one above it, so behind so many that are not.
 fn place_for(nodes: &NodeWords, count: usize, node: u64) -> usize
     requires { count ≤ 32 }
-    ensures { (result ≡ place_before node (take count (nodes_of nodes.now))) × (result ≤ count) }
+    ensures { (result ≡ place_before node (take count (nodes_of nodes.now))) ×
+        (result ≤ count) }
 {
     (0..count)
         .take_while(|&i| NodeRecord::at(nodes, i).node <= node)
@@ -38,7 +40,9 @@ fn clear(nodes: &mut NodeWords, from: usize)
 // A node takes its place: those above it move up by one, and the places past them are cleared.
 fn insert(nodes: &mut NodeWords, count: usize, node: NodeRecord)
     requires { count < 32 }
-    ensures { nodes_of nodes.new ≡ inserted (node_of node) (take count (nodes_of nodes.old)) ++ replicate (31 - count) no_node }
+    ensures { nodes_of nodes.new ≡
+        inserted (node_of node) (take count (nodes_of nodes.old)) ++
+        replicate (31 - count) no_node }
 {
     let place = place_for(nodes, count, node.node);
     nodes.copy_within(3 * place..3 * count, 3 * place + 3);
@@ -46,18 +50,24 @@ fn insert(nodes: &mut NodeWords, count: usize, node: NodeRecord)
     clear(nodes, count + 1);
 }
 
-// The place of a node is closed: those behind it move down by one, and the places past them are cleared.
+// The place of a node is closed: those behind it move down by one, and the places past them are
+// cleared.
 fn close(nodes: &mut NodeWords, count: usize, place: usize)
     requires { (place < count) × (count ≤ 32) }
-    ensures { nodes_of nodes.new ≡ take place (nodes_of nodes.old) ++ closed (count - place) (drop place (nodes_of nodes.old)) }
+    ensures { nodes_of nodes.new ≡
+        take place (nodes_of nodes.old) ++
+        closed (count - place) (drop place (nodes_of nodes.old)) }
 {
     nodes.copy_within(3 * place + 3..3 * count, 3 * place);
     clear(nodes, count - 1);
 }
 
-// Numbers 3, 10 and 9, behind number 1, by what was found: whether the node is among the watched ones, where they pass number 3.
+/// The tests of an add behind that of the node's number, by what was found: whether the node is
+/// among the watched ones, or `None` where they are not well formed. Refused, in this order:
+/// WatchedNodes (also where the timeout is above 2^62 - 1 µs), AlreadyWatched, AllWatched.
 pub fn try_place(watched: Option<bool>, timeout: u64, number: usize) -> Result<(), Refusal>
-    ensures { (formed among : Bool) → watched ≡ then_some formed among → result ≡ add_answer true formed timeout among number }
+    ensures { (formed among : Bool) → watched ≡ then_some formed among →
+        result ≡ add_answer true formed timeout among number }
 {
     let watched = watched.ok_or(Refusal::WatchedNodes)?;
     if !in_time(timeout) {
@@ -72,9 +82,11 @@ pub fn try_place(watched: Option<bool>, timeout: u64, number: usize) -> Result<(
     Ok(())
 }
 
-// Numbers 3 and 7.
+/// The tests of a removal, by what was found as above. Refused, in this order: WatchedNodes,
+/// NotWatched.
 pub fn try_remove(watched: Option<bool>) -> Result<(), Refusal>
-    ensures { (formed among : Bool) → watched ≡ then_some formed among → result ≡ remove_answer formed among }
+    ensures { (formed among : Bool) → watched ≡ then_some formed among →
+        result ≡ remove_answer formed among }
 {
     let watched = watched.ok_or(Refusal::WatchedNodes)?;
     if !watched {
@@ -83,7 +95,10 @@ pub fn try_remove(watched: Option<bool>) -> Result<(), Refusal>
     Ok(())
 }
 
-// A node is watched from now on, with its timeout, and not yet heard: so it is not late at any moment yet.
+/// Watches a node from now on, with its timeout in µs and not heard yet: so it is not late at any
+/// moment yet. It stands in its place, ascending; `count` rises by 1, and the places past it are
+/// zeros. Refused, in this order: NodeNumber, WatchedNodes (also where the timeout is above
+/// 2^62 - 1 µs), AlreadyWatched, AllWatched; then nothing changes.
 pub fn add(
     head: &mut Head,
     nodes: &mut NodeWords,
@@ -91,7 +106,8 @@ pub fn add(
     node: u8,
     timeout: u64,
 ) -> Result<(), Refusal>
-    ensures { Added head.old nodes.old count.old node timeout result head.new nodes.new count.new }
+    ensures { Added head.old nodes.old count.old node timeout
+        result head.new nodes.new count.new }
 {
     NodeId::try_from(node)?;
     let number = *count;
@@ -108,7 +124,8 @@ pub fn add(
     Ok(())
 }
 
-// A node is watched no more. The soonest moment with it not heard is that of the others.
+/// Watches a node no more: those behind it move up, `count` falls by 1, and the places past it are
+/// zeros. Refused, in this order: WatchedNodes, NotWatched; then nothing changes.
 pub fn remove(
     head: &mut Head,
     nodes: &mut NodeWords,
@@ -118,6 +135,7 @@ pub fn remove(
     ensures { Removed head.old nodes.old count.old node result head.new nodes.new count.new }
 {
     let number = *count;
+    // The soonest moment with the node not heard is that of the others.
     let (place, soonest) = find(nodes, number, node as u64, 0).ok_or(Refusal::WatchedNodes)?;
     try_remove(Some(place < number))?;
     close(nodes, number, place);

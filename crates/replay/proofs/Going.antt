@@ -23,7 +23,7 @@ pub goes_on :
 goes_on {bs} {rest} {text} {x} {y} {n} l o g more reads plays =
     record {
       goes = λ page s.
-        subst (Script fresh 1 bs) (sym (append_assoc text (said_text o n y) page)) (g.goes (said_text o n y ++ page) (next_line l o more reads plays s));
+          subst (Script fresh 1 bs) (sym (append_assoc text (said_text o n y) page)) (g.goes (said_text o n y ++ page) (next_line l o more reads plays s));
     }
 
 pub all_of_it : {bs text : List ℕ} {x : Station} {n : ℕ} → Going bs x n [] text → Script fresh 1 bs text

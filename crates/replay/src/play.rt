@@ -8,10 +8,9 @@ ghost use Rattle.replay.specs.Played.{fresh, said_text, Script};
 use crate::station::{Said, Station};
 use script::{LineBytes, read};
 use std::alloc::Global;
-use std::fmt;
 use std::fmt::Display;
-use std::io;
 use std::io::{BufRead, BufReader, ErrorKind, Read, Write};
+use std::{fmt, io};
 
 /// What a line prints at a place of the script, from 1, on the station that it left.
 #[derive(Clone, Copy)]
@@ -63,7 +62,7 @@ pub fn play<R: Read, W: Write>(
 ) -> io::Result<()>
     ensures { OnOk result (IfSome (reader_remaining R.remaining script.old)
         (λ bytes. (page : List ℕ) × Script fresh 1 bytes page
-            × Appends (W.contents out.old) (W.contents out.new) page)) }
+        × Appends (W.contents out.old) (W.contents out.new) page)) }
 {
     let mut station = Station::new();
     let mut line = Vec::new(alloc);
@@ -76,7 +75,15 @@ pub fn play<R: Read, W: Write>(
         }
         let said = station.play(read(without_newline(&line), &mut bytes));
         let station = &station;
-        write!(out, "{}", Printed { said, place, station })?;
+        write!(
+            out,
+            "{}",
+            Printed {
+                said,
+                place,
+                station
+            }
+        )?;
     }
     Err(io::Error::from(ErrorKind::InvalidInput))
 }

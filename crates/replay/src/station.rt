@@ -141,7 +141,13 @@ impl Station {
     fn start(&mut self, setup: Setup) -> Result<(), Refusal>
         ensures { Began setup self.old result self.new }
     {
-        start_over_places(&mut self.head, &mut self.run, self.places, self.number, setup)?;
+        start_over_places(
+            &mut self.head,
+            &mut self.run,
+            self.places,
+            self.number,
+            setup,
+        )?;
         self.started = true;
         Ok(())
     }

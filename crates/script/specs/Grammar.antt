@@ -181,7 +181,8 @@ call_rows =
     (codes "range", two bits64 bits64 calls.Range) ∷
     (codes "margin", one bits64 calls.Margin) ∷
     (codes "add", two bits8 bits64 calls.Add) ∷
-    (codes "remove", one bits8 calls.Remove) ∷ []
+    (codes "remove", one bits8 calls.Remove) ∷
+    (codes "due", just calls.NextDue) ∷ []
 
 unfoldable pub call_named : List ℕ → Reads Call
 call_named name = named call_rows name (only None)

@@ -89,17 +89,14 @@ fn read_call<'a>(name: &str, words: &mut Words<'_>) -> Option<Call<'a>>
             timeout: words.bits64()?,
         },
         "remove" => Call::Remove(words.bits8()?),
+        "due" => Call::NextDue,
         _ => return None,
     })
 }
 
 // What a line says that begins with a name, with the words behind it.
 #[tactic(auto, unfolding(crate::specs::Grammar::line_named))]
-fn read_named<'a>(
-    name: &str,
-    words: &mut Words<'_>,
-    bytes: &'a mut LineBytes,
-) -> Option<Line<'a>>
+fn read_named<'a>(name: &str, words: &mut Words<'_>, bytes: &'a mut LineBytes) -> Option<Line<'a>>
     ensures { gives (option_map says result) words.new.rest.now ≡ line_named name.now words.old.rest.now }
 {
     match name {

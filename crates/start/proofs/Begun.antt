@@ -1,4 +1,5 @@
--- Start in words: the words of a fresh head are computed, whatever the arguments; the rest is by the laws of start on a head by its parts (Starting).
+-- Start in words: the words of a fresh head are computed, whatever the arguments; the rest is by
+-- the laws of start on a head by its parts (Starting).
 -- Assumes nothing.
 use Prim.Native.Nat.{ℕ, ◌+◌, ◌*◌, ◌%◌, ◌≤◌, ◌<◌}
 use mathlib.Core.Path.{◌≡◌, refl, sym, ap, subst, ◌∙◌}

@@ -1,4 +1,5 @@
--- What start leaves of a head and watched nodes in words: the plain start's head or number and run, and every word.
+-- What start leaves of a head and watched nodes in words: the plain start's head or number and run,
+-- and every word.
 -- Assumes nothing.
 use Rattle.std.specs.Prelude.{ℕ, zero, suc, ◌+◌, ◌*◌, ◌≡◌, Bool, false, List, [], ◌∷◌, leb, set, replicate}
 use Rattle.types.specs.Types.{node, is_node}
@@ -64,7 +65,8 @@ fresh_head n c s =
       earliest = None;
     }
 
--- Of start, whatever stands in the memory that will be lent: the plain start's head or number, and run.
+-- Of start, whatever stands in the memory that will be lent: the plain start's head or number, and
+-- run.
 pub record Begins (s : Start) (a : Result (Unit {0}) Refusal) (h : Head) (l : Run) : Type 0 where
   pub begun : (q m : List ℕ) → begun_by a h q m ≡ (started s).begun
   pub lent : l ≡ (started s).lent
@@ -80,7 +82,8 @@ unfoldable pub unheard_words : ℕ → List ℕ → List ℕ
 unheard_words zero ns = ns
 unheard_words (suc i) ns = set (unheard_words i ns) (3 * i + 2) 0
 
--- numbers 1, 2, 3 and 14, where it is known whether the nodes pass number 3
+-- NodeNumber, QueueCapacity, WatchedNodes, ThresholdLimit, where it is known whether the nodes are
+-- well formed
 abbrev pub start_answer : ℕ → ℕ → Bool → Thresholds → Result (Unit {0}) Refusal
 start_answer n c formed ts =
     tried (must (is_node n) NodeNumber ∷ must (leb c 32) QueueCapacity ∷ must formed WatchedNodes ∷ must (thresholds_fit ts) ThresholdLimit ∷ []) Err (Ok tt)
@@ -89,20 +92,21 @@ start_answer n c formed ts =
 abbrev pub start_left : Result (Unit {0}) Refusal → Run → Run
 start_left a r = unless_refused a r (changing unheard r)
 
--- Of start on the words ws and the run r, which answered a and left the words ws' and the run r': the plain start's head or number and run, and
--- every word of the head.
+-- Of start on the words ws and the run r, which answered a and left the words ws' and the run r':
+-- the plain start's head or number and run, and every word of the head.
 pub record StartedOn (ws : List ℕ) (r : Run) (s : Setup) (a : Result (Unit {0}) Refusal) (ws' : List ℕ) (r' : Run) : Type 0 where
   pub begins : Begins (start_of s r) a (head_of ws') r'
   pub places : FreshPlaces a (head_of ws') s.queue_capacity
   pub words : ws' ≡ unless_refused a ws (fresh_words (node s.node) s.queue_capacity s)
 
--- The same of nodes in the words ns, of which the first k are watched; and every word of theirs.
+-- Of start on the words ws and nodes in the words ns, of which the first k are watched: as on their
+-- run; and every word of theirs.
 pub record StartedIn (ws ns : List ℕ) (k : ℕ) (s : Setup) (a : Result (Unit {0}) Refusal) (ws' ns' : List ℕ) : Type 0 where
   pub on : StartedOn ws (run (nodes_of ns) k) s a ws' (run (nodes_of ns') k)
   pub nodes : ns' ≡ unless_refused a ns (unheard_words k ns)
 
--- Of start without the run, whose form it need not know: what it answers, every word of the head, and what start leaves of any run that passes number 3
--- or doesn't, as was said.
+-- Of start without the run, whose form it need not know: what it answers, every word of the head,
+-- and what start leaves of any run that is well formed, or is not, as was said.
 pub record BeginsBy (ws : List ℕ) (s : Setup) (formed : Bool) (a : Result (Unit {0}) Refusal) (ws' : List ℕ) : Type 0 where
   pub answer : a ≡ start_answer s.node s.queue_capacity formed s.thresholds
   pub words : ws' ≡ unless_refused a ws (fresh_words (node s.node) s.queue_capacity s)

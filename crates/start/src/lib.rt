@@ -1,4 +1,5 @@
-// Start: the words of a fresh head, whatever stood there before, and watched nodes of which none was heard yet.
+//! Start: the words of a fresh head, whatever stood there before, and watched nodes of which none
+//! was heard yet.
 #![tactic(auto)]
 
 pub mod start;

@@ -1,7 +1,8 @@
-// Start: every word of a fresh head, from the arguments.
+//! Start: every word of a fresh head, from the arguments.
 ghost use Rattle.std.specs.Prelude.{◌≡◌, ◌≤◌};
 ghost use Rattle.watched.specs.Watched.{unheard_first};
-ghost use Rattle.start.specs.Started.{fresh_head, fresh_words, unheard_words, BeginsBy, StartedIn};
+ghost use Rattle.start.specs.Started.{fresh_head, fresh_words, unheard_words};
+ghost use Rattle.start.specs.Started.{BeginsBy, StartedIn};
 ghost use Rattle.head.specs.Words.{head_of};
 ghost use Rattle.watched.specs.Nodes.{nodes_of};
 
@@ -14,21 +15,29 @@ use types::refusals::Refusal;
 use types::types::NodeId;
 use watched::nodes::{NodeWords, set_heard, well_formed};
 
-// What a fresh head is made from.
+/// What a fresh head is made from.
 #[derive(Clone, Copy, PartialEq, Eq)]
 pub struct Setup {
+    /// The node's number: 1 to 240, 253, 254 or 255.
     pub node: u8,
+    /// Kept and never read.
     pub feature_flags: FeatureFlags,
+    /// In µs; with 0 the node never falls back to BasicEthernet.
     pub basic_ethernet_timeout: u32,
+    /// How many entries the emergency queue may hold: 0 to 32.
     pub queue_capacity: u64,
+    /// The values of the dictionary that a head keeps.
     pub od: Dictionary,
+    /// One for each kind of error that is counted: 0 to 1,000,000; with 0 it never crosses.
     pub thresholds: Thresholds,
 }
 
 impl Setup {
-    // The words of a fresh head, of a node number and a capacity that were tried: whatever stood there before is gone.
+    // The words of a fresh head, of a node number and a capacity that were tried: whatever stood
+    // there before is gone.
     fn fresh(self, head: &mut Head, node_id: NodeId, capacity: u8)
-        ensures { (head_of head.new ≡ fresh_head node_id capacity self) × (head.new ≡ fresh_words node_id capacity self) }
+        ensures { (head_of head.new ≡ fresh_head node_id capacity self) ×
+            (head.new ≡ fresh_words node_id capacity self) }
     {
         let nmt = CnNmtStateMachine::new(node_id, self.feature_flags, self.basic_ethernet_timeout);
         let errors = CnErrorCounters::new(self.thresholds);
@@ -44,14 +53,17 @@ impl Setup {
 // No watched node was heard yet.
 fn unheard(nodes: &mut NodeWords, count: usize)
     requires { count ≤ 32 }
-    ensures { (nodes.new ≡ unheard_words count nodes.old) × (nodes_of nodes.new ≡ unheard_first count (nodes_of nodes.old)) }
+    ensures { (nodes.new ≡ unheard_words count nodes.old) ×
+        (nodes_of nodes.new ≡ unheard_first count (nodes_of nodes.old)) }
 {
     for i in 0..count {
         set_heard(nodes, i, 0);
     }
 }
 
-// Numbers 1, 2, 3 and 14, then the fresh head. Of the watched nodes it is told whether they pass number 3, whatever form they have.
+/// Start without the watched nodes, of which it is told whether they are well formed, whatever form
+/// they are lent in. Refused, in this order: NodeNumber, QueueCapacity, WatchedNodes where they are
+/// not well formed, ThresholdLimit; then no word changes.
 pub fn begin(head: &mut Head, setup: Setup, formed: bool) -> Result<(), Refusal>
     ensures { BeginsBy head.old setup formed result head.new }
 {
@@ -70,7 +82,9 @@ pub fn begin(head: &mut Head, setup: Setup, formed: bool) -> Result<(), Refusal>
     Ok(())
 }
 
-// A fresh head, with an empty queue and an empty history; no watched node was heard yet.
+/// Makes a fresh head of any words: at GsInitialising, ready, not enabled, with an empty queue and
+/// an empty history (RULES 1.9). The first `count` watched nodes count as never heard. Refused, in
+/// this order: NodeNumber, QueueCapacity, WatchedNodes, ThresholdLimit; then nothing changes.
 pub fn start(
     head: &mut Head,
     nodes: &mut NodeWords,

@@ -69,6 +69,11 @@ verdict_text verdict.Lost = codes " lost"
 verdict_text verdict.Kept = codes " kept"
 verdict_text verdict.Open = codes " open"
 
+-- when the next tick is due: a moment, 0 for at once, or none
+abbrev pub due_text : Option ℕ → List ℕ
+due_text None = codes " none"
+due_text (Some t) = joined (codes " " ∷ decimal t ∷ [])
+
 -- what a call answers that is taken
 abbrev pub answer_text : Answer → List ℕ
 answer_text answer.Taken = []
@@ -80,6 +85,7 @@ answer_text (answer.HandedOut e) = handed_out_text e
 answer_text (answer.Tick es) = joined (codes " (logged" ∷ errors_text es ∷ codes ")" ∷ [])
 answer_text (answer.Range v) = verdict_text v
 answer_text (answer.Margin z) = joined (codes " " ∷ signed_decimal z ∷ [])
+answer_text (answer.Due d) = due_text d
 
 -- what an entry says that is read
 abbrev pub type_text : EntryType → List ℕ

@@ -12,9 +12,8 @@ use forms::hex::HexByte;
 use nmt::state_machine::{IndexRange, ResetSequence};
 use node::calls::NmtTaken;
 use node::range::SocVerdict;
-use std::fmt;
 use std::fmt::Display;
-use std::str;
+use std::{fmt, str};
 use types::frame::error::kinds::DllErrorKind;
 use types::nmt::events::NmtStateCommand;
 use types::nmt::states::NmtState;
@@ -101,6 +100,8 @@ impl Display for AnswerForm {
             Answer::Range(SocVerdict::Kept) => write!(f, " kept"),
             Answer::Range(SocVerdict::Open) => write!(f, " open"),
             Answer::Margin(margin) => write!(f, " {margin}"),
+            Answer::Due(Some(moment)) => write!(f, " {moment}"),
+            Answer::Due(None) => write!(f, " none"),
         }
     }
 }

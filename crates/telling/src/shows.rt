@@ -209,11 +209,7 @@ impl Display for Nodes<'_> {
 
     fn fmt<W: fmt::Write>(&self, f: &mut fmt::Formatter<W>) -> fmt::Result {
         for node in self.0 {
-            write!(
-                f,
-                " ({} {} {})",
-                node.node, node.timeout, node.last_heard
-            )?;
+            write!(f, " ({} {} {})", node.node, node.timeout, node.last_heard)?;
         }
         Ok(())
     }

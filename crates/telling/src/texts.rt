@@ -6,9 +6,8 @@ ghost use Rattle.telling.specs.Texts.{flag_text, bytes_text, entry_text};
 use arrayvec::ArrayVec;
 use entries::status_response::ErrorEntry;
 use forms::hex;
-use std::fmt;
 use std::fmt::Display;
-use std::str;
+use std::{fmt, str};
 
 /// A mark: 1, or 0.
 #[derive(Clone, Copy)]

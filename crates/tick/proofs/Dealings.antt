@@ -1,5 +1,5 @@
--- The errors of the SoC check in words: an entry that joins, one error, and the walk. What they make of the head is by the laws on a head by its
--- parts; the words are beside it.
+-- The errors of the SoC check in words: an entry that joins, one error, and the walk. What they
+-- make of the head is by the laws on a head by its parts; the words are beside it.
 -- Assumes nothing.
 use Prim.Native.Nat.{ℕ, ◌%◌, ◌<◌}
 use mathlib.Core.Path.{◌≡◌, refl, sym, ap, ap₂, subst, ◌∙◌}
@@ -217,8 +217,9 @@ module _ (t : ℕ) (ws q m : List ℕ) (e : DllError) (r : Dealt) (ws' q' m' : L
       by true y = goes [] true y
       by false y = goes [] false y
 
--- The walk over the errors es₀, from the words ws₀ and the memory q₀ and m₀: it stands at the words ws and the memory q and m, none of the errors that it
--- passed ended the tick, and the errors es are left. What comes of those comes of all; where none is left, what the last one left does.
+-- The walk over the errors es₀, from the words ws₀ and the memory q₀ and m₀: it stands at the words
+-- ws and the memory q and m, none of the errors that it passed ended the tick, and the errors es
+-- are left. What comes of those comes of all; where none is left, what the last one left does.
 pub record DealingIn (t : ℕ) (ws₀ q₀ m₀ : List ℕ) (es₀ : List DllError) (ws q m : List ℕ) (d : Dealt) (es : List DllError) : Type 0 where
   pub quiet : all_of is_quiet es ≡ true
   pub leads :

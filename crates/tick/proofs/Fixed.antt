@@ -1,5 +1,6 @@
--- The contract fixes the whole answer: of a tick, no two answers meet it, and it leaves one head, one memory and one run of watched nodes. So it is of the
--- tick at which no node asks for anything, whatever time and moment it is given.
+-- The contract fixes the whole answer: of a tick, no two answers meet it, and it leaves one head,
+-- one memory and one run of watched nodes. So it is of the tick at which no node asks for anything,
+-- whatever time and moment it is given.
 -- Assumes nothing.
 use Prim.Native.Nat.{ℕ}
 use mathlib.Core.Path.{◌≡◌, refl, sym, ap, ◌∙◌}

@@ -5,5 +5,4 @@ pub mod Turning
 pub mod Dealings
 pub mod Passings
 pub mod Tickings
-pub mod Links
 pub mod Fixed

@@ -1,4 +1,5 @@
--- The deadline and the SoC check in words. What they make of the head is by the laws on a head by its parts; the words are beside it.
+-- The deadline and the SoC check in words. What they make of the head is by the laws on a head by
+-- its parts; the words are beside it.
 -- Assumes nothing.
 use Prim.Native.Nat.{ℕ, ◌-◌, ◌<◌, ◌≤◌, min}
 use mathlib.Core.Path.{◌≡◌, sym, ap, ap₂, subst, ◌∙◌}

@@ -1,4 +1,5 @@
--- The errors of the SoC check, over plain variables: what an entry, an error and the walk make of a head is what their rule makes of the plain head.
+-- The errors of the SoC check, over plain variables: what an entry, an error and the walk make of a
+-- head is what their rule makes of the plain head.
 -- Assumes nothing.
 use Prim.Native.Nat.{ℕ, ◌+◌, ◌%◌, min}
 use mathlib.Core.Path.{◌≡◌, refl, sym, ap, ap₂, ◌∙◌}
@@ -158,7 +159,8 @@ module _ (h : Head) (q m : List ℕ) (e : DllError) (t : ℕ) (quiet : is_quiet 
         ∙ (λ i. joins (record { queue = d.1.queue i; queue_bytes = q; history = d.1.history i; history_bytes = m }) (crossing_entry e t)))
         a n f k
 
--- a quiet error that brings no action: the walk goes on from the head that it left, and nothing has joined
+-- a quiet error that brings no action: the walk goes on from the head that it left, and nothing has
+-- joined
 module _ (t : ℕ) (p : Plain) (e : DllError) (q : is_quiet e ≡ true) (n : (deal t p e).ended ≡ false) where
   quiet_handled : Quiet (handled p.errors e)
   unfolding deal

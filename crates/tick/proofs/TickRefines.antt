@@ -1,4 +1,5 @@
--- The tick's refinement of the plain tick, over plain variables: its phases together, and its refusals.
+-- The tick's refinement of the plain tick, over plain variables: its phases together, and its
+-- refusals.
 -- Assumes nothing.
 use Prim.Native.Nat.{ℕ}
 use mathlib.Core.Path.{◌≡◌, refl, sym, ap, ap₂, ◌∙◌}
@@ -110,12 +111,13 @@ module _ (h : Head) (q m : List ℕ) (t : ℕ) (ws : List WatchedNode) where
                 ∙ ap (joins_all (rings h q m)) (sym (ap (λ (l : List ErrorEntry). l ++ (rest b₀.head).crossings) (beats_no_entry p late)));
           })
 
--- the tick as a call: numbers 3, 5 and 6, and what is taken, whatever form the run has
+-- the tick as a call: its refusals, and what is taken, whatever form the run has
 module _ (h : Head) (q m : List ℕ) (r : Run) (t : ℕ) where
   abbrev p₀ : Plain
   p₀ = plain h q m
 
-  -- what a tick owes of the plain tick, where it answered a and left the head g, its memory, and the run l
+  -- what a tick owes of the plain tick, where it answered a and left the head g, its memory, and
+  -- the run l
   abbrev pub TickLeft : Answer → Head → List ℕ → List ℕ → Run → Type 0
   TickLeft a g q' m' l =
       Refines h q m (tick t r) (left g a) q' m' l × (rings g q' m' ≡ joins_all (rings h q m) (step p₀ (tick t r)).crossings)

@@ -1,5 +1,5 @@
--- The tick in words: its phases together, its refusals, and its contract. What it makes of the head is by the laws on a head by its parts; the words
--- are beside it.
+-- The tick in words: its phases together, its refusals, and its contract. What it makes of the head
+-- is by the laws on a head by its parts; the words are beside it.
 -- Assumes nothing.
 use Prim.Native.Nat.{ℕ, ◌≤◌}
 use mathlib.Core.Path.{◌≡◌, refl, sym, ap, ap₂, subst, ◌∙◌}
@@ -153,7 +153,7 @@ module _ (ws q m : List ℕ) (t : ℕ) (vs : List WatchedNode) where
     pub still_times : pick C (all_of (not_before t) vs) true ≡ true
     still_times = sym (still_choice (all_of (not_before t) vs) true (λ r. sym (rest_before t vs r)))
 
--- the tick: numbers 3, 5 and 6, and what is taken, whatever form the run has
+-- the tick: its refusals, and what is taken, whatever form the run has
 module _ (ws q m : List ℕ) (r : Run) (t : ℕ) where
   pub run_unformed : well_lent r ≡ false → TickedOn ws q m r t (Err WatchedNodes) ws q m r
   run_unformed a = let x = tick_unformed (head_of ws) q m r t a in record { refines = x.0; rings = x.1; words = refl }
@@ -191,7 +191,7 @@ module _ (ws q m : List ℕ) (r : Run) (t : ℕ) where
           let y = subst (λ (g : Head). TickLeft (head_of ws) q m r t (tick_answer (reported d.logged)) g q' m' l) (sym g) k in
           record { refines = y.0; rings = y.1; words = w ∙ (λ i. earliest_written (h.words i) (e i)) }
 
--- where no node asks for anything: number 5, or what is taken
+-- where no node asks for anything: TimeLimit, or what is taken
 module _ (ws q m : List ℕ) (t : ℕ) (s : Option ℕ) where
   abbrev p₁ : Plain
   p₁ = plain (head_of ws) q m

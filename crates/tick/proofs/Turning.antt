@@ -1,4 +1,5 @@
--- The steps of the tick that make one head of another, in words: a claim about what is written is computed on words written out one by one.
+-- The steps of the tick that make one head of another, in words: a claim about what is written is
+-- computed on words written out one by one.
 -- Assumes nothing.
 use Prim.Native.Nat.{ℕ, ◌+◌, ◌%◌, ◌<◌, ◌≤◌, min}
 use mathlib.Core.Path.{◌≡◌, refl, sym, ap, ap₂, ◌∙◌}

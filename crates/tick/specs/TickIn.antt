@@ -1,4 +1,5 @@
--- What a SocTimeout leaves of a head in words, against the plain tick; and the contract of the tick.
+-- What a SocTimeout leaves of a head in words, against the plain tick; and the contract of the
+-- tick.
 -- Assumes nothing.
 use Rattle.std.specs.Prelude.{ℕ, ◌≡◌, Bool, true, List, [], ◌∷◌}
 use Rattle.types.specs.Pick.{pick, all_of}
@@ -25,6 +26,8 @@ use Rattle.types.specs.declared.refusals.Refusal.{Refusal}
 use Rattle.heartbeats.specs.PartWords.{looked_words}
 use Rattle.tick.specs.TickWords.{loss_words, rest_words, tick_words}
 
+-- a SocTimeout on a head in words: the head and the errors as the plain tick has them, and every
+-- word
 pub record LosesIn (ws : List ℕ) (es : DllErrors) (ws' : List ℕ) : Type 0 where
   pub loses : Loses (head_of ws) (head_of ws') es
   pub words : ws' ≡ loss_words ws
@@ -33,7 +36,8 @@ pub record LosesIn (ws : List ℕ) (es : DllErrors) (ws' : List ℕ) : Type 0 wh
 abbrev pub is_still : Bool → ℕ → List WatchedNode → Bool
 is_still c t vs = pick c (all_of (rests t) vs) true
 
--- number 3; and of nodes that pass it, whether one asks for something, and then whether they pass number 6
+-- none where the nodes are not well formed; of nodes that are, whether one asks for something, and
+-- then whether none was heard after now
 abbrev pub roused_of : Bool → ℕ → List WatchedNode → Option Seen
 roused_of c t vs =
     pick (well_formed vs)
@@ -47,20 +51,24 @@ tick_says es = tick_answer (reported es)
 abbrev pub tick_said : Result DllErrors Refusal → Answer
 tick_said = answered tick_says
 
--- The lists stand one by one, as the contracts that cite it name them: a record would be made in each of those, and taken apart in each proof.
--- Of a tick at t on the words ws, the memory q and m and the run r, which answered a and left ws', q', m' and r': head, answer and run are the plain
--- head's; every byte of both memories with the places of both rings, and every word of the head, is known.
+-- Of a tick at t on the words ws, the memory q and m and the run r, which answered a and left ws',
+-- q', m' and r': head, answer and run are the plain head's; every byte of both memories with the
+-- places of both rings, and every word of the head, is known. The lists stand one by one, as the
+-- contracts that cite it name them: a record would be made in each of those, and taken apart in
+-- each proof.
 pub record TickedOn (ws q m : List ℕ) (r : Run) (t : ℕ) (a : Result DllErrors Refusal) (ws' q' m' : List ℕ) (r' : Run) : Type 0 where
   pub refines : Refines (head_of ws) q m (Call.tick t r) (left (head_of ws') (tick_said a)) q' m' r'
   pub rings : rings (head_of ws') q' m' ≡ joins_all (rings (head_of ws) q m) (step (plain (head_of ws) q m) (Call.tick t r)).crossings
   pub words : ws' ≡ unless_refused a ws (earliest_written (tick_words ws q m t (watching r)) (earliest (watching r')))
 
--- The same of nodes in the words ns, of which the first k are watched; and every word of theirs.
+-- Of a tick on a head and nodes in the words ns, of which the first k are watched: as on their run;
+-- and every word of theirs.
 pub record TickedIn (ws q m ns : List ℕ) (k t : ℕ) (a : Result DllErrors Refusal) (ws' q' m' ns' : List ℕ) : Type 0 where
   pub on : TickedOn ws q m (run (nodes_of ns) k) t a ws' q' m' (run (nodes_of ns') k)
   pub nodes : ns' ≡ unless_refused a ns (pick (checks_heartbeats (nmt_of ws).current_state) (looked_words t k ns) ns)
 
--- The plain tick at t behind its heartbeats, after which s is shown as the earliest moment. Number 5 is its one test.
+-- The plain tick at t behind its heartbeats, after which s is shown as the earliest moment. Its one
+-- test is TimeLimit.
 abbrev pub still_answered : Ticked → Option ℕ → Step
 still_answered k s =
     record {
@@ -77,9 +85,11 @@ abbrev pub still_step : Plain → ℕ → Option ℕ → Step
 still_step p t s =
     tried (must (in_time t) 5 ∷ []) (declines p no_run) (still_answered (by_deadline p t p.soc.next_tick_us) s)
 
--- Of such a tick, at any time t and with any moment s to show: head and answer are the plain head's; every byte of both memories with the places of both
--- rings, and every word of the head, is known. With the moment of a run of which no node asks for anything it is the tick on that run (`still_on` in
--- proofs/Tickings.antt).
+-- Of a tick behind its heartbeats at any time t, with any moment s to show, on the words ws and the
+-- memory q and m, which answered a and left ws', q' and m': head and answer are the plain head's;
+-- every byte of both memories with the places of both rings, and every word of the head, is known.
+-- With the moment of a run of which no node asks for anything it is the tick on that run
+-- (`still_on` in proofs/Tickings.antt).
 pub record StillTicks (ws q m : List ℕ) (t : ℕ) (s : Option ℕ) (a : Result DllErrors Refusal) (ws' q' m' : List ℕ) : Type 0 where
   pub head : plain (head_of ws') q' m' ≡ (still_step (plain (head_of ws) q m) t s).head
   pub answer : tick_said a ≡ (still_step (plain (head_of ws) q m) t s).answer

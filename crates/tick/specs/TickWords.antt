@@ -1,4 +1,5 @@
--- The words of the head after each part of the tick behind the heartbeats, and after the tick: every word, as a function of what came in.
+-- The words of the head after each part of the tick behind the heartbeats, and after the tick:
+-- every word, as a function of what came in.
 -- Assumes nothing.
 use Rattle.std.specs.Prelude.{ℕ, ◌+◌, Bool, List, [], ◌∷◌, leb, ltb, set}
 use Rattle.types.specs.Pick.{pick, both}
@@ -21,20 +22,22 @@ use Rattle.head.specs.Written.{deadline_written, queue_written, history_written}
 use Rattle.node.specs.InPlace.{effect_words}
 use Rattle.heartbeats.specs.PartWords.{signal_words, event_words, finished_words, ends_by, beat_all_words}
 
--- the entry of a crossing joins, with counter 2, or is dropped, with counter 3
+-- counter 2 rises
 abbrev pub count2 : List ℕ → List ℕ
 count2 ws = set ws at.counter2 (one_more (word ws at.counter2))
 
+-- the entry of a crossing joins, with counter 2, or is dropped, with counter 3
 unfoldable pub entry_words : List ℕ → List ℕ
 entry_words ws =
     pick (pushed (queue_of ws)).kept
     (history_written (queue_written (count2 ws) (pushed (queue_of ws)).queue) (joined (history_of ws)))
     (set ws at.counter3 (one_more (word ws at.counter3)))
 
--- an error of the SoC check, with counter 1
+-- an error of the SoC check is counted, and counter 1 rises
 unfoldable pub counted_words : List ℕ → DllError → List ℕ
 counted_words ws e = set (effect_words ws (effect e)) at.counter1 (one_more (word (effect_words ws (effect e)) at.counter1))
 
+-- one error of the SoC check, and its errors in order
 unfoldable pub deal_words : List ℕ → DllError → List ℕ
 deal_words ws e =
     finished_words (ends_by ws e)
@@ -44,14 +47,16 @@ unfoldable pub deal_all_words : List ℕ → List DllError → List ℕ
 deal_all_words ws [] = ws
 deal_all_words ws (e ∷ es) = pick (ends_by ws e) (deal_words ws e) (deal_all_words (deal_words ws e) es)
 
--- the deadlines; what is read of the head is read of it with no memory
+-- what the deadlines read of a head, they read of it with no memory
 abbrev pub unlent : List ℕ → Plain
 unlent ws = plain (head_of ws) [] []
 
+-- the deadline is set anew, or with cycle 0 the check goes off
 unfoldable pub rescheduled_words : List ℕ → ℕ → List ℕ
 rescheduled_words ws t =
     pick (ltb 0 (cycle_of (od_of ws))) (deadline_written ws (At (next_deadline (unlent ws) t))) (set ws at.check 0)
 
+-- the moment at which the limit ends; and the words where the SoC is not lost
 abbrev pub limit_at : List ℕ → ℕ
 limit_at ws = last_soc (unlent ws) + limit_of (od_of ws)
 
@@ -59,10 +64,10 @@ unfoldable pub within_words : List ℕ → ℕ → List ℕ
 within_words ws t =
     pick (both (ltb 0 (cycle_of (od_of ws))) (ltb t (limit_at ws))) (deadline_written ws (At (limit_at ws))) (rescheduled_words ws t)
 
+-- a lost SoC: the DLL state, its errors, and where none ends the tick the next deadline
 unfoldable pub loss_words : List ℕ → List ℕ
 loss_words ws = set ws at.dll (cs_state_number (soc_timeout (unlent ws)).state)
 
--- a lost SoC: its errors, and where none ends the tick the next deadline
 abbrev pub after_loss_words : Bool → List ℕ → ℕ → List ℕ
 after_loss_words ended ws t = pick ended ws (rescheduled_words ws t)
 
@@ -71,17 +76,20 @@ lost_words ws q m t =
     after_loss_words (deal_all t (plain (head_of (loss_words ws)) q m) (soc_timeout (unlent ws)).errors).ended
     (deal_all_words (loss_words ws) (soc_timeout (unlent ws)).errors) t
 
+-- the SoC check
 unfoldable pub check_words : List ℕ → List ℕ → List ℕ → ℕ → List ℕ
 check_words ws q m t =
     pick (soc_of ws).soc_timeout_check_active
     (pick (ltb (limit_of (od_of ws)) (elapsed (unlent ws) t)) (lost_words ws q m t) (within_words ws t)) ws
 
+-- at NotActive: a deadline behind the basic timeout, or the event Timeout
 unfoldable pub basic_words : List ℕ → ℕ → List ℕ
 basic_words ws t = pick (ltb 0 (word ws at.timeout)) (deadline_written ws (At (t + word ws at.timeout))) ws
 
 unfoldable pub timeout_words : List ℕ → List ℕ
 timeout_words ws = pick (ltb 0 (word ws at.timeout)) (event_words ws Timeout) ws
 
+-- a deadline has passed
 unfoldable pub passed_words : List ℕ → List ℕ → List ℕ → ℕ → List ℕ
 passed_words ws q m t = pick (at_not_active (unlent ws)) (timeout_words ws) (check_words ws q m t)
 
@@ -90,10 +98,12 @@ unfoldable pub deadline_words : List ℕ → List ℕ → List ℕ → ℕ → D
 deadline_words ws q m t Nothing = pick (at_not_active (unlent ws)) (basic_words ws t) ws
 deadline_words ws q m t (At d) = pick (leb d t) (passed_words (set ws at.due 0) q m t) ws
 
--- the tick: the heartbeats of the nodes, where they are checked, and what follows where no crossing ended it
+-- what follows behind the heartbeats
 abbrev pub rest_words : List ℕ → List ℕ → List ℕ → ℕ → List ℕ
 rest_words ws q m t = deadline_words ws q m t (soc_of ws).next_tick_us
 
+-- the tick: the heartbeats of the nodes, where they are checked, and what follows where no crossing
+-- ended it
 unfoldable pub tick_words : List ℕ → List ℕ → List ℕ → ℕ → List WatchedNode → List ℕ
 tick_words ws q m t vs =
     pick (checks_heartbeats (nmt_of ws).current_state)

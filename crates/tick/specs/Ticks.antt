@@ -1,4 +1,4 @@
--- What a SocTimeout leaves, against the plain tick.
+-- What a SocTimeout leaves of a head by its parts, against the plain tick.
 -- Assumes nothing.
 use Rattle.std.specs.Prelude.{ℕ, ◌≡◌, List}
 use Rattle.types.specs.Errors.{reported}

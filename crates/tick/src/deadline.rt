@@ -1,11 +1,13 @@
-// The deadlines of the tick: what a passed one leads to, and the next one.
+//! The deadlines of the tick: what a passed one leads to, and the next one (RULES 7.5 to 7.8).
 ghost use Rattle.std.specs.Prelude.{◌≡◌, false, ◌≤◌, ◌<◌};
 ghost use Rattle.node.specs.Steps.{cycle_of};
-ghost use Rattle.node.specs.Tick.{with_deadline, next_deadline, rescheduled, within_limit, lost, soc_check, at_not_active, sets_basic, times_out, by_deadline};
+ghost use Rattle.node.specs.Tick.{with_deadline, next_deadline, rescheduled, within_limit, lost};
+ghost use Rattle.node.specs.Tick.{soc_check, at_not_active, sets_basic, times_out, by_deadline};
 ghost use Rattle.node.specs.Refines.{plain};
 ghost use Rattle.head.specs.Words.{od_of, soc_of, head_of};
 ghost use Rattle.head.specs.Written.{deadline_written};
-ghost use Rattle.tick.specs.TickWords.{unlent, rescheduled_words, within_words, lost_words, check_words, basic_words, timeout_words, deadline_words};
+ghost use Rattle.tick.specs.TickWords.{unlent, rescheduled_words, within_words, lost_words};
+ghost use Rattle.tick.specs.TickWords.{check_words, basic_words, timeout_words, deadline_words};
 ghost use Rattle.heartbeats.specs.PartsIn.{Turns, TicksIn};
 ghost use Rattle.tick.specs.TickIn.{LosesIn};
 
@@ -23,13 +25,15 @@ use types::frame::error::types::DllErrors;
 use types::nmt::states::NmtState;
 use watched::time::Time;
 
+// Sets the deadline.
 fn with_deadline(head: &mut Head, deadline: Deadline)
-    ensures { Turns head.old (λ p. with_deadline p deadline) head.new (deadline_written head.old deadline) }
+    ensures { Turns head.old (λ p. with_deadline p deadline)
+        head.new (deadline_written head.old deadline) }
 {
     set_deadline(head, deadline);
 }
 
-// The end of the cycle that runs now, with the tolerance.
+// The end of the cycle that runs now, with the tolerance (RULES 7.7).
 fn next_deadline(head: &Head, time: Time) -> u64
     requires { 0 < cycle_of (od_of head.now) }
     ensures { result ≡ next_deadline (unlent head.now) time.us }
@@ -41,9 +45,10 @@ fn next_deadline(head: &Head, time: Time) -> u64
     last + (elapsed / cycle_us + 1) * cycle_us + tolerance_us(od)
 }
 
-// The check goes on in the next cycle, or off where there is no cycle.
+// The deadline is set anew at the end of the cycle; with cycle 0 the check goes off.
 fn reschedule(head: &mut Head, time: Time)
-    ensures { Turns head.old (λ p. rescheduled p time.us) head.new (rescheduled_words head.old time.us) }
+    ensures { Turns head.old (λ p. rescheduled p time.us)
+        head.new (rescheduled_words head.old time.us) }
 {
     if 0 < cycle(od_of(head)) {
         with_deadline(head, Deadline::At(next_deadline(head, time)));
@@ -52,9 +57,10 @@ fn reschedule(head: &mut Head, time: Time)
     check_off(head);
 }
 
-// Within the limit: the check stands at the limit, where that is still ahead.
+// Not lost: the deadline is the limit, where that is still ahead; otherwise it is set anew.
 fn within_limit(head: &mut Head, time: Time)
-    ensures { Turns head.old (λ p. within_limit p time.us) head.new (within_words head.old time.us) }
+    ensures { Turns head.old (λ p. within_limit p time.us)
+        head.new (within_words head.old time.us) }
 {
     let od = od_of(head);
     let at = last_soc(soc_of(head)) + limit(od);
@@ -65,7 +71,7 @@ fn within_limit(head: &mut Head, time: Time)
     reschedule(head, time);
 }
 
-// The errors that a SocTimeout reports.
+// A lost SoC is the DLL event SocTimeout, with a PReq expected: the errors that it reports.
 fn soc_timeout(head: &mut Head) -> DllErrors
     ensures { LosesIn head.old result head.new }
 {
@@ -74,9 +80,12 @@ fn soc_timeout(head: &mut Head) -> DllErrors
     answer.errors
 }
 
-// The errors of a lost SoC; where none brings an action, the check goes on.
+// The errors of a lost SoC are dealt with; where none brings an action, the deadline is set anew.
 fn lose(head: &mut Head, queue: &mut [u8; 640], history: &mut [u8; 5080], time: Time) -> Dealt
-    ensures { TicksIn head.old queue.old history.old (lost (plain (head_of head.old) queue.old history.old) time.us) result head.new queue.new history.new (lost_words head.old queue.old history.old time.us) }
+    ensures { TicksIn head.old queue.old history.old
+        (lost (plain (head_of head.old) queue.old history.old) time.us)
+        result head.new queue.new history.new
+        (lost_words head.old queue.old history.old time.us) }
 {
     let errors = soc_timeout(head);
     let dealt = deal_all(head, queue, history, errors, time.us);
@@ -87,8 +96,12 @@ fn lose(head: &mut Head, queue: &mut [u8; 640], history: &mut [u8; 5080], time: 
     dealt
 }
 
+// The SoC check, where it is on.
 fn soc_check(head: &mut Head, queue: &mut [u8; 640], history: &mut [u8; 5080], time: Time) -> Dealt
-    ensures { TicksIn head.old queue.old history.old (soc_check (plain (head_of head.old) queue.old history.old) time.us) result head.new queue.new history.new (check_words head.old queue.old history.old time.us) }
+    ensures { TicksIn head.old queue.old history.old
+        (soc_check (plain (head_of head.old) queue.old history.old) time.us)
+        result head.new queue.new history.new
+        (check_words head.old queue.old history.old time.us) }
 {
     if check_of(head) {
         if is_loss(head, time) {
@@ -99,12 +112,14 @@ fn soc_check(head: &mut Head, queue: &mut [u8; 640], history: &mut [u8; 5080], t
     Dealt::GOES_ON
 }
 
-fn at_not_active(head: &Head) -> bool
+/// Whether the head is at NotActive.
+pub fn at_not_active(head: &Head) -> bool
     ensures { result ≡ at_not_active (unlent head.now) }
 {
     state_at(head) == NmtState::NmtNotActive
 }
 
+// At NotActive without a deadline, one is set behind the basic timeout, where that is above 0.
 fn set_basic(head: &mut Head, time: Time)
     ensures { Turns head.old (λ p. sets_basic p time.us) head.new (basic_words head.old time.us) }
 {
@@ -114,6 +129,7 @@ fn set_basic(head: &mut Head, time: Time)
     }
 }
 
+// At NotActive a passed deadline gives the event Timeout, where the basic timeout is above 0.
 fn time_out(head: &mut Head)
     ensures { Turns head.old times_out head.new (timeout_words head.old) }
 {
@@ -122,14 +138,19 @@ fn time_out(head: &mut Head)
     }
 }
 
-// What stands after the heartbeats: a deadline is opened before it is compared with now.
+/// What a tick does behind the heartbeats (RULES 7.5). The deadline is opened before it is compared
+/// with now.
 pub fn by_deadline(
     head: &mut Head,
     queue: &mut [u8; 640],
     history: &mut [u8; 5080],
     time: Time,
 ) -> Dealt
-    ensures { TicksIn head.old queue.old history.old (by_deadline (plain (head_of head.old) queue.old history.old) time.us (soc_of head.old).next_tick_us) result head.new queue.new history.new (deadline_words head.old queue.old history.old time.us (soc_of head.old).next_tick_us) }
+    ensures { let deadline = (soc_of head.old).next_tick_us in
+        TicksIn head.old queue.old history.old
+        (by_deadline (plain (head_of head.old) queue.old history.old) time.us deadline)
+        result head.new queue.new history.new
+        (deadline_words head.old queue.old history.old time.us deadline) }
 {
     let Deadline::At(at) = deadline_at(head) else {
         if at_not_active(head) {

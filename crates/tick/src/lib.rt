@@ -1,4 +1,5 @@
-// The tick (node/cn/tick.rs): the heartbeats (crate `heartbeats`), the deadline, the SoC check and its errors.
+//! The tick (RULES 7): the heartbeats (crate `heartbeats`), the deadline, the SoC check and its
+//! errors.
 #![tactic(auto)]
 
 pub mod deadline;

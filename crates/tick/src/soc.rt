@@ -1,4 +1,4 @@
-// The errors of the SoC check.
+//! The errors of the SoC check (RULES 7.8).
 ghost use Rattle.std.specs.Prelude.{◌≡◌, true};
 ghost use Rattle.types.specs.Pick.{all_of};
 ghost use Rattle.types.specs.Errors.{reported};
@@ -25,8 +25,10 @@ fn queue_entry(
     error: DllError,
     time: u64,
 )
-    ensures { (plain (head_of head.new) queue.new history.new ≡ queued (plain (head_of head.old) queue.old history.old) (crossing_entry error time))
-        × (rings (head_of head.new) queue.new history.new ≡ joins (rings (head_of head.old) queue.old history.old) (crossing_entry error time))
+    ensures { (plain (head_of head.new) queue.new history.new ≡
+        queued (plain (head_of head.old) queue.old history.old) (crossing_entry error time))
+        × (rings (head_of head.new) queue.new history.new ≡
+        joins (rings (head_of head.old) queue.old history.old) (crossing_entry error time))
         × (head.new ≡ entry_words head.old) }
 {
     let entry = ErrorEntry::of_crossing(error, time);
@@ -51,7 +53,9 @@ fn deal(
     time: u64,
 ) -> Dealt
     requires { is_quiet error ≡ true }
-    ensures { TicksIn head.old queue.old history.old (deal time (plain (head_of head.old) queue.old history.old) error) result head.new queue.new history.new (deal_words head.old error) }
+    ensures { TicksIn head.old queue.old history.old
+        (deal time (plain (head_of head.old) queue.old history.old) error)
+        result head.new queue.new history.new (deal_words head.old error) }
 {
     let answer = handled(head, error);
     increment_counter(head, Statistic::Counter1);
@@ -62,7 +66,8 @@ fn deal(
     finish(head, answer.logged, acts(answer.action))
 }
 
-// The errors of the SoC check in their order: the first whose handling brings an action ends the walk.
+/// Deals with the errors of the SoC check in their order, at a time in µs: the first whose handling
+/// brings an action ends the tick.
 pub(crate) fn deal_all(
     head: &mut Head,
     queue: &mut [u8; 640],
@@ -71,7 +76,9 @@ pub(crate) fn deal_all(
     time: u64,
 ) -> Dealt
     requires { all_of is_quiet (reported errors) ≡ true }
-    ensures { TicksIn head.old queue.old history.old (deal_all time (plain (head_of head.old) queue.old history.old) (reported errors)) result head.new queue.new history.new (deal_all_words head.old (reported errors)) }
+    ensures { TicksIn head.old queue.old history.old
+        (deal_all time (plain (head_of head.old) queue.old history.old) (reported errors))
+        result head.new queue.new history.new (deal_all_words head.old (reported errors)) }
 {
     let mut dealt = Dealt::GOES_ON;
     'walk: for error in errors {

@@ -1,6 +1,7 @@
-// The tick (node/cn/tick.rs), after its SDO step: the heartbeats, then what a passed deadline leads to.
-// Head, queue and history are lent one by one: of an array behind a struct's reference the check knows no length, and each method of a struct of the three
-// would state beside its promise that the references stay the same.
+//! The tick (RULES 7): the heartbeats, then what a passed deadline leads to. Head, queue and
+//! history are lent one by one: of an array behind a struct's reference the check knows no length,
+//! and each method of a struct of the three would state beside its promise that the references stay
+//! the same.
 ghost use Rattle.std.specs.Prelude.{◌≡◌, true};
 ghost use Rattle.types.specs.Pick.{all_of};
 ghost use Rattle.watched.specs.Watched.{well_formed, watched_of};
@@ -23,14 +24,16 @@ use types::refusals::Refusal;
 use watched::nodes::{Formed, NodeWords, Seen, look, try_nodes};
 use watched::time::Time;
 
-// PreOperational2 and the states above it by their numbers, so not CsStopped.
+/// Whether heartbeats are checked in a state: in PreOperational2 and those with a higher number, so
+/// not in CsStopped (RULES 7.2).
 pub fn checks_heartbeats(state: NmtState) -> bool
     ensures { result ≡ checks_heartbeats state }
 {
     NmtState::NmtPreOperational2.as_u8() <= state.as_u8()
 }
 
-// Number 3, and whether some node asks for something: where heartbeats are not checked, none does.
+// Whether the nodes are well formed, and whether some node asks for something: where heartbeats are
+// not checked, none does.
 fn roused(checks: bool, nodes: &NodeWords, count: usize, time: u64) -> Option<Seen>
     ensures { result ≡ roused_of checks time (watched_of (nodes_of nodes.now) count) }
 {
@@ -49,7 +52,11 @@ fn phases(
     time: Time,
 ) -> Dealt
     requires { checks_heartbeats (nmt_of head.old).current_state ≡ true }
-    ensures { TicksIn head.old queue.old history.old (tick_taken (plain (head_of head.old) queue.old history.old) time.us (watched_of (nodes_of formed.entry.nodes.now) formed.entry.count)) result head.new queue.new history.new (tick_words head.old queue.old history.old time.us (watched_of (nodes_of formed.entry.nodes.now) formed.entry.count)) }
+    ensures { let nodes = watched_of (nodes_of formed.entry.nodes.now) formed.entry.count in
+        TicksIn head.old queue.old history.old
+        (tick_taken (plain (head_of head.old) queue.old history.old) time.us nodes)
+        result head.new queue.new history.new
+        (tick_words head.old queue.old history.old time.us nodes) }
 {
     let beats = beat_all(head, formed, time.us);
     if beats.ended {
@@ -58,7 +65,8 @@ fn phases(
     by_deadline(head, queue, history, time)
 }
 
-// A tick at which some node asks for something; `heard` is whether all were heard by now. Nothing is written before the last test is passed.
+// A tick at which some node asks for something; `heard` is whether all were heard by now. Nothing
+// is written before the last test is passed.
 fn tick_roused(
     head: &mut Head,
     queue: &mut [u8; 640],
@@ -71,7 +79,8 @@ fn tick_roused(
     requires { (well_formed (watched_of (nodes_of nodes.old) count) ≡ true)
         × (checks_heartbeats (nmt_of head.old).current_state ≡ true)
         × (heard ≡ all_of (not_before time) (watched_of (nodes_of nodes.old) count)) }
-    ensures { TickedIn head.old queue.old history.old nodes.old count time result head.new queue.new history.new nodes.new }
+    ensures { TickedIn head.old queue.old history.old nodes.old count time
+        result head.new queue.new history.new nodes.new }
 {
     let time = Time::try_from(time)?;
     if !heard {
@@ -83,8 +92,10 @@ fn tick_roused(
     Ok(dealt.logged)
 }
 
-// A tick at which no node asks for anything: the nodes stay as they are, in whatever form, and `late` is the soonest moment at which one would be late.
-// The deadline follows at any time that passes number 5, and `late` is shown from then on, whatever moment it is.
+/// A tick, at a time in µs, at which no node asks for anything: the nodes stay as they are, in
+/// whatever form they are lent. `late` is the soonest moment, in µs, at which one would be late; it
+/// is the head's earliest moment from then on, whatever it is. Answers what is logged. Refused by
+/// TimeLimit where the time is above 2^62 - 1; then nothing changes.
 pub fn tick_still(
     head: &mut Head,
     queue: &mut [u8; 640],
@@ -92,7 +103,8 @@ pub fn tick_still(
     time: u64,
     late: Option<u64>,
 ) -> Result<DllErrors, Refusal>
-    ensures { StillTicks head.old queue.old history.old time late result head.new queue.new history.new }
+    ensures { StillTicks head.old queue.old history.old time late
+        result head.new queue.new history.new }
 {
     let time = Time::try_from(time)?;
     let dealt = by_deadline(head, queue, history, time);
@@ -100,7 +112,11 @@ pub fn tick_still(
     Ok(dealt.logged)
 }
 
-// A tick at a time in microseconds, on a head with its memory and the watched nodes.
+/// A tick at a time in µs, on a head, the bytes of its queue and of its history, and nodes in
+/// words, of which the first `count` are watched: the heartbeats, the deadline and the SoC check,
+/// and the earliest moment anew (RULES 7). Answers what is logged. Refused, in this order:
+/// WatchedNodes, TimeLimit where the time is above 2^62 - 1, BeforeHeard where heartbeats are
+/// checked; then nothing changes.
 pub fn process_tick(
     head: &mut Head,
     queue: &mut [u8; 640],
@@ -109,7 +125,8 @@ pub fn process_tick(
     count: usize,
     time: u64,
 ) -> Result<DllErrors, Refusal>
-    ensures { TickedIn head.old queue.old history.old nodes.old count time result head.new queue.new history.new nodes.new }
+    ensures { TickedIn head.old queue.old history.old nodes.old count time
+        result head.new queue.new history.new nodes.new }
 {
     let seen = roused(checks_heartbeats(state_at(head)), nodes, count, time);
     match seen.ok_or(Refusal::WatchedNodes)? {

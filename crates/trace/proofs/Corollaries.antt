@@ -1,13 +1,16 @@
--- What a reader expects besides: the claim after each of the calls, the earliest moment after those that work it out, and the last SoC time of a head.
+-- What a reader expects besides: the claim after each of the calls, the earliest moment after those
+-- that work it out, and the last SoC time of a head (RULES 10.8).
 -- Assumes nothing.
 use Prim.Native.Nat.{ℕ, ◌≤◌}
-use mathlib.Core.Path.{◌≡◌, refl, sym, ap, subst, ◌∙◌}
-use mathlib.Core.Bool.{Bool, true, false, not}
+use mathlib.Core.Path.{◌≡◌, refl, sym, ap, ap₂, subst, ◌∙◌}
+use mathlib.Core.Bool.{Bool, true, false, not, true≢false}
 use mathlib.Core.List.{List, [], ◌∷◌, ◌++◌}
 use native.Mathlib.Omega.{arith}
+use lib.ListN.{length}
 use lib.Dec.{ltb, lit≤}
 use borrow.Author.Tests.{leb-true}
 use Rattle.types.specs.Pick.{pick}
+use Rattle.types.proofs.Cases.{first_same, rest_same}
 use Rattle.types.specs.Events.{read_event}
 use Rattle.types.specs.CsEvents.{read_cs_event}
 use Rattle.types.specs.Errors.{read_error}
@@ -25,97 +28,120 @@ use Rattle.nmt.specs.Nmt.{processed}
 use Rattle.head.specs.declared.state.SocWatch.{SocWatch}
 use Rattle.head.specs.Words.{head_of}
 use Rattle.watched.specs.Watched.{latest, in_time, heard_at, Run, watching, changing}
-use Rattle.node.specs.Plain.{Plain, Call, nmt_event, dll_event, error, cycle_complete, withdraw, heard, hand_out, load, arm, tick, range, margin, add, remove, Start, taken, range_answer, margin_answer, Step}
+use Rattle.node.specs.Plain.{Plain, Call, nmt_event, dll_event, error, cycle_complete, withdraw, heard, hand_out, load, arm, tick, range, margin, add, remove, next_due, Start, taken, range_answer, margin_answer, due_answer, Step}
 use Rattle.node.specs.Steps.{no_run, forgets, answers, declines, with_nmt, with_soc, nmt_step, dll_step, error_step, withdrawn, heard_tests, add_tests, remove_tests, added, removed, armed, cycle_of, earliest, fresh, started}
 use Rattle.node.specs.Tick.{tick_tests, tick_taken, tick_answered, looked_at, last_soc}
 use Rattle.node.specs.Range.{range_tests, margin_tests, verdict_of, margin_of}
-use Rattle.node.specs.Run.{step, step_all, Said, said_all}
-use Rattle.trace.specs.Earliest.{works_out, accepted, last_left}
+use Rattle.node.specs.Due.{due, due_tests}
+use Rattle.node.specs.Run.{step, step_all, Said}
+use Rattle.trace.specs.Earliest.{works_out, accepted, last_left, run_after}
 use Rattle.trace.specs.Claim.{Claim}
-use Rattle.trace.specs.Driven.{says, Began, Driven, stop, next}
+use Rattle.start.specs.declared.start.Setup.{Setup}
+use Rattle.start.specs.Started.{start_of, StartedOn}
+use Rattle.calling.specs.declared.Call as made
+use Rattle.calling.specs.Held.{Held, held}
+use Rattle.calling.specs.Values.{Reply, call_of, said}
+use Rattle.calling.specs.Table.{Lends, no_nodes, nodes, read, row_of, if_lent, renews}
+use Rattle.calling.specs.Made.{by_lent, Made}
+use Rattle.trace.specs.Driven.{Driven, stop, call, lend, calls_of, says, said_by}
 use Rattle.trace.proofs.Ticking.{picked, tick_part}
-use Rattle.trace.proofs.Shares.{tried_by_lem, Leaves, stays, goes, run_call}
+use Rattle.node.proofs.Refining.{tried_by_lem}
+use Rattle.trace.proofs.Shares.{Leaves, stays, goes, run_call}
 use Rattle.trace.proofs.Earliest.{ends_with}
 use Rattle.trace.proofs.Follows.{begins_unheard}
-use Rattle.trace.proofs.Driven.{begins, demand_3, start_lent}
+use Rattle.trace.proofs.Driven.{joined, calls_joined, claim_holds}
 
--- AFTER EACH. Of the calls cs and then ds, which were driven, said ss and left ws', q' and m': what cs said and left; from there on ds was driven, to the same
--- end, and what both said is ss.
-pub record Stopped (ws q m : List ℕ) (cs ds : List Call) (ss : List Said) (ws' q' m' : List ℕ) : Type 0 where
-  pub said : List Said
-  pub words : List ℕ
-  pub queue : List ℕ
-  pub history : List ℕ
-  pub driven : Driven ws q m cs said words queue history
-  pub later : List Said
-  pub on : Driven words queue history ds later ws' q' m'
-  pub all : ss ≡ said ++ later
+-- AFTER EACH. Of a list whose calls are cs and then ds: the list of cs alone and where it ends, the
+-- list of ds from there, to the same end, and what both said is what was said.
+pub record Stopped {x x' : Held} (d : Driven x x') (cs ds : List Call) : Type 0 where
+  pub at : Held
+  pub before : Driven x at
+  pub on : Driven at x'
+  pub first : calls_of before ≡ cs
+  pub later : calls_of on ≡ ds
+  pub all : said_by d ≡ said_by before ++ said_by on
+
+stopped : {x x' : Held} (d : Driven x x') (cs ds : List Call) → calls_of d ≡ cs ++ ds → Stopped d cs ds
+stopped {x} d [] ds e = record { at = x; before = stop; on = d; first = refl; later = e; all = refl }
+stopped stop (c ∷ cs) ds e = absurd (let n = ap length e in let f : ⊥ = omega (arith, n) in f)
+stopped (call {x} {x₁ = x₁} {c = b} {o = o} t d) (c ∷ cs) ds e =
+    let k = stopped d cs ds (rest_same e) in
+    record {
+      at = k.at;
+      before = call t k.before;
+      on = k.on;
+      first = ap₂ (λ (c : Call) (cs : List Call). c ∷ cs) (first_same e) k.first;
+      later = k.later;
+      all = ap (λ (l : List Said). says (said o) (by_lent x b no_run x₁.lent) ∷ l) k.all;
+    }
+stopped (lend e d) (c ∷ cs) ds f =
+    let k = stopped d (c ∷ cs) ds f in
+    record { at = k.at; before = lend e k.before; on = k.on; first = k.first; later = k.later; all = k.all }
 
 -- and the claim of cs there
-pub record Until (s : Start) (ws q m : List ℕ) (cs ds : List Call) (ss : List Said) (ws' q' m' : List ℕ) : Type 0 where
-  pub after : Stopped ws q m cs ds ss ws' q' m'
-  pub claim : Claim s cs after.said (head_of after.words) after.queue after.history
+pub record Until (s : Start) {x x' : Held} (d : Driven x x') (cs ds : List Call) : Type 0 where
+  pub after : Stopped d cs ds
+  pub claim :
+      Claim s cs (said_by after.before) (head_of after.at.head) after.at.queue after.at.history
 
-stopped : {ws q m ws' q' m' : List ℕ} {ss : List Said} (cs ds : List Call) → Driven ws q m (cs ++ ds) ss ws' q' m' → Stopped ws q m cs ds ss ws' q' m'
-stopped {ws = ws} {q = q} {m = m} {ss = ss} [] ds d =
-    record { said = []; words = ws; queue = q; history = m; driven = stop; later = ss; on = d; all = refl }
-stopped (c ∷ cs) ds (next {s = s} r d) =
-    let k = stopped cs ds d in
+pub claim_holds_after_each :
+    {s : Setup} {x' : Held} {l r : Run} {ws₀ ws q m : List ℕ} (cs ds : List Call) →
+    StartedOn ws₀ l s (Ok tt) ws r →
+    (d : Driven (held ws q m r) x') →
+    calls_of d ≡ cs ++ ds →
+    Until (start_of s l) d cs ds
+claim_holds_after_each {s} {l = l} cs ds b d e =
+    let k = stopped d cs ds e in
     record {
-      said = s ∷ k.said;
-      words = k.words;
-      queue = k.queue;
-      history = k.history;
-      driven = next r k.driven;
-      later = k.later;
-      on = k.on;
-      all = ap (λ (l : List Said). s ∷ l) k.all;
+      after = k;
+      claim =
+          subst
+          (λ (cs : List Call). Claim (start_of s l) cs (said_by k.before) (head_of k.at.head) k.at.queue k.at.history)
+          k.first (claim_holds b k.before);
     }
 
-pub demand_3_after_each :
-    {s : Start} {l : Run} {ws₀ ws q₀ m₀ q m : List ℕ} {ss : List Said} (cs ds : List Call) →
-    Began s (Ok tt) l ws₀ →
-    Driven ws₀ q₀ m₀ (cs ++ ds) ss ws q m →
-    Until s ws₀ q₀ m₀ cs ds ss ws q m
-demand_3_after_each cs ds b d = let k = stopped cs ds d in record { after = k; claim = demand_3 b k.driven }
-
--- THE EARLIEST MOMENT, "after each accepted start, tick, heard, add or removal, equals the value worked out afresh from the run": start's is none
-pub start_afresh : {s : Start} {l : Run} {ws : List ℕ} → Began s (Ok tt) l ws → ((head_of ws).earliest ≡ earliest (watching l)) × ((head_of ws).earliest ≡ None)
+-- THE EARLIEST MOMENT (RULES 10.6), behind a start that was taken: worked out from the run that it
+-- left, it is none
+pub start_afresh :
+    {s : Setup} {l r : Run} {ws₀ ws : List ℕ} → StartedOn ws₀ l s (Ok tt) ws r → ((head_of ws).earliest ≡ earliest (watching r)) × ((head_of ws).earliest ≡ None)
 unfolding last_left
-start_afresh {s = s} {ws = ws} b =
-    let moment : (head_of ws).earliest ≡ earliest (watching (started s).lent) = (demand_3 b (stop {q = []} {m = []})).moment in (
-      moment ∙ ap (λ (r : Run). earliest (watching r)) (sym (start_lent b)),
-      moment ∙ begins_unheard s _ ((begins b).begun [] []),
+start_afresh {s} {l} {r} {ws = ws} b =
+    let moment : (head_of ws).earliest ≡ earliest (watching (started (start_of s l)).lent) = (claim_holds b (stop {x = held ws [] [] r})).moment in (
+      moment ∙ ap (λ (r : Run). earliest (watching r)) (sym b.begins.lent),
+      moment ∙ begins_unheard (start_of s l) _ (b.begins.begun [] []),
     )
 
-abbrev last_of : Said → List Said → Said
-last_of z [] = z
-last_of z (s ∷ ss) = last_of s ss
+-- a call that works it out is lent the run
+renews_lent : (l : Lends) (y z : Run) → renews l ≡ true → if_lent l y z ≡ z
+renews_lent no_nodes y z h = absurd (true≢false (sym h))
+renews_lent (nodes r) y z h = refl
+renews_lent (read r) y z h = absurd (true≢false (sym h))
 
-last_of_lem : (d z : Said) (ss : List Said) → last_of d (ss ++ (z ∷ [])) ≡ z
-last_of_lem d z [] = refl
-last_of_lem d z (s ∷ ss) = last_of_lem s z ss
-
-last_said : (d : Said) (p : Plain) (cs : List Call) (c : Call) → last_of d (said_all p (cs ++ (c ∷ []))) ≡ says (step (step_all p cs) c).answer (step (step_all p cs) c).lent
-unfolding said_all step_all
-last_said d p [] c = refl
-last_said d p (x ∷ cs) c = last_said (says (step p x).answer (step p x).lent) (step p x).head cs c
-
--- a list that ends with one of the others: what it said last is the run that it left
+-- a list that ends with one of the others: by the run that it left
 pub ends_afresh :
-    {s : Start} {l : Run} {ws₀ ws q₀ m₀ q m : List ℕ} (cs : List Call) (c : Call) (ss : List Said) (z : Said) →
-    Began s (Ok tt) l ws₀ →
-    Driven ws₀ q₀ m₀ (cs ++ (c ∷ [])) (ss ++ (z ∷ [])) ws q m →
-    works_out c ≡ true →
-    accepted z.answer ≡ true →
-    (head_of ws).earliest ≡ earliest (watching z.lent)
-ends_afresh {s = s} cs c ss z b d w a =
-    let k = demand_3 b d in
-    let last : z ≡ says (step (step_all (fresh s) cs) c).answer (step (step_all (fresh s) cs) c).lent =
-    sym (last_of_lem z z ss) ∙ ap (last_of z) k.answered ∙ last_said z (fresh s) cs c in
-    k.moment
+    {s : Setup} {x₁ x' : Held} {l r : Run} {ws₀ ws q m : List ℕ} {c : made.Call} {o : Reply} →
+    StartedOn ws₀ l s (Ok tt) ws r →
+    (d : Driven (held ws q m r) x₁) →
+    Made x₁ c o x' →
+    works_out (call_of c x₁.lent) ≡ true →
+    accepted (said o) ≡ true →
+    (head_of x'.head).earliest ≡ earliest (watching x'.lent)
+ends_afresh {s} {x₁} {x'} {l} {c = c} {o = o} b d t w a =
+    (claim_holds b (joined d (call t stop))).moment
     ∙ ap (λ (r : Run). earliest (watching r))
-    (ends_with (fresh s) cs c (started s).lent w (ap (λ (x : Said). accepted x.answer) (sym last) ∙ a) ∙ sym (ap (λ (x : Said). x.lent) last))
+    (ap (λ (cs : List Call). run_after (start_of s l) cs) (calls_joined d (call t stop))
+    ∙ ends_with p₀ (calls_of d) e (started (start_of s l)).lent w (ap accepted (ap (λ (p : Plain). (step p e).answer) (sym k.alike) ∙ sym t.refines.answer) ∙ a)
+    ∙ ap (λ (p : Plain). (step p e).lent) (sym k.alike)
+    ∙ sym (t.lent ∙ renews_lent (row_of e).lends _ _ w))
+  where
+    p₀ : Plain
+    p₀ = fresh (start_of s l)
+
+    e : Call
+    e = call_of c x₁.lent
+
+    k : Claim (start_of s l) (calls_of d) (said_by d) (head_of x₁.head) x₁.queue x₁.history
+    k = claim_holds b d
 
 -- the last SoC time: an arm that is taken has a time up to the latest, and no other call sets it
 abbrev last : Plain → ℕ
@@ -175,6 +201,7 @@ module _ (p : Plain) (h : last p ≤ latest) where
   timed (margin t) = tried_by_lem Timed (margin_tests t) (declines p no_run) (answers p (margin_answer (margin_of p t)) no_run) (λ r. h) h
   timed (add n o r) = run_timed (run_call p (add_tests n o r) r (added n o r))
   timed (remove n r) = run_timed (run_call p (remove_tests n r) r (removed n r))
+  timed (next_due r) = tried_by_lem Timed (due_tests r) (declines p r) (answers p (due_answer (due p (watching r))) r) (λ n. h) h
 
 timed_all : (p : Plain) (cs : List Call) → last p ≤ latest → last (step_all p cs) ≤ latest
 unfolding step_all
@@ -191,8 +218,8 @@ last_soc_as_it_is s cs = let h = last_soc_in_time s cs in omega arith
 
 -- nor is it later in the real head
 pub real_last_soc_in_time :
-    {s : Start} {l : Run} {ws₀ ws q₀ m₀ q m : List ℕ} {cs : List Call} {ss : List Said} →
-    Began s (Ok tt) l ws₀ →
-    Driven ws₀ q₀ m₀ cs ss ws q m →
-    (head_of ws).soc.last_soc_reception_time_us ≤ latest
-real_last_soc_in_time {s = s} {cs = cs} b d = subst (λ (p : Plain). last p ≤ latest) (sym (demand_3 b d).alike) (last_soc_in_time s cs)
+    {s : Setup} {x' : Held} {l r : Run} {ws₀ ws q m : List ℕ} →
+    StartedOn ws₀ l s (Ok tt) ws r →
+    Driven (held ws q m r) x' →
+    (head_of x'.head).soc.last_soc_reception_time_us ≤ latest
+real_last_soc_in_time {s = s} {l = l} b d = subst (λ (p : Plain). last p ≤ latest) (sym (claim_holds b d).alike) (last_soc_in_time (start_of s l) (calls_of d))

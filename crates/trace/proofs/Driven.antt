@@ -1,98 +1,74 @@
--- DEMAND 3. What holds after any list of calls of the real functions, from their contracts in src/ alone (specs/Driven.antt).
+-- THE CLAIM HOLDS of any list of calls behind a start, from the contracts of the two alone.
 -- Assumes nothing.
 use Prim.Native.Nat.{ℕ}
-use mathlib.Core.Path.{◌≡◌, ◌∙◌}
-use mathlib.Core.List.{List, [], ◌∷◌, ◌++◌}
-use Rattle.types.specs.Refusals.{refusal_number}
-use Rattle.types.specs.declared.refusals.Refusal.{Refusal}
+use mathlib.Core.Path.{◌≡◌, refl, sym, ap, ap₂, ◌∙◌}
+use mathlib.Core.List.{List, ◌∷◌, ◌++◌}
+use Rattle.std.specs.declared.result.Result.TheVariants.{Ok}
 use Rattle.head.specs.Words.{head_of}
 use Rattle.watched.specs.Watched.{Run}
-use Rattle.std.specs.declared.result.Result.{Result}
-use Rattle.std.specs.declared.result.Result.TheVariants.{Ok, Err}
-use Rattle.node.specs.Plain.{Call, Start, declined}
-use Rattle.node.specs.Steps.{started}
-use Rattle.node.specs.Run.{Said}
-use Rattle.node.specs.Refines.{Refines, left}
+use Rattle.node.specs.Plain as plain
+use Rattle.node.specs.Run.{step_all, Said, said_all}
 use Rattle.start.specs.declared.start.Setup.{Setup}
-use Rattle.start.specs.Started.{Begins, StartedOn}
-use Rattle.start.proofs.start.start.Reads as start-reads
-use Rattle.start.proofs.Links.{start_leaves}
+use Rattle.start.specs.Started.{start_of, StartedOn}
+use Rattle.calling.specs.declared.play.Action.{Action}
+use Rattle.calling.specs.declared.play.Action.TheVariants as action
+use Rattle.calling.specs.Held.{Held, held, plain_at, relent}
+use Rattle.calling.specs.Values.{Reply, call_of}
+use Rattle.calling.specs.Played as played
+use Rattle.calling.specs.Played.{Played, StartedThen}
 use Rattle.trace.specs.Claim.{Claim}
-use Rattle.trace.specs.Driven.{Made, Began, Driven, stop, next}
-use Rattle.trace.proofs.Follows.{Follows, finished, declined_lent, followed}
+use Rattle.trace.specs.Driven.{Driven, stop, call, lend, calls_of, says, said_by}
+use Rattle.trace.proofs.Follows.{followed}
 
--- what a contract in src/ ensures is `Refines`
-pub refines :
-    {ws q m ns ws' q' m' ns' : List ℕ} {k k' : ℕ} {c : Call} {s : Said} →
-    Made ws q m ns k c s ws' q' m' ns' k' →
-    Refines (head_of ws) q m c (left (head_of ws') s.answer) q' m' s.lent
-refines {q = q} {m = m} (Made.nmt_event n o e) = e.refines q m
-refines {q = q} {m = m} (Made.dll_event n b o e) = e.refines q m
-refines {q = q} {m = m} (Made.error n a b o e) = e.refines q m
-refines {q = q} {m = m} (Made.cycle_complete o e) = e.refines q m
-refines {q = q} {m = m} (Made.withdraw o e) = e.refines q m
-refines {q = q} {m = m} (Made.heard n t o e) = e.on.refines q m
-refines {q = q} {m = m} (Made.heard_run r n t o r' e) = e.refines q m
-refines {m = m} (Made.hand_out o e) = e.0 m
-refines {q = q} (Made.load u es e) = e.refines q
-refines {q = q} {m = m} (Made.arm t o e) = e.refines q m
-refines (Made.tick t o e) = e.on.refines
-refines (Made.tick_run r t o r' e) = e.refines
-refines {q = q} {m = m} (Made.range a b o e) = e.refines q m
-refines {q = q} {m = m} (Made.margin t o e) = e.refines q m
-refines {q = q} {m = m} (Made.add n t o e) = e.on.refines q m
-refines {q = q} {m = m} (Made.add_run r n t o r' e) = e.refines q m
-refines {q = q} {m = m} (Made.remove n o e) = e.on.refines q m
-refines {q = q} {m = m} (Made.remove_run r n o r' e) = e.refines q m
+-- what the plain head does at these calls
+pub runs : {x x' : Held} (d : Driven x x') → plain_at x' ≡ step_all (plain_at x) (calls_of d)
+unfolding step_all
+runs stop = refl
+runs (call t d) = runs d ∙ ap (λ (p : plain.Plain). step_all p (calls_of d)) t.refines.head
+runs (lend e d) = runs d ∙ ap (λ (z : Held). step_all (plain_at z) (calls_of d)) e
 
-pub follows :
-    {ws ws' q m q' m' : List ℕ} {cs : List Call} {ss : List Said} →
-    Driven ws q m cs ss ws' q' m' →
-    Follows (head_of ws) q m cs ss (head_of ws') q' m'
-follows stop = finished
-follows (next r d) = Follows.next (refines r) (follows d)
+pub says_all : {x x' : Held} (d : Driven x x') → said_by d ≡ said_all (plain_at x) (calls_of d)
+unfolding said_all
+says_all stop = refl
+says_all (call t d) =
+    ap₂ (λ (s : Said) (l : List Said). s ∷ l) (ap₂ says t.refines.answer t.refines.lent)
+    (says_all d ∙ ap (λ (p : plain.Plain). said_all p (calls_of d)) t.refines.head)
+says_all (lend e d) = says_all d ∙ ap (λ (z : Held). said_all (plain_at z) (calls_of d)) e
 
--- one call more, at the end
-pub and_then :
-    {ws q m ws₁ q₁ m₁ ns ws' q' m' ns' : List ℕ} {k k' : ℕ} {cs : List Call} {ss : List Said} {c : Call} {s : Said} →
-    Driven ws q m cs ss ws₁ q₁ m₁ →
-    Made ws₁ q₁ m₁ ns k c s ws' q' m' ns' k' →
-    Driven ws q m (cs ++ (c ∷ [])) (ss ++ (s ∷ [])) ws' q' m'
-and_then stop r = next r stop
-and_then (next f d) r = next f (and_then d r)
+-- one list behind another
+pub joined : {x x₁ x' : Held} → Driven x x₁ → Driven x₁ x' → Driven x x'
+joined stop f = f
+joined (call t d) f = call t (joined d f)
+joined (lend e d) f = lend e (joined d f)
 
--- what start's contract in src/ ensures is `Begins`
-pub begins : {s : Start} {o : Result (Unit {0}) Refusal} {l : Run} {ws : List ℕ} → Began s o l ws → Begins s o (head_of ws) l
-begins (Began.start g o e) = e.on.begins
-begins (Began.start_run r g o r' e) = e.begins
+pub calls_joined :
+    {x x₁ x' : Held} (d : Driven x x₁) (f : Driven x₁ x') → calls_of (joined d f) ≡ calls_of d ++ calls_of f
+unfolding joined
+calls_joined stop f = refl
+calls_joined (call {x} {c = c} t d) f =
+    ap (λ (l : List plain.Call). call_of c x.lent ∷ l) (calls_joined d f)
+calls_joined (lend e d) f = calls_joined d f
 
--- from the words that start wrote, over any list of the calls
-pub demand_3 :
-    {s : Start} {l : Run} {ws₀ ws q₀ m₀ q m : List ℕ} {cs : List Call} {ss : List Said} →
-    Began s (Ok tt) l ws₀ →
-    Driven ws₀ q₀ m₀ cs ss ws q m →
-    Claim s cs ss (head_of ws) q m
-demand_3 {s = s} {ws₀ = ws₀} {q₀ = q₀} {m₀ = m₀} b d =
-    followed s ((begins b).begun q₀ m₀) (follows d)
+-- what `play` plays is such a list
+pub driven_of : {x x' : Held} {acts : List Action} {os : List Reply} → Played x acts os x' → Driven x x'
+driven_of played.stop = stop
+driven_of (played.next {a = action.Call c} t p) = call t (driven_of p)
+driven_of {x = x} (played.next {x₁ = x₁} {a = action.Lend i v k} t p) =
+    lend (t.1 ∙ ap (λ (z : Held). relent x z.lent) (sym t.1)) (driven_of p)
 
--- a start that is declined has no list: its number is the plain start's, and what was lent is unchanged
-pub start_declined :
-    {s : Start} {r : Refusal} {l : Run} {ws : List ℕ} →
-    Began s (Err r) l ws →
-    (declined (refusal_number r) ≡ (started s).begun) × (l ≡ s.watched)
-start_declined {s = s} {r = r} b =
-    let e : declined (refusal_number r) ≡ (started s).begun = (begins b).begun [] [] in (e, (begins b).lent ∙ declined_lent s (refusal_number r) e)
+-- from what start left: of the calls that were made, what they said, and the head with its memory
+-- after them
+pub claim_holds :
+    {s : Setup} {x' : Held} {l r : Run} {ws₀ ws q m : List ℕ} →
+    StartedOn ws₀ l s (Ok tt) ws r →
+    (d : Driven (held ws q m r) x') →
+    Claim (start_of s l) (calls_of d) (said_by d) (head_of x'.head) x'.queue x'.history
+claim_holds {s} {l = l} {r = r} {ws = ws} {q = q} {m = m} b d =
+    followed (start_of s l) (plain_at (held ws q m r)) (b.begins.begun q m) (runs d) (says_all d)
 
--- nor is a word of the head written; nor one of the nodes, where it was lent words
-pub start_declined_words :
-    (κs : _) (a : _) (r : Refusal) (x : _) → start-reads.Learnt κs a (Err r) x → (x.0.now ≡ a.0.now) × (x.1.0.now ≡ a.1.0.now)
-start_declined_words κs a r x e = (e.on.words, start_leaves κs a (Err r) x e)
-
-pub start_declined_run :
-    {ws ws' : List ℕ} {l l' : Run} {g : Setup} {r : Refusal} →
-    StartedOn ws l g (Err r) ws' l' → ws' ≡ ws
-start_declined_run e = e.words
-
--- what was lent to start is left as the plain start leaves it
-pub start_lent : {s : Start} {o : Result (Unit {0}) Refusal} {l : Run} {ws : List ℕ} → Began s o l ws → l ≡ (started s).lent
-start_lent b = (begins b).lent
+-- and so of all that `start_and_play` plays
+pub claim_holds_played :
+    {s : Setup} {x x' : Held} {acts : List Action} {out out' : List Reply} (r : StartedThen s acts x out x' out') →
+    let d = driven_of r.played.played in
+    Claim (start_of s x.lent) (calls_of d) (said_by d) (head_of x'.head) x'.queue x'.history
+claim_holds_played r = claim_holds r.started (driven_of r.played.played)

@@ -28,14 +28,16 @@ use Rattle.watched.specs.declared.nodes.WatchedNode.{WatchedNode}
 use Rattle.watched.specs.Watched.{heard_now, heard_at, unheard, Run, watching, well_lent, changing}
 use Rattle.watched.proofs.Lists.{each_nodes}
 use Rattle.watched.proofs.Watching.{lent_inside}
-use Rattle.node.specs.Plain.{Plain, Call, nmt_event, dll_event, error, cycle_complete, withdraw, heard, hand_out, load, arm, tick, range, margin, add, remove, taken, range_answer, margin_answer, Step}
+use Rattle.node.specs.Plain.{Plain, Call, nmt_event, dll_event, error, cycle_complete, withdraw, heard, hand_out, load, arm, tick, range, margin, add, remove, next_due, taken, range_answer, margin_answer, due_answer, Step}
 use Rattle.node.specs.Steps.{smaller, earliest, no_run, answers, declines, forgets, with_nmt, with_soc, nmt_step, dll_step, error_step, withdrawn, heard_tests, add_tests, remove_tests, added, removed, arm_tests, armed}
 use Rattle.node.specs.Tick.{tick_tests, tick_taken, tick_answered, looked_at}
 use Rattle.node.specs.Range.{range_tests, margin_tests, verdict_of, margin_of}
+use Rattle.node.specs.Due.{due, due_tests}
 use Rattle.node.specs.Run.{step, step_all}
 use Rattle.trace.specs.Earliest.{works_out, accepted, left_by, last_left}
 use Rattle.trace.proofs.Ticking.{picked}
-use Rattle.trace.proofs.Shares.{tried_by_lem, Leaves, stays, goes, run_call}
+use Rattle.node.proofs.Refining.{tried_by_lem}
+use Rattle.trace.proofs.Shares.{Leaves, stays, goes, run_call}
 
 -- START: no node was heard, so none would be late
 none_late : (ws : List WatchedNode) → earliest (unheard ws) ≡ None
@@ -106,6 +108,8 @@ renewed p (margin t) r h =
     tried_by_lem (Kept p) (margin_tests t) (declines p no_run) (answers p (margin_answer (margin_of p t)) no_run) (λ n. refl) refl ∙ h
 renewed p (add n o l) r h = run_renewed p (run_call p (add_tests n o l) l (added n o l)) r h
 renewed p (remove n l) r h = run_renewed p (run_call p (remove_tests n l) l (removed n l)) r h
+renewed p (next_due l) r h =
+    tried_by_lem (Kept p) (due_tests l) (declines p l) (answers p (due_answer (due p (watching l))) l) (λ n. refl) refl ∙ h
 
 -- ANY LIST: the earliest moment is that of the run which the last of these left
 pub moment_all : (p : Plain) (cs : List Call) (r : Run) → p.earliest ≡ earliest (watching r) → (step_all p cs).earliest ≡ earliest (watching (last_left p cs r))

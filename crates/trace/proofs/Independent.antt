@@ -1,4 +1,5 @@
--- INDEPENDENCE (document 02, No. 1): of two ticks of the real functions that are taken, on the same head at the same time, from their contracts in src/ alone.
+-- NO NODE DEPENDS ON ANOTHER (RULES 8.6): of two ticks of the real functions that are taken, on the
+-- same head at the same time, from their contracts in src/ alone.
 -- Assumes nothing.
 use Prim.Native.Nat.{ℕ, zero, suc, ◌≤◌, ◌<◌}
 use mathlib.Core.Path.{◌≡◌, refl, sym, ap, subst, ◌∙◌}
@@ -17,14 +18,19 @@ use Rattle.watched.proofs.Watching.{lent_inside}
 use Rattle.node.specs.Plain.{Plain, Call, tick_answer, Step}
 use Rattle.node.specs.Steps.{declines}
 use Rattle.node.specs.Tick.{checks_heartbeats, looked, looked_at, tick_tests, tick_taken, tick_answered}
-use Rattle.node.specs.Run.{step, Said}
+use Rattle.node.specs.Run.{step}
 use Rattle.node.specs.Refines.{plain}
 use Rattle.node.proofs.Fixed.{apart}
-use Rattle.trace.specs.Driven.{Made}
+use Rattle.types.specs.Errors.{reported}
+use Rattle.types.specs.declared.frame.error.types.DllErrors.{DllErrors}
+use Rattle.std.specs.declared.result.Result.TheVariants.{Ok}
+use Rattle.calling.specs.declared.Call.TheVariants as call
+use Rattle.calling.specs.declared.Answer.TheVariants as answer
+use Rattle.calling.specs.Held.{Held, relent}
+use Rattle.calling.specs.Made.{Made}
 use Rattle.trace.specs.Independent.{record_at, DifferAt, HeardAlike}
-use Rattle.trace.proofs.Shares.{tried_by_lem}
+use Rattle.node.proofs.Refining.{tried_by_lem}
 use Rattle.trace.proofs.Follows.{all_hold}
-use Rattle.trace.proofs.Driven.{refines}
 
 -- a record of a run after a change of each of its first nodes: that of the record alone, up to the number
 module _ (f : WatchedNode → WatchedNode) where
@@ -83,30 +89,26 @@ step_differs p t i r s es fs a b d =
     by true = changed_differ (looked t) i r s (lent_inside r (well_lent_lem p t r es a)) (lent_inside s (well_lent_lem p t s fs b)) d
     by false = d
 
--- TWO TICKS THAT ARE TAKEN, in either form: the runs that they leave differ at that place alone
+-- TWO TICKS THAT ARE TAKEN, on the same head and memory: the runs that they leave differ at that place alone
 pub tick_differs :
-    {ws q m ns ws₁ q₁ m₁ ns₁ ls ws₂ q₂ m₂ ls₂ : List ℕ} {k k₁ j j₂ t i : ℕ} {r s : Run} {a b : Said} {es fs : List DllError} →
-    Made ws q m ns k (Call.tick t r) a ws₁ q₁ m₁ ns₁ k₁ →
-    a.answer ≡ tick_answer es →
-    Made ws q m ls j (Call.tick t s) b ws₂ q₂ m₂ ls₂ j₂ →
-    b.answer ≡ tick_answer fs →
-    DifferAt i r s →
-    DifferAt i a.lent b.lent
-tick_differs {ws = ws} {q = q} {m = m} {t = t} {i = i} {r = r} {s = s} {b = b} {es = es} {fs = fs} f x g y d =
-    subst (λ (z : Run). DifferAt i z b.lent) (sym (refines f).lent)
-    (subst (DifferAt i (step p (Call.tick t r)).lent) (sym (refines g).lent)
-    (step_differs p t i r s es fs (sym (refines f).answer ∙ x) (sym (refines g).answer ∙ y) d))
+    {x x₁ x₂ : Held} {r : Run} {t i : ℕ} {es fs : DllErrors} →
+    Made x (call.Tick t) (Ok (answer.Tick es)) x₁ →
+    Made (relent x r) (call.Tick t) (Ok (answer.Tick fs)) x₂ →
+    DifferAt i x.lent r →
+    DifferAt i x₁.lent x₂.lent
+tick_differs {x} {x₁} {x₂} {r} {t} {i} {es} {fs} f g d =
+    subst (λ (z : Run). DifferAt i z x₂.lent) (sym f.refines.lent)
+    (subst (DifferAt i (step p (Call.tick t x.lent)).lent) (sym g.refines.lent)
+    (step_differs p t i x.lent r (reported es) (reported fs) (sym f.refines.answer) (sym g.refines.answer) d))
   where
     p : Plain
-    p = plain (head_of ws) q m
+    p = plain (head_of x.head) x.queue x.history
 
 -- so no other node's last-heard time does
 pub independent :
-    {ws q m ns ws₁ q₁ m₁ ns₁ ls ws₂ q₂ m₂ ls₂ : List ℕ} {k k₁ j j₂ t i : ℕ} {r s : Run} {a b : Said} {es fs : List DllError} →
-    Made ws q m ns k (Call.tick t r) a ws₁ q₁ m₁ ns₁ k₁ →
-    a.answer ≡ tick_answer es →
-    Made ws q m ls j (Call.tick t s) b ws₂ q₂ m₂ ls₂ j₂ →
-    b.answer ≡ tick_answer fs →
-    DifferAt i r s →
-    HeardAlike i a.lent b.lent
-independent f x g y d j o = ap (λ (w : WatchedNode). w.last_heard) ((tick_differs f x g y d).others j o)
+    {x x₁ x₂ : Held} {r : Run} {t i : ℕ} {es fs : DllErrors} →
+    Made x (call.Tick t) (Ok (answer.Tick es)) x₁ →
+    Made (relent x r) (call.Tick t) (Ok (answer.Tick fs)) x₂ →
+    DifferAt i x.lent r →
+    HeardAlike i x₁.lent x₂.lent
+independent f g d j o = ap (λ (w : WatchedNode). w.last_heard) ((tick_differs f g d).others j o)

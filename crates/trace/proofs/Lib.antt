@@ -8,10 +8,8 @@ pub mod Visits
 pub mod Keeps
 pub mod Follows
 pub mod Driven
-pub mod Contracts
-pub mod Corollaries
-pub mod Declines
 pub mod Unmoved
+pub mod Worked
+pub mod Corollaries
 pub mod Watch
 pub mod Independent
-pub mod Worked

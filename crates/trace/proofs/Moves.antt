@@ -19,13 +19,15 @@ use Rattle.nmt.specs.Resets.{is_reset}
 use Rattle.nmt.specs.Nmt.{processed}
 use Rattle.nmt.specs.declared.cn_state_machine.CnNmtStateMachine.{CnNmtStateMachine}
 use Rattle.watched.specs.Watched.{heard_at, watching, changing}
-use Rattle.node.specs.Plain.{Plain, Call, nmt_event, dll_event, error, cycle_complete, withdraw, heard, hand_out, load, arm, tick, range, margin, add, remove, taken, range_answer, margin_answer, EventMade, made, no_event, Step}
+use Rattle.node.specs.Plain.{Plain, Call, nmt_event, dll_event, error, cycle_complete, withdraw, heard, hand_out, load, arm, tick, range, margin, add, remove, next_due, taken, range_answer, margin_answer, due_answer, EventMade, made, no_event, Step}
 use Rattle.node.specs.Steps.{no_run, answers, declines, with_nmt, with_soc, forgets, nmt_step, dll_step, error_step, withdrawn, heard_tests, add_tests, remove_tests, added, removed, arm_tests, armed}
 use Rattle.node.specs.Tick.{tick_tests, tick_taken, tick_answered, looked_at}
 use Rattle.node.specs.Range.{range_tests, margin_tests, verdict_of, margin_of}
+use Rattle.node.specs.Due.{due, due_tests}
 use Rattle.node.specs.Run.{step}
 use Rattle.trace.proofs.Ticking.{InTick, tick_part}
-use Rattle.trace.proofs.Shares.{tried_by_lem, Leaves, stays, goes, run_call}
+use Rattle.node.proofs.Refining.{tried_by_lem}
+use Rattle.trace.proofs.Shares.{Leaves, stays, goes, run_call}
 
 -- of a call c on the head p, the event that it made and the machine after it
 pub data Moves (p : Plain) (c : Call) : EventMade → CnNmtStateMachine → Type 0 where
@@ -82,3 +84,5 @@ moves p (margin t) =
     tried_by_lem (MovesTo p (margin t)) (margin_tests t) (declines p no_run) (answers p (margin_answer (margin_of p t)) no_run) (λ r. same) same
 moves p (add n o r) = run_moves p (add n o r) (run_call p (add_tests n o r) r (added n o r))
 moves p (remove n r) = run_moves p (remove n r) (run_call p (remove_tests n r) r (removed n r))
+moves p (next_due r) =
+    tried_by_lem (MovesTo p (next_due r)) (due_tests r) (declines p r) (answers p (due_answer (due p (watching r))) r) (λ n. same) same

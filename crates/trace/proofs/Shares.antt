@@ -30,16 +30,18 @@ use Rattle.entries.specs.Ring.{nth, rest}
 use Rattle.entries.specs.declared.status_response.ErrorEntry.{ErrorEntry}
 use Rattle.node.specs.declared.load.DictionaryUpdate.{DictionaryUpdate}
 use Rattle.watched.specs.Watched.{heard_at, Run, watching, changing}
-use Rattle.node.specs.Plain.{Plain, HistoryUpdate, Call, nmt_event, dll_event, error, cycle_complete, withdraw, heard, hand_out, load, arm, tick, range, margin, add, remove, Answer, taken, nmt_answer, hand_out_answer, range_answer, margin_answer, made, Step}
+use Rattle.node.specs.Plain.{Plain, HistoryUpdate, Call, nmt_event, dll_event, error, cycle_complete, withdraw, heard, hand_out, load, arm, tick, range, margin, add, remove, next_due, Answer, taken, nmt_answer, hand_out_answer, range_answer, margin_answer, due_answer, made, Step}
 use Rattle.node.specs.Steps.{Test, tried, no_run, answers, declines, leaves, forgets, with_nmt, with_soc, nmt_step, dll_step, error_step, withdrawn, heard_tests, add_tests, remove_tests, added, removed, updated_counter, updated, arm_tests, armed}
 use Rattle.node.specs.Tick.{Ticked, tick_tests, tick_taken, tick_answered, looked_at}
 use Rattle.node.specs.Range.{range_tests, margin_tests, verdict_of, margin_of}
+use Rattle.node.specs.Due.{due, due_tests}
 use Rattle.node.specs.Run.{step}
 use Rattle.trace.specs.Tally.{Told, told_at, handed_by, dropped_by, is_full, is_set, loads_counter3}
 use Rattle.trace.specs.Claim.{Queued, still, kept, dropped, handed, Rule}
+use Rattle.node.proofs.Refining.{tried_by_lem}
 use Rattle.trace.proofs.Modes.{mode, mode_event, mode_withdraw}
 use Rattle.counters.proofs.Counts.{Counting, counting_none, counting_handled, counting_completed}
-use Rattle.trace.proofs.Ticking.{seen, Enters, none, one, PartOf, picked, tells, tick_part}
+use Rattle.trace.proofs.Ticking.{seen, Enters, none, one, PartOf, tells, tick_part}
 
 -- the mode's share, the queue's, the counters', that of crossings, and counter 3's
 abbrev pub ModeShare : Plain → Call → Step → Type 0
@@ -138,13 +140,6 @@ untouched p c t h m w e n =
 declined : (p : Plain) (c : Call) (l : Run) (r : ℕ) → ((w : Told) → told_at p c (declines p l r) w ≡ w) → Shares p c (declines p l r)
 declined p c l r w =
     untouched p c (declines p l r) (record { queue = refl; crossings = refl; crossed = refl; handed = refl; lost = λ h. refl }) refl w refl refl
-
--- what a call declines, and what it takes
-pub tried_by_lem :
-    {A : Type 0} (P : A → Type 0) (ts : List (Test ℕ)) (refuse : ℕ → A) (accept : A) →
-    ((r : ℕ) → P (refuse r)) → P accept → P (tried ts refuse accept)
-tried_by_lem P [] refuse accept d a = a
-tried_by_lem P (t ∷ ts) refuse accept d a = picked P t.holds (tried_by_lem P ts refuse accept d a) (d t.otherwise)
 
 nmt_shares : (p : Plain) (n : ℕ) (r : Result NmtEvent Refusal) → read_event n ≡ r → Shares p (nmt_event n) (nmt_step p r)
 nmt_shares p n (Ok e) h = by (is_reset e)
@@ -286,19 +281,19 @@ tick_shares p t r =
 
 -- what changes nothing owes nothing
 asked_shares :
-    (p : Plain) (c : Call) (ts : List (Test ℕ)) (a : Answer) →
+    (p : Plain) (c : Call) (l : Run) (ts : List (Test ℕ)) (a : Answer) →
     handed_by a ≡ [] →
     ((t : Step) (w : Told) → told_at p c t w ≡ w) →
-    Shares p c (tried ts (declines p no_run) (answers p a no_run))
-asked_shares p c ts a h w =
-    tried_by_lem (Shares p c) ts (declines p no_run) (answers p a no_run) (λ r. declined p c no_run r (w (declines p no_run r)))
-    (untouched p c (answers p a no_run) (record { queue = refl; crossings = refl; crossed = refl; handed = h; lost = λ l. refl }) refl (w (answers p a no_run)) refl refl)
+    Shares p c (tried ts (declines p l) (answers p a l))
+asked_shares p c l ts a h w =
+    tried_by_lem (Shares p c) ts (declines p l) (answers p a l) (λ r. declined p c l r (w (declines p l r)))
+    (untouched p c (answers p a l) (record { queue = refl; crossings = refl; crossed = refl; handed = h; lost = λ l. refl }) refl (w (answers p a l)) refl refl)
 
 range_shares : (p : Plain) (a b : ℕ) → Shares p (range a b) (step p (range a b))
-range_shares p a b = asked_shares p (range a b) (range_tests a b) (range_answer (verdict_of p a b)) refl (λ t w. refl)
+range_shares p a b = asked_shares p (range a b) no_run (range_tests a b) (range_answer (verdict_of p a b)) refl (λ t w. refl)
 
 margin_shares : (p : Plain) (t : ℕ) → Shares p (margin t) (step p (margin t))
-margin_shares p t = asked_shares p (margin t) (margin_tests t) (margin_answer (margin_of p t)) refl (λ t w. refl)
+margin_shares p t = asked_shares p (margin t) no_run (margin_tests t) (margin_answer (margin_of p t)) refl (λ t w. refl)
 
 -- each call
 pub shares : (p : Plain) (c : Call) → Shares p c (step p c)
@@ -316,8 +311,9 @@ shares p (range a b) = range_shares p a b
 shares p (margin t) = margin_shares p t
 shares p (add n o r) = run_shares p (add n o r) (run_call p (add_tests n o r) r (added n o r)) (λ t w. refl)
 shares p (remove n r) = run_shares p (remove n r) (run_call p (remove_tests n r) r (removed n r)) (λ t w. refl)
+shares p (next_due r) = asked_shares p (next_due r) r (due_tests r) (due_answer (due p (watching r))) refl (λ t w. refl)
 
--- "none" is handed out exactly of an empty queue
+-- a hand-out answers none exactly where the queue was empty
 none_out :
     (q : List ErrorEntry) →
     (hand_out_answer (nth q 0) ≡ hand_out_answer None → q ≡ []) × (q ≡ [] → hand_out_answer (nth q 0) ≡ hand_out_answer None)

@@ -1,48 +1,45 @@
 -- THE HISTORY WITHOUT MOVING, over any list of calls of the real functions, from their contracts in src/ alone.
 -- Assumes nothing.
-use Prim.Native.Nat.{ℕ, zero, suc, ◌+◌, ◌/◌, ◌%◌, ◌≤◌, ◌<◌, min}
+use Prim.Native.Nat.{ℕ, zero, suc, ◌+◌, ◌/◌, ◌≤◌, ◌<◌, min}
 use mathlib.Core.Path.{◌≡◌, refl, sym, ap, ap₂, subst, ◌∙◌}
 use mathlib.Core.Logic.{⊎_elim}
 use mathlib.Core.Bool.{Bool, true, false, not, true≢false}
 use mathlib.Core.List.{List, [], ◌∷◌, ◌++◌}
 use native.Mathlib.Omega.{arith}
 use lib.Dec.{eqb}
-use lib.ListN.{length, set}
-use lib.Seq.{get_or-set_other, ext_get_or}
+use lib.ListN.{length}
+use lib.Seq.{ext_get_or}
 use borrow.Author.Tests.{eq-eqb, eqb-false}
 use Rattle.types.specs.Pick.{pick, either}
 use Rattle.entries.specs.Ring.{listed}
-use Rattle.entries.specs.Queue.{capacity_of, waiting, pushed, handed_out}
+use Rattle.entries.specs.Queue.{capacity_of, waiting, pushed}
 use Rattle.entries.specs.History.{error_history, place_before, joined, joined_bytes, entries_in, taken_of, loaded, loaded_bytes}
 use Rattle.entries.specs.declared.status_response.ErrorEntry.{ErrorEntry}
-use Rattle.entries.specs.declared.emergency_queue.EmergencyQueue.{EmergencyQueue}
 use Rattle.entries.specs.declared.error_history.ErrorHistory.{ErrorHistory}
 use Rattle.entries.proofs.Rings.{lt_or_ge, listed_long}
 use Rattle.entries.proofs.Lists.{kept_exactly, others_stay, joined_long, loaded_long, behind_loaded}
 use Rattle.head.specs.Head.{Head}
-use Rattle.head.specs.Places as at
-use Rattle.head.specs.Words.{word, head_of}
-use Rattle.head.specs.Written.{queue_written}
-use Rattle.watched.specs.Watched.{Run}
+use Rattle.head.specs.Words.{head_of}
 use Rattle.node.specs.Plain.{Plain, Call}
-use Rattle.node.specs.Run.{step, Said}
+use Rattle.node.specs.Run.{step}
 use Rattle.node.specs.Refines.{plain, Rings, rings, joins, joins_all, history_update, loaded_places, loaded_memory}
 use Rattle.std.specs.declared.option.Option.{Option}
 use Rattle.std.specs.declared.option.Option.TheVariants.{Some, None}
-use Rattle.std.specs.declared.result.Result.{Result}
-use Rattle.types.specs.declared.frame.error.types.DllErrors.{DllErrors}
-use Rattle.types.specs.declared.refusals.Refusal.{Refusal}
-use Rattle.tick.specs.TickIn.{TickedOn}
 use Rattle.trace.specs.Tally.{is_full, dropped_by}
 use Rattle.trace.specs.Claim.{Queued, still, kept, dropped, handed}
-use Rattle.trace.specs.Driven.{Made, Driven, stop, next}
-use Rattle.trace.specs.Declined.{is_among}
+use Rattle.node.specs.Loaded.{bytes_named}
+use Rattle.calling.specs.declared.Call as made
+use Rattle.calling.specs.declared.Call.TheVariants as of
+use Rattle.calling.specs.Held.{Held, plain_at, rings_of}
+use Rattle.calling.specs.Values.{Reply, call_of}
+use Rattle.calling.specs.Made.{Made}
+use Rattle.trace.specs.Driven.{Driven, stop, call, lend, calls_of}
+use Rattle.calling.specs.Declined.{is_among}
 use Rattle.trace.specs.Unmoved.{Brought, by_crossings, nothing_new, kept_by, loaded_new, brought_by, stands_after, joined_at, written_at, stands_after_all, written_at_all, OthersStay, Unmoved}
 use Rattle.trace.proofs.Ticking.{room_or_full}
 use Rattle.trace.proofs.Shares.{rule}
 use Rattle.trace.proofs.Keeps.{either_first, either_second}
-use Rattle.trace.proofs.Follows.{follows_run}
-use Rattle.trace.proofs.Driven.{refines, follows}
+use Rattle.trace.proofs.Driven.{runs}
 
 -- a place that is among neither of two lists
 first_apart : (i : ℕ) (ps rs : List ℕ) → is_among i (ps ++ rs) ≡ false → is_among i ps ≡ false
@@ -178,77 +175,60 @@ brings_crossed h h' q m q' m' cs (one e) long r = by (is_full (plain h q m)) ref
           stands = ap (λ (r : Rings). r.history) r ∙ j.0;
         }
 
-brings_ticked :
-    {ws q m ws' q' m' : List ℕ} {r r' : Run} {t : ℕ} {o : Result DllErrors Refusal} →
-    length m ≡ 5080 →
-    TickedOn ws q m r t o ws' q' m' r' →
-    Brings (head_of ws).history m (brought_by (plain (head_of ws) q m) (Call.tick t r)) (head_of ws').history m'
-brings_ticked {ws = ws} {q = q} {m = m} {ws' = ws'} {q' = q'} {m' = m'} {r = r} {t = t} long e =
-    let p = plain (head_of ws) q m in
-    brings_crossed (head_of ws) (head_of ws') q m q' m' (step p (Call.tick t r)).crossings (one_at_most (rule p (Call.tick t r)).queue) long e.rings
-
--- a hand out writes the queue's words
-queue_apart : (ws : List ℕ) (z : EmergencyQueue) → (head_of (queue_written ws z)).history ≡ (head_of ws).history
-unfolding head_of
-queue_apart ws z =
-    ap₂ (λ (n c : ℕ). error_history (n % 256) (c % 256)) (other at.newest (λ e. omega arith) (λ e. omega arith))
-    (other at.count (λ e. omega arith) (λ e. omega arith))
-  where
-    other : (i : ℕ) → (i ≡ at.oldest → ⊥) → (i ≡ at.queued → ⊥) → word (queue_written ws z) i ≡ word ws i
-    other i f g =
-        get_or-set_other (set ws at.oldest z.oldest) at.queued i z.length 0 g ∙ get_or-set_other ws at.oldest i z.oldest 0 f
-
 -- one call
-brings :
-    {ws q m ns ws' q' m' ns' : List ℕ} {k k' : ℕ} {c : Call} {s : Said} →
-    length m ≡ 5080 →
-    Made ws q m ns k c s ws' q' m' ns' k' →
-    Brings (head_of ws).history m (brought_by (plain (head_of ws) q m) c) (head_of ws').history m'
-brings long (Made.nmt_event n o e) = brings_none e.places.history refl
-brings long (Made.dll_event n b o e) = brings_none e.places.history refl
-brings long (Made.error n a b o e) = brings_none e.places.history refl
-brings long (Made.cycle_complete o e) = brings_none e.places.history refl
-brings long (Made.withdraw o e) = brings_none e.places.history refl
-brings long (Made.heard n t o e) = brings_none e.on.places.history refl
-brings long (Made.heard_run r n t o r' e) = brings_none e.places.history refl
-brings {ws = ws} {q = q} long (Made.hand_out o e) =
-    brings_none (ap (λ (ws : List ℕ). (head_of ws).history) e.1 ∙ queue_apart ws (handed_out q _).queue) refl
-brings long (Made.load u es e) = brings_loaded es long e.history e.memory
-brings long (Made.arm t o e) = brings_none e.places.history refl
-brings long (Made.tick t o e) = brings_ticked long e.on
-brings long (Made.tick_run r t o r' e) = brings_ticked long e
-brings long (Made.range a b o e) = brings_none refl refl
-brings long (Made.margin t o e) = brings_none refl refl
-brings long (Made.add n t o e) = brings_none e.on.places.history refl
-brings long (Made.add_run r n t o r' e) = brings_none e.places.history refl
-brings long (Made.remove n o e) = brings_none e.on.places.history refl
-brings long (Made.remove_run r n o r' e) = brings_none e.places.history refl
+abbrev BringsTo : Held → Brought → Held → Type 0
+BringsTo x b x' = Brings (head_of x.head).history x.history b (head_of x'.head).history x'.history
+
+none_by :
+    (x x' : Held) (y : Rings) → y.history ≡ (head_of x.head).history → y.history_bytes ≡ x.history → rings_of x' ≡ y → BringsTo x nothing_new x'
+none_by x x' y f g r = brings_none (ap (λ (r : Rings). r.history) r ∙ f) (ap (λ (r : Rings). r.history_bytes) r ∙ g)
+
+module _ {x x' : Held} {o : Reply} (long : length x.history ≡ 5080) where
+  brings : (c : made.Call) → Made x c o x' → BringsTo x (brought_by (plain_at x) (call_of c x.lent)) x'
+  brings (of.NmtEvent n) t = none_by x x' _ refl refl t.rings
+  brings (of.DllEvent n b) t = none_by x x' _ refl refl t.rings
+  brings (of.Error n a b) t = none_by x x' _ refl refl t.rings
+  brings of.CycleComplete t = none_by x x' _ refl refl t.rings
+  brings of.Withdraw t = none_by x x' _ refl refl t.rings
+  brings (of.Heard n s) t = none_by x x' _ refl refl t.rings
+  brings of.HandOut t = none_by x x' _ refl refl t.rings
+  brings (of.Load u h) t =
+      brings_loaded (bytes_named h) long (ap (λ (r : Rings). r.history) t.rings) (ap (λ (r : Rings). r.history_bytes) t.rings)
+  brings (of.Arm s) t = none_by x x' _ refl refl t.rings
+  brings (of.Tick s) t =
+      brings_crossed (head_of x.head) (head_of x'.head) x.queue x.history x'.queue x'.history (step (plain_at x) (Call.tick s x.lent)).crossings
+      (one_at_most (rule (plain_at x) (Call.tick s x.lent)).queue) long t.rings
+  brings (of.Range a b) t = none_by x x' _ refl refl t.rings
+  brings (of.Margin s) t = none_by x x' _ refl refl t.rings
+  brings (of.Add n s) t = none_by x x' _ refl refl t.rings
+  brings (of.Remove n) t = none_by x x' _ refl refl t.rings
+  brings of.NextDue t = none_by x x' _ refl refl t.rings
 
 -- and a list of them, between any two moments
-brings_all :
-    {ws q m ws' q' m' : List ℕ} {cs : List Call} {ss : List Said} →
-    length m ≡ 5080 →
-    Driven ws q m cs ss ws' q' m' →
-    OthersStay (written_at_all (plain (head_of ws) q m) (head_of ws).history cs) m m'
-    × ((head_of ws').history ≡ stands_after_all (plain (head_of ws) q m) (head_of ws).history cs)
+abbrev Stands : Held → List Call → Held → Type 0
+Stands x cs x' =
+    OthersStay (written_at_all (plain (head_of x.head) x.queue x.history) (head_of x.head).history cs) x.history x'.history
+    × ((head_of x'.head).history ≡ stands_after_all (plain (head_of x.head) x.queue x.history) (head_of x.head).history cs)
+
+brings_all : {x x' : Held} → length x.history ≡ 5080 → (d : Driven x x') → Stands x (calls_of d) x'
 unfolding written_at_all stands_after_all
-brings_all {m = m} long stop = (none_written m, refl)
-brings_all {m = m} {m' = m'} long (next {m₁ = m₁} {cs = cs} r d) =
-    let a = brings long r in
+brings_all {x} long stop = (none_written x.history, refl)
+brings_all {x' = x'} long (call {x} {x₁ = x₁} {c = c} t d) =
+    let a = brings long c t in
     let b = brings_all (a.others.long ∙ long) d in
-    let p = (refines r).head in (
-      written_then a.others (subst (λ (ps : List ℕ). OthersStay ps m₁ m') (ap₂ (λ (p : Plain) (h : ErrorHistory). written_at_all p h cs) p a.stands) b.0),
-      b.1 ∙ ap₂ (λ (p : Plain) (h : ErrorHistory). stands_after_all p h cs) p a.stands,
+    let p = t.refines.head in (
+      written_then a.others
+          (subst (λ (ps : List ℕ). OthersStay ps x₁.history x'.history) (ap₂ (λ (p : Plain) (h : ErrorHistory). written_at_all p h (calls_of d)) p a.stands) b.0),
+      b.1 ∙ ap₂ (λ (p : Plain) (h : ErrorHistory). stands_after_all p h (calls_of d)) p a.stands,
     )
+brings_all {x' = x'} long (lend e d) =
+    subst (λ (z : Held). Stands z (calls_of d) x') e (brings_all (ap (λ (z : Held). length z.history) e ∙ long) d)
 
 pub unmoved :
-    {ws q m ws' q' m' : List ℕ} {cs : List Call} {ss : List Said} →
-    length m ≡ 5080 →
-    Driven ws q m cs ss ws' q' m' →
-    Unmoved (head_of ws) q m cs (head_of ws') m'
+    {x x' : Held} → length x.history ≡ 5080 → (d : Driven x x') → Unmoved (head_of x.head) x.queue x.history (calls_of d) (head_of x'.head) x'.history
 unmoved long d =
     let b = brings_all long d in
-    record { others = b.0; stands = b.1; list = ap (λ (p : Plain). p.history) (follows_run (follows d)) }
+    record { others = b.0; stands = b.1; list = ap (λ (p : Plain). p.history) (runs d) }
 
 -- A call has at most one crossing, which is kept and writes one place, or is dropped.
 pub at_most_one : (p : Plain) (c : Call) → length (step p c).crossings ≤ 1
@@ -274,12 +254,12 @@ pub nothing_written : {m m' : List ℕ} → OthersStay [] m m' → m' ≡ m
 nothing_written {m = m} {m' = m'} o = ext_get_or 0 m' m o.long (λ k h. o.bytes k refl)
 
 pub dropped_writes_none :
-    {ws q m ns ws' q' m' ns' : List ℕ} {r : Run} {k k' t : ℕ} {s : Said} →
-    length m ≡ 5080 →
-    Made ws q m ns k (Call.tick t r) s ws' q' m' ns' k' →
-    is_full (plain (head_of ws) q m) ≡ true →
-    m' ≡ m
-dropped_writes_none {ws = ws} {q = q} {m = m} {m' = m'} {r = r} {t = t} long f full =
-    let p = plain (head_of ws) q m in
+    {x x' : Held} {t : ℕ} {o : Reply} →
+    length x.history ≡ 5080 →
+    Made x (of.Tick t) o x' →
+    is_full (plain (head_of x.head) x.queue x.history) ≡ true →
+    x'.history ≡ x.history
+dropped_writes_none {x} {x'} {t} long f full =
+    let p = plain (head_of x.head) x.queue x.history in
     nothing_written
-    (subst (λ (b : Bool). OthersStay (joined_at (head_of ws).history (pick b [] (step p (Call.tick t r)).crossings)) m m') full (brings long f).others)
+    (subst (λ (b : Bool). OthersStay (joined_at (head_of x.head).history (pick b [] (step p (Call.tick t x.lent)).crossings)) x.history x'.history) full (brings long (of.Tick t) f).others)

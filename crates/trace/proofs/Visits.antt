@@ -22,7 +22,7 @@ use Rattle.nmt.specs.Resets.{is_reset, states_entered}
 use Rattle.nmt.specs.Nmt.{enter, row_of, applied, reset_by, processed}
 use Rattle.nmt.specs.declared.cn_state_machine.CnNmtStateMachine.{CnNmtStateMachine}
 use Rattle.head.proofs.Laws.{state_is}
-use Rattle.node.specs.Plain.{Plain, Call, nmt_event, dll_event, error, cycle_complete, withdraw, heard, hand_out, load, arm, tick, range, margin, add, remove, Start, taken, EventMade}
+use Rattle.node.specs.Plain.{Plain, Call, nmt_event, dll_event, error, cycle_complete, withdraw, heard, hand_out, load, arm, tick, range, margin, add, remove, next_due, Start, taken, EventMade}
 use Rattle.node.specs.Steps.{no_run, answers, declines, with_nmt, withdrawn, fresh}
 use Rattle.node.specs.Run.{step, step_all}
 use Rattle.trace.specs.Tally.{Told, told, asks, in_pre_operational2}
@@ -285,6 +285,7 @@ not_withdrawn p (range a b) h = refl
 not_withdrawn p (margin t) h = refl
 not_withdrawn p (add n o r) h = refl
 not_withdrawn p (remove n r) h = refl
+not_withdrawn p (next_due r) h = refl
 
 none_then :
     (p : Plain) (xs : List Call) (c : Call) → NoneWithdrawn p xs → both (is_withdraw c) (is_taken (step (step_all p xs) c).answer) ≡ false →

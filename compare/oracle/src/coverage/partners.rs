@@ -2,7 +2,7 @@
 //! what stands past the number, and the earliest moment.
 
 use super::{
-    Count, Group, HEARTBEAT, MINIMA, PRE_OPERATIONAL_2, Step, counted, crossed, named, number,
+    Count, Group, HEARTBEAT, MINIMA, NOT_ACTIVE, PRE_OPERATIONAL_2, Step, counted, crossed, named, number,
     refusal,
 };
 use crate::view::{Lent, is_node};
@@ -15,12 +15,13 @@ const TOP: u64 = (1 << 62) - 1;
 const CASE: u64 = 20;
 const PAIR: u64 = 3;
 
-/// The lines of this request: three calls, and one that is no call.
-pub const LINES: [&str; 4] = ["add", "remove", "bitmap", "lend"];
-const OWN_CALLS: usize = 3;
+/// The lines of watched nodes: four calls, and one that is no call.
+pub const LINES: [&str; 5] = ["add", "remove", "bitmap", "due", "lend"];
+const OWN_CALLS: usize = 4;
 
 /// Each of these calls with the refusals that it can give.
-const REFUSALS: [(&str, usize); 7] = [
+const REFUSALS: [(&str, usize); 8] = [
+    ("due", 3),
     ("add", 1),
     ("add", 3),
     ("remove", 3),
@@ -31,7 +32,7 @@ const REFUSALS: [(&str, usize); 7] = [
 ];
 
 /// The calls that are lent the run.
-const CALLS: [&str; 6] = ["start", "tick", "heard", "add", "remove", "bitmap"];
+const CALLS: [&str; 7] = ["start", "tick", "heard", "add", "remove", "bitmap", "due"];
 
 /// Why number 3 declines a run that has no other fault.
 const FAULTS: [&str; 6] = [
@@ -43,7 +44,13 @@ const FAULTS: [&str; 6] = [
     "a record",
 ];
 
-const CASES: [&str; 61] = [
+const CASES: [&str; 68] = [
+    "due: none",
+    "due: at once at NotActive",
+    "due: at once, a node not heard",
+    "due: the deadline",
+    "due: a node before the deadline",
+    "due: a node, no deadline",
     "add of a bad node to a bad run, 1",
     "add of a bad node to 32, 1",
     "add of a bad node with a timeout above the limit, 1",
@@ -75,6 +82,7 @@ const CASES: [&str; 61] = [
     "tick, something past the number",
     "heard, something past the number",
     "bitmap, something past the number",
+    "due, something past the number",
     "refused add or removal, something past the number",
     "taken with a bad node past the number",
     "taken with 2^64 - 1 past the number",
@@ -210,10 +218,40 @@ impl Arrivals {
             ("add", [node, timeout]) => self.count_add(*node, *timeout, step.lent, refused),
             ("remove", [node]) => self.count_remove(*node, step.lent, refused),
             ("tick", [now]) if refused == 0 => self.count_late_past(*now, step),
+            ("due", []) if refused == 0 => self.count_due(step, answer),
             _ => (),
         }
         self.count_past(call, step.lent, refused);
         self.count_earliest(call, step, refused);
+    }
+
+    fn count_due(&mut self, step: &Step, answer: &str) {
+        let Some(before) = step.before else {
+            return;
+        };
+        let said = answer
+            .strip_prefix("(taken ")
+            .and_then(|rest| rest.strip_suffix(')'));
+        let moment = said.and_then(|word| word.parse::<u64>().ok());
+        let unheard = step.lent.watched().iter().any(|record| record.2 == 0);
+        let at_deadline = moment.is_some() && moment == before.deadline;
+        let of_a_node = moment.is_some_and(|moment| moment > 0) && !at_deadline;
+        let idle = before.nmt == NOT_ACTIVE && before.deadline.is_none();
+        self.mark(moment.is_none(), "due: none");
+        self.mark(moment == Some(0) && idle, "due: at once at NotActive");
+        self.mark(
+            moment == Some(0) && before.nmt >= PRE_OPERATIONAL_2 && unheard,
+            "due: at once, a node not heard",
+        );
+        self.mark(at_deadline, "due: the deadline");
+        self.mark(
+            of_a_node && before.deadline.is_some(),
+            "due: a node before the deadline",
+        );
+        self.mark(
+            of_a_node && before.deadline.is_none(),
+            "due: a node, no deadline",
+        );
     }
 
     fn count_add(&mut self, node: u64, timeout: u64, lent: &Lent, refused: usize) {

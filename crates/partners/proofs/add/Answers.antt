@@ -1,4 +1,5 @@
--- `partners::add` meets its contract: the node's number, its tests, then the walk, and the earliest moment.
+-- `partners::add` meets its contract: the node's number, its tests, then the walk, and the earliest
+-- moment.
 -- Assumes nothing.
 use mathlib.Core.Path.{◌≡◌, refl, sym, ap, ◌∙◌}
 use mathlib.Core.Bool.{true}

@@ -1,4 +1,5 @@
--- `partners::close` meets its contract: the words behind the place are moved down, and the rest is cleared.
+-- `partners::close` meets its contract: the words behind the place are moved down, and the rest is
+-- cleared.
 -- Assumes nothing.
 use Prim.Native.Nat.{◌+◌, ◌-◌, ◌*◌}
 use mathlib.Core.Path.{◌≡◌, ap, ◌∙◌}

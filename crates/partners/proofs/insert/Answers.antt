@@ -1,4 +1,5 @@
--- `partners::insert` meets its contract: the words above the node's place are moved up, the node is put, and the rest is cleared.
+-- `partners::insert` meets its contract: the words above the node's place are moved up, the node is
+-- put, and the rest is cleared.
 -- Assumes nothing.
 use Prim.Native.Nat.{ℕ, ◌+◌, ◌-◌, ◌*◌}
 use mathlib.Core.Path.{◌≡◌, ap, ap₂, ◌∙◌}

@@ -9,10 +9,14 @@ use Rattle.calling.proofs.play.play.Goals as goal
 pub loop-i-init : goal.loop-i-init
 loop-i-init g c =
     let a = c.args in
-    (refl, none_yet (held a.head.now a.queue.now a.history.now (run (g.N.Nodes.places a.nodes.now) a.number.now)) a.actions.now a.out.now)
+    let lent = run (g.N.Nodes.places a.nodes.now) a.number.now in
+    (refl, none_yet (held a.head.now a.queue.now a.history.now lent) a.actions.now a.out.now)
 
 pub loop-i-preserved : goal.loop-i-preserved
 loop-i-preserved g c =
     let v = c.loop-i.invariant in
     let e = c.act-answer.ensures in
-    (e.same_reference ∙ v.0, rw c.put.ensures (one_more c.args.actions.now c.loop-i.i _ c.act-answer.result c.loop-i-test.true v.1 e.acted))
+    let acts = c.args.actions.now in (
+      e.same_reference ∙ v.0,
+      rw c.put.ensures (one_more acts c.loop-i.i _ c.act-answer.result c.loop-i-test.true v.1 e.acted),
+    )

@@ -9,5 +9,7 @@ use Rattle.calling.proofs.play.play.Given as goal
 abbrev pub invariant-loop-i : goal.invariant-loop-i
 invariant-loop-i g l =
     (g.N.Nodes.name l.nodes ≡ g.N.Nodes.name l.fn.nodes) ×
-    PlayedInto (held l.fn.head l.fn.queue l.fn.history (run (g.N.Nodes.places l.fn.nodes) l.fn.number)) (take l.i l.actions) l.fn.out
+    PlayedInto
+    (held l.fn.head l.fn.queue l.fn.history (run (g.N.Nodes.places l.fn.nodes) l.fn.number))
+    (take l.i l.actions) l.fn.out
     (held l.head l.queue l.history (run (g.N.Nodes.places l.nodes) l.number)) l.out

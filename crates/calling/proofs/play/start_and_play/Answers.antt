@@ -1,9 +1,9 @@
--- `calling::play::start_and_play` meets its contract: the start that was taken and the list from there, or a start that was refused.
+-- `calling::play::start_and_play` meets its contract: the start that was taken and the list from
+-- there, or a start that was refused.
 -- Assumes nothing.
 use Rattle.std.proofs.Common.{◌≡◌, refl, rules}
 use Rattle.std.specs.declared.result.Result.TheVariants.{Err}
 use Rattle.watched.specs.Watched.{run}
-use Rattle.start.specs.Started.{StartedOn}
 use Rattle.calling.proofs.Starting.{refused_held}
 use Rattle.calling.proofs.play.start_and_play.Goals as goal
 

@@ -1,4 +1,5 @@
--- `head::parts::set_each` meets its contract: a word is written, and after the last every kind has its own.
+-- `head::parts::set_each` meets its contract: a word is written, and after the last every kind has
+-- its own.
 -- Assumes nothing.
 use Rattle.std.proofs.Common.{◌+◌, ◌*◌, ap, sym, ◌∙◌, arith}
 use Rattle.head.proofs.Each.{nth_written, one_written, all_written, kinds_written}

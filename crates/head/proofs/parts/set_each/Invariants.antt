@@ -1,4 +1,5 @@
--- `head::parts::set_each` meets its contract. The loop's invariant: what is left to write gives what all of it gives.
+-- `head::parts::set_each` meets its contract. The loop's invariant: what is left to write gives
+-- what all of it gives.
 -- Assumes nothing.
 use Rattle.std.proofs.Common.{◌≡◌, ◌+◌, ◌*◌, drop}
 use Rattle.head.proofs.Each.{nth_written}

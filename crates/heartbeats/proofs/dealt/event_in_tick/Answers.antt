@@ -1,4 +1,5 @@
--- `heartbeats::dealt::event_in_tick` meets its contract: the machine by value decides, and its words are written.
+-- `heartbeats::dealt::event_in_tick` meets its contract: the machine by value decides, and its
+-- words are written.
 -- Assumes nothing.
 use Rattle.std.proofs.Common.{ℕ, List, set, ap, ◌∙◌}
 use Rattle.nmt.specs.Nmt as Nmt

@@ -1,4 +1,5 @@
--- `heartbeats::heartbeats::beat_all` meets its contract. The invariant of the walk: the late nodes that are left give what all of them give, and nothing has joined.
+-- `heartbeats::heartbeats::beat_all` meets its contract. The invariant of the walk: the late nodes
+-- that are left give what all of them give, and nothing has joined.
 -- Assumes nothing.
 use Rattle.std.proofs.Common.{take, drop}
 use Rattle.watched.specs.Watched.{watched_of}

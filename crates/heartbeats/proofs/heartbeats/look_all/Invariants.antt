@@ -1,4 +1,6 @@
--- `heartbeats::heartbeats::look_all` meets its contract. The invariant: the first i nodes are looked at, as words and as nodes, and three behind the number carried is the soonest moment of theirs.
+-- `heartbeats::heartbeats::look_all` meets its contract. The invariant: the first i nodes are
+-- looked at, as words and as nodes, and three behind the number carried is the soonest moment of
+-- theirs.
 -- Assumes nothing.
 use Rattle.std.proofs.Common.{◌≡◌, ◌≤◌, map, take, drop}
 use Rattle.watched.specs.Watched.{watched_of}

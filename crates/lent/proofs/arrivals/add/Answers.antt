@@ -1,4 +1,5 @@
--- `lent::arrivals::add` meets its contract: the node's number, what was found of the run, its tests, and the walk that adds.
+-- `lent::arrivals::add` meets its contract: the node's number, what was found of the run, its
+-- tests, and the walk that adds.
 -- Assumes nothing.
 use mathlib.Core.Path.{sym, ◌∙◌}
 use Rattle.std.proofs.Common.{rules, ◌≡◌, Err, Some, None, refl}

@@ -1,4 +1,5 @@
--- `lent::arrivals::remove` meets its contract: by what was found of the run, its tests, and the walk that removes.
+-- `lent::arrivals::remove` meets its contract: by what was found of the run, its tests, and the
+-- walk that removes.
 -- Assumes nothing.
 use Rattle.std.proofs.Common.{rules, ◌≡◌, Err, Some, None, refl, arith}
 use Rattle.std.specs.Prelude.{true}

@@ -1,4 +1,5 @@
--- `lent::bits::bitmap` meets its contract: number 3 first, then the bits of the nodes in turn, then the count of the bits.
+-- `lent::bits::bitmap` meets its contract: WatchedNodes first, then the bits of the nodes in turn,
+-- then the count of the bits.
 -- Assumes nothing.
 use Rattle.std.proofs.Common.{rules, arith, ◌≡◌, Err, Some, None, refl, take, ◌∙◌}
 use Rattle.entries.specs.Ring.{listed}
@@ -24,7 +25,7 @@ pub loop-w-preserved : goal.loop-w-preserved
 loop-w-preserved c =
     let l = c.loop-w in
     let a = c.args in
-    c.set_bit.ensures ∙ turn (take a.number a.nodes.now) l.w-index _ l.bytes l.invariant refl (omega arith)
+    c.set_bit.ensures ∙ turn (take a.number a.nodes.now) l.w-index _ l.bytes l.invariant (omega arith) (omega arith)
 
 pub returns : goal.returns
 returns c =

@@ -1,4 +1,5 @@
--- `lent::bits::bitmap` meets its contract: after each turn the bytes are those of the nodes before this one.
+-- `lent::bits::bitmap` meets its contract: after each turn the bytes are those of the nodes before
+-- this one.
 -- Assumes nothing.
 use Rattle.std.proofs.Common.{◌≡◌}
 use Rattle.watched.specs.Watched.{watched_of}

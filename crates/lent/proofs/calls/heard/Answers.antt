@@ -1,4 +1,5 @@
--- `lent::calls::heard` meets its contract: by what was found of the run, its tests, and what a walk sets.
+-- `lent::calls::heard` meets its contract: by what was found of the run, its tests, and what a walk
+-- sets.
 -- Assumes nothing.
 use Rattle.std.proofs.Common.{rules, ◌≡◌, Err, Some, None, refl}
 use Rattle.std.specs.Prelude.{true}

@@ -1,4 +1,5 @@
--- `lent::calls::start` meets its contract: by whether the run is well formed, the fresh head, and what a walk sets.
+-- `lent::calls::start` meets its contract: by whether the run is well formed, the fresh head, and
+-- what a walk sets.
 -- Assumes nothing.
 use Rattle.std.proofs.Common.{rules, ◌≡◌, Err}
 use Rattle.lent.proofs.JudgedLaws.{start_done, start_refused}

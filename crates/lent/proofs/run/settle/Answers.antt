@@ -1,9 +1,11 @@
 -- `lent::run::settle` meets its contract: the loop is over the part that is watched.
 -- Assumes nothing.
-use Rattle.std.proofs.Common.{arith}
+use Prim.Native.Nat.{min}
+use Rattle.std.proofs.Common.{◌≡◌, length, arith}
 use Rattle.lent.proofs.SettleLaws.{settled_part}
 use Rattle.lent.proofs.run.settle.Goals as goal
 
 pub returns : goal.returns
 returns c =
-    settled_part c.args.setting c.args.nodes.now c.args.number c.loop-w.w-items c.min-watched.ensures (omega arith) c.loop-w.invariant
+    let few : c.min-watched.result ≡ min c.args.number (length c.args.nodes.now) = omega arith in
+    settled_part c.args.setting c.args.nodes.now c.args.number c.loop-w.w-items few (omega arith) c.loop-w.invariant

@@ -1,4 +1,5 @@
--- `lent::ticks::process_tick` meets its contract: numbers 3, 5 and 6 in this order, then the phases, what a walk sets, and the earliest moment.
+-- `lent::ticks::process_tick` meets its contract: its tests in their order, then the phases, what a
+-- walk sets, and the earliest moment.
 -- Assumes nothing.
 use mathlib.Core.Path.{sym, ap, ◌∙◌}
 use Rattle.std.proofs.Common.{rules, ◌≡◌, Err, Some, None}

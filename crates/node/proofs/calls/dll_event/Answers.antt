@@ -1,4 +1,5 @@
--- `node::calls::dll_event` meets its contract: the number is read, and the machine by value decides.
+-- `node::calls::dll_event` meets its contract: the number is read, and the machine by value
+-- decides.
 -- Assumes nothing.
 use mathlib.Core.Path.{sym, ◌∙◌}
 use Rattle.dll.specs.Dll as Dll

@@ -1,4 +1,5 @@
--- `node::range::soc_margin` meets its contract: the time is tried, and the elapsed time taken from the limit.
+-- `node::range::soc_margin` meets its contract: the time is tried, and the elapsed time taken from
+-- the limit.
 -- Assumes nothing.
 use Prim.Native.Nat.{ℕ}
 use mathlib.Core.Path.{◌≡◌, ap, ◌∙◌}

@@ -1,4 +1,5 @@
--- `start::start::begin` meets its contract: what it answers is what the tests say, in whatever order the code makes them.
+-- `start::start::begin` meets its contract: what it answers is what the tests say, in whatever
+-- order the code makes them.
 -- Assumes nothing.
 use mathlib.Core.Path.{◌≡◌, sym, ◌∙◌}
 use Rattle.std.proofs.Common.{rules, tests, Err}

@@ -1,4 +1,5 @@
--- `start::start::unheard` meets its contract. The invariant: the first i nodes are set, as words and as nodes.
+-- `start::start::unheard` meets its contract. The invariant: the first i nodes are set, as words
+-- and as nodes.
 -- Assumes nothing.
 use native.Mathlib.Omega.{arith}
 use Prim.Native.Nat.{◌<◌}

@@ -1,4 +1,5 @@
--- `start::start::unheard` meets its contract. The invariant: the first i nodes are set, as words and as nodes.
+-- `start::start::unheard` meets its contract. The invariant: the first i nodes are set, as words
+-- and as nodes.
 -- Assumes nothing.
 use Prim.Native.Nat.{◌≤◌}
 use mathlib.Core.Path.{◌≡◌}

@@ -1,4 +1,5 @@
--- `tick::soc::deal_all` meets its contract: an error that ends the tick ends the walk, or the next one follows.
+-- `tick::soc::deal_all` meets its contract: an error that ends the tick ends the walk, or the next
+-- one follows.
 -- Assumes nothing.
 use Rattle.types.specs.Errors.{reported}
 use Rattle.tick.proofs.Dealings.{walk_begins, walk_left, walk_on}

@@ -1,4 +1,5 @@
--- `tick::soc::deal_all` meets its contract. The invariant of the walk: what comes of the errors that are left comes of all.
+-- `tick::soc::deal_all` meets its contract. The invariant of the walk: what comes of the errors
+-- that are left comes of all.
 -- Assumes nothing.
 use Rattle.types.specs.Errors.{reported}
 use Rattle.tick.proofs.Dealings.{DealingIn}

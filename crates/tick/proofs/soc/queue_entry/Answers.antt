@@ -1,4 +1,5 @@
--- `tick::soc::queue_entry` meets its contract: the entry joins queue and history, or no byte is written.
+-- `tick::soc::queue_entry` meets its contract: the entry joins queue and history, or no byte is
+-- written.
 -- Assumes nothing.
 use mathlib.Core.Path.{ap, ap₂, ◌∙◌}
 use mathlib.Core.List.{List}

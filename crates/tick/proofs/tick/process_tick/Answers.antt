@@ -1,4 +1,4 @@
--- `tick::tick::process_tick` meets its contract: number 3, then by what the first look saw.
+-- `tick::tick::process_tick` meets its contract: WatchedNodes, then by what the first look saw.
 -- Assumes nothing.
 use mathlib.Core.Path.{◌≡◌, ap, ◌∙◌}
 use Rattle.std.proofs.Common.{rules}

@@ -1,4 +1,5 @@
--- `tick::tick::tick_roused` meets its contract: numbers 5 and 6, then the phases, the look and the earliest moment.
+-- `tick::tick::tick_roused` meets its contract: TimeLimit and BeforeHeard, then the phases, the
+-- look and the earliest moment.
 -- Assumes nothing.
 use mathlib.Core.Path.{sym, ◌∙◌}
 use mathlib.Core.Path.{◌≡◌}

@@ -1,4 +1,5 @@
--- `tick::tick::tick_still` meets its contract: number 5, then the deadline and the earliest moment.
+-- `tick::tick::tick_still` meets its contract: TimeLimit, then the deadline and the earliest
+-- moment.
 -- Assumes nothing.
 use mathlib.Core.Path.{◌≡◌}
 use Rattle.std.proofs.Common.{rules}

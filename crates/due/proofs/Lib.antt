@@ -1,0 +1,4 @@
+pub mod Walking
+pub mod Steps
+pub mod Waits
+pub mod Links
