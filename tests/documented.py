@@ -10,7 +10,7 @@ import sys
 
 CRATES = """types nmt dll counters entries head watched bitmap node partners start heartbeats tick
 due lentlaws lent calling trace forms shift shiftreport reach positions readings transitions
-counting entry_bytes chart examples""".split()
+counting entry_bytes chart examples script telling replay""".split()
 ROOT = pathlib.Path(__file__).resolve().parent.parent
 ITEM = re.compile(r'^ *pub(?:\(crate\))? (?:const |static |extern "C" )*(?:fn|struct|enum|trait|type|(?=[A-Z_]+:)) ?(\w+)')
 CONVERSION = re.compile(r'^ *impl\b.*\b(?:Try)?From<.* for (\w+)')

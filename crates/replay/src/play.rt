@@ -74,16 +74,12 @@ pub fn play<R: Read, W: Write>(
             return out.flush();
         }
         let said = station.play(read(without_newline(&line), &mut bytes));
-        let station = &station;
-        write!(
-            out,
-            "{}",
-            Printed {
-                said,
-                place,
-                station
-            }
-        )?;
+        let printed = Printed {
+            said,
+            place,
+            station: &station,
+        };
+        write!(out, "{printed}")?;
     }
     Err(io::Error::from(ErrorKind::InvalidInput))
 }

@@ -28,21 +28,30 @@ use watched::nodes::WatchedNode;
 pub struct Station {
     /// Whether a start was taken: before that no line reaches the head.
     pub started: bool,
+    /// The words of the head.
     pub head: Head,
+    /// The bytes of its emergency queue.
     pub queue: [u8; 640],
+    /// The bytes of its history.
     pub history: [u8; 5080],
+    /// The places of the run, also those that are not lent.
     pub run: [WatchedNode; 40],
+    /// How many of them are lent.
     pub places: usize,
+    /// How many nodes are watched.
     pub number: usize,
+    /// The bytes on the desk.
     pub desk: ArrayVec<u8, 100>,
 }
 
 /// What a line is answered.
 #[derive(Clone, Copy)]
 pub enum Said {
+    /// It prints nothing.
     Nothing,
     /// It can't be read, or can't be played where it stands.
     Unreadable,
+    /// A call was made, or something read.
     Reply(Reply),
     /// The station is shown.
     Show,
@@ -58,7 +67,9 @@ fn make_over_places(
     number: &mut usize,
     call: Call<'_>,
 ) -> Result<Answer, Refusal>
-    ensures made { Made (held head.old queue.old history.old (run_of (take places run.old) number.old)) call.entry result
+    ensures made { Made
+        (held head.old queue.old history.old (run_of (take places run.old) number.old))
+        call.entry result
         (held head.new queue.new history.new (run_of (take places run.new) number.new)) }
     ensures past { drop places run.new ≡ drop places run.old }
 {
@@ -74,7 +85,8 @@ fn start_over_places(
     number: usize,
     setup: Setup,
 ) -> Result<(), Refusal>
-    ensures started { StartedOn head.old (run_of (take places run.old) number) setup result head.new (run_of (take places run.new) number) }
+    ensures started { StartedOn head.old (run_of (take places run.old) number) setup result
+        head.new (run_of (take places run.new) number) }
     ensures past { drop places run.new ≡ drop places run.old }
 {
     start(head, &mut run[..places.min(40)], number, setup)
@@ -99,7 +111,8 @@ impl Said {
 
 impl Station {
     ghost use Rattle.telling.specs.Shows.{shown_text};
-    ghost use Rattle.replay.specs.Played.{station_text, fresh, Called, Began, Bits, Wrote, Quiet, watched_in, unwatched, lending, laid, takes, Plays};
+    ghost use Rattle.replay.specs.Played.{station_text, fresh, Called, Began, Bits, Wrote, Quiet};
+    ghost use Rattle.replay.specs.Played.{watched_in, unwatched, lending, laid, takes, Plays};
 
     /// Nothing has been started, lent or laid on the desk.
     pub fn new() -> Station

@@ -9,7 +9,7 @@ use Rattle.std.proofs.lemmas.Slice.Eq.{bytes_eq-Decides}
 use borrow.Author.Tests.{ltb-true}
 use Rattle.types.specs.Pick.{both, all_of}
 use Rattle.types.proofs.Tests.{both_first, both_second}
-use Rattle.script.specs.Words.{Reads, first_word, behind_word, only}
+use Rattle.script.specs.Reads.{Reads, first_word, behind_word, only}
 use Rattle.script.specs.Grammar.{Row, named, call_rows, call_named, line_rows, line_named, words_say}
 
 abbrev small : ℕ → Bool

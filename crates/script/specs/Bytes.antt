@@ -3,7 +3,7 @@
 use Rattle.std.specs.Prelude.{ℕ, zero, suc, ◌+◌, ◌*◌, ◌/◌, ◌%◌, ◌&&◌, ◌==◌, nat_lt, nat_le, if◌then◌else◌, Option, Some, None, option_map, option_and_then, List, [], ◌∷◌, ◌++◌, length, take, drop, codes}
 use Rattle.std.specs.Char.{digit_value}
 use Rattle.std.specs.Str.{bytes_eq}
-use Rattle.script.specs.Words.{Reads, ◌>>=◌, only, word, next_is, behind_next}
+use Rattle.script.specs.Reads.{Reads, ◌>>=◌, only, word, next_is, behind_next}
 
 -- the value of a hexadecimal digit
 abbrev pub digit_of : ℕ → Option ℕ

@@ -18,7 +18,7 @@ use Rattle.calling.specs.declared.Call.{Call}
 use Rattle.calling.specs.declared.Call.TheVariants as calls
 use Rattle.script.specs.declared.Line.{Line}
 use Rattle.script.specs.declared.Line.TheVariants as line
-use Rattle.script.specs.Words.{Reads, just, only, ◌>>=◌, optional, ends, first_word, behind_word, up_to, bits8, bits16, bits32, bits64, flag, object}
+use Rattle.script.specs.Reads.{Reads, just, only, ◌>>=◌, optional, ends, first_word, behind_word, up_to, bits8, bits16, bits32, bits64, flag, object}
 use Rattle.script.specs.Bytes.{history, desk_bytes, entry_bytes}
 
 -- what a line says: a `Line`, with its bytes themselves

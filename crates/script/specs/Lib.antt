@@ -1,3 +1,3 @@
-pub mod Words
+pub mod Reads
 pub mod Bytes
 pub mod Grammar

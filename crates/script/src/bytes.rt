@@ -1,7 +1,8 @@
-// Bytes that stand in a line as two hexadecimal digits each.
+//! Bytes that stand in a line as two hexadecimal digits each.
 ghost use Rattle.std.specs.Prelude.{◌≡◌, ◌+◌, ◌*◌, ◌/◌, ◌≤◌, length, option_map, option_copied};
-ghost use Rattle.script.specs.Words.{gives};
-ghost use Rattle.script.specs.Bytes.{byte_of, bytes_at, word_at, entries_at, filled, history, desk_bytes, entry_bytes};
+ghost use Rattle.script.specs.Reads.{gives};
+ghost use Rattle.script.specs.Bytes.{byte_of, bytes_at, word_at, entries_at, filled, history};
+ghost use Rattle.script.specs.Bytes.{desk_bytes, entry_bytes};
 
 use crate::LineBytes;
 use crate::words::Words;
@@ -47,7 +48,8 @@ fn read_word(word: &[u8], bytes: &mut LineBytes) -> Option<()>
 #[tactic(auto, using(crate::proofs::Reading::entries_goes, crate::proofs::Reading::entries_fails, crate::proofs::Reading::word_more), unfolding(crate::specs::Bytes::entries_at))]
 fn read_entries(text: &[u8], bytes: &mut LineBytes) -> Option<()>
     requires { length bytes.old.items + length text.now / 41 * 20 ≤ 6000 }
-    ensures { filled result bytes.new.items ≡ entries_at (length text.now / 41) text.now bytes.old.items }
+    ensures { filled result bytes.new.items
+        ≡ entries_at (length text.now / 41) text.now bytes.old.items }
 {
     for word in text.chunks_exact(41) {
         read_word(word, bytes)?;
@@ -56,10 +58,12 @@ fn read_entries(text: &[u8], bytes: &mut LineBytes) -> Option<()>
 }
 
 impl Words<'_> {
-    /// The history that a load may name, to the end of the line: up to 300 entries, each 40 digits behind a space.
+    /// The history that a load may name, to the end of the line: up to 300 entries, each 40 digits
+    /// behind a space.
     #[tactic(auto, unfolding(crate::specs::Bytes::history, crate::specs::Bytes::entries_of, crate::specs::Bytes::entries_at))]
     pub(crate) fn history<'a>(&mut self, bytes: &'a mut LineBytes) -> Option<Option<&'a [u8]>>
-        ensures { gives (option_map option_copied result) self.new.rest.now ≡ history self.old.rest.now }
+        ensures { gives (option_map option_copied result) self.new.rest.now
+            ≡ history self.old.rest.now }
     {
         if !self.take(b"history") {
             return Some(None);

@@ -1,7 +1,8 @@
-// What several words of a line are together.
+//! What several words of a line are together.
 ghost use Rattle.std.specs.Prelude.{◌≡◌};
-ghost use Rattle.script.specs.Words.{gives, optional, bits8, bits32, object};
-ghost use Rattle.script.specs.Grammar.{carries_byte, carried, error, watched, dictionary, thresholds, setup, update, entry_type, entry};
+ghost use Rattle.script.specs.Reads.{gives, optional, bits8, bits32, object};
+ghost use Rattle.script.specs.Grammar.{carries_byte, carried, error, watched, dictionary};
+ghost use Rattle.script.specs.Grammar.{thresholds, setup, update, entry_type, entry};
 
 use crate::words::Words;
 use calling::Call;

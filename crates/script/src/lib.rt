@@ -1,8 +1,9 @@
-// A line of a call script as the value that it says. docs/CALLS.md has the format, and specs/Grammar.antt a row for each of its lines.
+//! A line of a call script as the value that it says. docs/CALLS.md has the format, and
+//! specs/Grammar.antt a row for each of its lines.
 #![tactic(auto)]
 
 ghost use Rattle.std.specs.Prelude.{◌≡◌, option_map};
-ghost use Rattle.script.specs.Words.{gives};
+ghost use Rattle.script.specs.Reads.{gives};
 ghost use Rattle.script.specs.Grammar.{says, call_named, line_named, words_say, line_says};
 
 mod bytes;
@@ -17,10 +18,12 @@ use std::str;
 use watched::nodes::WatchedNode;
 use words::Words;
 
-/// The bytes that a line gives, lent to be read into: as many as the 300 entries have that a load may name.
+/// The bytes that a line gives, lent to be read into: as many as the 300 entries have that a load
+/// may name.
 pub type LineBytes = ArrayVec<u8, 6000>;
 
-/// What a line says. Any number of its width may stand in it; the calls refuse what they do not take.
+/// What a line says. Any number of its width may stand in it; the calls refuse what they do not
+/// take.
 #[derive(Clone, Copy)]
 pub enum Line<'a> {
     /// Nothing: the empty line, or a comment.
@@ -97,7 +100,8 @@ fn read_call<'a>(name: &str, words: &mut Words<'_>) -> Option<Call<'a>>
 // What a line says that begins with a name, with the words behind it.
 #[tactic(auto, unfolding(crate::specs::Grammar::line_named))]
 fn read_named<'a>(name: &str, words: &mut Words<'_>, bytes: &'a mut LineBytes) -> Option<Line<'a>>
-    ensures { gives (option_map says result) words.new.rest.now ≡ line_named name.now words.old.rest.now }
+    ensures { gives (option_map says result) words.new.rest.now
+        ≡ line_named name.now words.old.rest.now }
 {
     match name {
         "start" => Some(Line::Start(words.setup()?)),

@@ -1,15 +1,19 @@
-// The words of a line, each behind one space, and the numbers that they are.
+//! The words of a line, each behind one space, and the numbers that they are.
 ghost use Rattle.std.specs.Prelude.{◌≡◌, ◌≤◌, length, option_copied, IfSome};
-ghost use Rattle.script.specs.Words.{gives, word_length, first_word, behind_word, word, next_is, behind_next, ends, digit_behind, value_of, number_of, up_to, bits8, bits16, bits32, bits64, flag, object};
+ghost use Rattle.script.specs.Reads.{gives, word_length, first_word, behind_word, word, next_is};
+ghost use Rattle.script.specs.Reads.{behind_next, ends, digit_behind, value_of, number_of, up_to};
+ghost use Rattle.script.specs.Reads.{bits8, bits16, bits32, bits64, flag, object};
 
-/// The words of a line that are not read yet: nothing, or each behind its space. What is read leaves the rest.
+/// The words of a line that are not read yet: nothing, or each behind its space. What is read
+/// leaves the rest.
 #[derive(Clone, Copy)]
 pub(crate) struct Words<'a> {
+    /// What is left of the line.
     pub(crate) rest: &'a [u8],
 }
 
 // How many characters stand before the first space.
-#[tactic(auto, unfolding(crate::specs::Words::word_length))]
+#[tactic(auto, unfolding(crate::specs::Reads::word_length))]
 fn word_length(line: &[u8]) -> usize
     ensures { (result ≡ word_length line.now) × (result ≤ length line.now) }
 {
@@ -33,7 +37,7 @@ fn digit_behind(number: u64, digit: u8, base: u32) -> Option<u64>
 }
 
 // The number that the digits are; there has to be one.
-#[tactic(auto, unfolding(crate::specs::Words::value_from))]
+#[tactic(auto, unfolding(crate::specs::Reads::value_from))]
 fn value(digits: &[u8], base: u32) -> Option<u64>
     requires { (2 ≤ base) × (base ≤ 16) }
     ensures { result ≡ value_of base digits.now }
@@ -49,7 +53,7 @@ fn value(digits: &[u8], base: u32) -> Option<u64>
 }
 
 // The number that a word is: hexadecimal behind `0x`, or decimal.
-#[tactic(auto, unfolding(crate::specs::Words::number_of))]
+#[tactic(auto, unfolding(crate::specs::Reads::number_of))]
 fn number_of(word: &[u8]) -> Option<u64>
     ensures { result ≡ number_of word.now }
 {
@@ -102,7 +106,7 @@ impl<'a> Words<'a> {
     }
 
     /// A number of at most so much.
-    #[tactic(auto, unfolding(crate::specs::Words::up_to))]
+    #[tactic(auto, unfolding(crate::specs::Reads::up_to))]
     pub(crate) fn up_to(&mut self, most: u64) -> Option<u64>
         ensures read { gives result self.new.rest.now ≡ up_to most self.old.rest.now }
         ensures within { IfSome result (λ n. n ≤ most) }
@@ -111,24 +115,28 @@ impl<'a> Words<'a> {
         (number <= most).then_some(number)
     }
 
+    /// A number of 64 bits.
     pub(crate) fn bits64(&mut self) -> Option<u64>
         ensures { gives result self.new.rest.now ≡ bits64 self.old.rest.now }
     {
         self.up_to(u64::MAX)
     }
 
+    /// A number of 32 bits.
     pub(crate) fn bits32(&mut self) -> Option<u32>
         ensures { gives result self.new.rest.now ≡ bits32 self.old.rest.now }
     {
         Some(self.up_to(0xFFFF_FFFF)? as u32)
     }
 
+    /// A number of 16 bits.
     pub(crate) fn bits16(&mut self) -> Option<u16>
         ensures { gives result self.new.rest.now ≡ bits16 self.old.rest.now }
     {
         Some(self.up_to(0xFFFF)? as u16)
     }
 
+    /// A number of 8 bits.
     pub(crate) fn bits8(&mut self) -> Option<u8>
         ensures { gives result self.new.rest.now ≡ bits8 self.old.rest.now }
     {
@@ -143,7 +151,7 @@ impl<'a> Words<'a> {
     }
 
     /// A value of 32 bits, or `-`, a missing one.
-    #[tactic(auto, unfolding(crate::specs::Words::object))]
+    #[tactic(auto, unfolding(crate::specs::Reads::object))]
     pub(crate) fn object(&mut self) -> Option<Option<u32>>
         ensures { gives result self.new.rest.now ≡ object self.old.rest.now }
     {

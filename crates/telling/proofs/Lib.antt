@@ -1,2 +1,3 @@
-pub mod Entries
+pub mod Ascii
+pub mod EntriesShown
 pub mod Filled

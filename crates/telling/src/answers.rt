@@ -1,9 +1,11 @@
-// What a line is answered, as it is printed.
+//! What a line is answered, as it is printed.
 ghost use Rattle.std.specs.Prelude.{Some};
 ghost use Rattle.forms.specs.Hex.{hex_form};
-ghost use Rattle.telling.specs.Answers.{entered_text, restored_text, nmt_text, error_taken_text, answer_text, type_text, read_text, bitmap_text, told_text, reply_text};
+ghost use Rattle.telling.specs.Answers.{entered_text, restored_text, nmt_text, error_taken_text};
+ghost use Rattle.telling.specs.Answers.{answer_text, type_text, read_text, bitmap_text, told_text};
+ghost use Rattle.telling.specs.Answers.{reply_text};
 
-use crate::texts::{Bytes, EntryBytes, Flag};
+use crate::texts::{Digits, EntryBytes, Flag, text_of};
 use calling::Answer;
 use counters::counters::ErrorTaken;
 use entries::status_response::{EntryType, ErrorEntry};
@@ -13,7 +15,7 @@ use nmt::state_machine::{IndexRange, ResetSequence};
 use node::calls::NmtTaken;
 use node::range::SocVerdict;
 use std::fmt::Display;
-use std::{fmt, str};
+use std::fmt;
 use types::frame::error::kinds::DllErrorKind;
 use types::nmt::events::NmtStateCommand;
 use types::nmt::states::NmtState;
@@ -45,7 +47,7 @@ impl Display for Bitmap {
     ghost output = { λ x. Some (bitmap_text x) };
 
     fn fmt<W: fmt::Write>(&self, f: &mut fmt::Formatter<W>) -> fmt::Result {
-        write!(f, " (nodes {}){}", self.number, Bytes(&self.bytes))
+        write!(f, " (nodes {}) {}", self.number, Digits::of(&self.bytes))
     }
 }
 
@@ -106,7 +108,8 @@ impl Display for AnswerForm {
     }
 }
 
-// What an NMT event answers: a reset the states that it enters and the ranges to restore, any other its errors.
+// What an NMT event answers: a reset the states that it enters and the ranges to restore, any
+// other its errors.
 #[derive(Clone, Copy)]
 struct NmtForm(NmtTaken);
 
@@ -165,7 +168,7 @@ impl Display for Hex16 {
 
     fn fmt<W: fmt::Write>(&self, f: &mut fmt::Formatter<W>) -> fmt::Result {
         let digits = forms::hex4(u64::from(self.0));
-        f.write_str(str::from_utf8(&digits).map_err(|_| fmt::Error)?)
+        f.write_str(text_of(&digits))
     }
 }
 

@@ -1,6 +1,9 @@
-// The parts of a head as `show` prints them, each its own lines.
+//! The parts of a head as `show` prints them, each its own lines.
 ghost use Rattle.std.specs.Prelude.{Some};
-ghost use Rattle.telling.specs.Heads.{standing_text, identity_text, nmt_line, dll_line, counter_line, counter_lines, error_lines, moment_text, soc_line, object_text, objects_text, statistics_text, dictionary_line, each_text};
+ghost use Rattle.telling.specs.Heads.{standing_text, identity_text, nmt_line, dll_line};
+ghost use Rattle.telling.specs.Heads.{counter_line, counter_lines, error_lines, moment_text};
+ghost use Rattle.telling.specs.Heads.{soc_line, object_text, objects_text, statistics_text};
+ghost use Rattle.telling.specs.Heads.{dictionary_line, each_text};
 
 use crate::texts::Flag;
 use counters::counters::{ByKind, CnErrorCounters, ThresholdCounter};
@@ -49,7 +52,7 @@ impl Display for Identity {
 
 /// The state machine of the node's life.
 #[derive(Clone, Copy)]
-pub struct NmtLine(pub CnNmtStateMachine);
+pub(crate) struct NmtLine(pub(crate) CnNmtStateMachine);
 
 #[tactic(auto, unfolding(crate::specs::Heads::nmt_line))]
 impl Display for NmtLine {
@@ -62,7 +65,7 @@ impl Display for NmtLine {
 
 /// That of the cycle.
 #[derive(Clone, Copy)]
-pub struct DllLine(pub DllCsStateMachine);
+pub(crate) struct DllLine(pub(crate) DllCsStateMachine);
 
 #[tactic(auto, unfolding(crate::specs::Heads::dll_line))]
 impl Display for DllLine {
@@ -117,7 +120,7 @@ impl Display for CounterLines {
 
 /// The counters, and how often the link was lost.
 #[derive(Clone, Copy)]
-pub struct ErrorLines(pub CnErrorCounters);
+pub(crate) struct ErrorLines(pub(crate) CnErrorCounters);
 
 #[tactic(auto, unfolding(crate::specs::Heads::error_lines))]
 impl Display for ErrorLines {
@@ -135,7 +138,7 @@ impl Display for ErrorLines {
 
 /// A moment, in microseconds, or none.
 #[derive(Clone, Copy)]
-pub struct Moment(pub Option<u64>);
+pub(crate) struct Moment(pub(crate) Option<u64>);
 
 impl Display for Moment {
     ghost output = { λ x. Some (moment_text x.0) };
@@ -150,7 +153,7 @@ impl Display for Moment {
 
 /// The watch over the cycle.
 #[derive(Clone, Copy)]
-pub struct SocLine(pub SocWatch);
+pub(crate) struct SocLine(pub(crate) SocWatch);
 
 #[tactic(auto, unfolding(crate::specs::Heads::soc_line))]
 impl Display for SocLine {
@@ -222,7 +225,7 @@ impl Display for Statistics {
 
 /// The values of the dictionary.
 #[derive(Clone, Copy)]
-pub struct DictionaryLine(pub Dictionary);
+pub(crate) struct DictionaryLine(pub(crate) Dictionary);
 
 #[tactic(auto, unfolding(crate::specs::Heads::dictionary_line))]
 impl Display for DictionaryLine {
@@ -235,7 +238,7 @@ impl Display for DictionaryLine {
 
 /// A number of each of the seven counters, in the order of their lines.
 #[derive(Clone, Copy)]
-pub struct Each(pub ByKind<u32>);
+pub(crate) struct Each(pub(crate) ByKind<u32>);
 
 #[tactic(auto, unfolding(crate::specs::Heads::each_text))]
 impl Display for Each {

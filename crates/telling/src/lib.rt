@@ -1,7 +1,8 @@
-// What `replay` prints: what a line is answered, and what a head with its memory and its lent run shows. docs/CALLS.md has the forms, specs/ their bytes.
+//! What `replay` prints: what a line is answered, and what a head with its memory and its lent run
+//! shows. docs/CALLS.md has the forms, specs/ their bytes.
 #![tactic(auto)]
 
 pub mod answers;
-pub mod heads;
+mod heads;
 pub mod shows;
-pub mod texts;
+mod texts;

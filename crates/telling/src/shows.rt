@@ -1,10 +1,12 @@
-// What `show` prints.
+//! What `show` prints.
 ghost use Rattle.std.specs.Prelude.{◌≡◌, Some};
 ghost use Rattle.entries.specs.Queue.{waiting};
 ghost use Rattle.entries.specs.History.{history};
 ghost use Rattle.head.specs.Words.{errors_of};
 ghost use Rattle.telling.specs.Texts.{entries_text};
-ghost use Rattle.telling.specs.Shows.{queue_line, history_line, nodes_text, filled, run_lines, each_of, desk_line, head_lines, crossing_lines, threshold_line, shown_text};
+ghost use Rattle.telling.specs.Shows.{queue_line, history_line, nodes_text, filled, run_lines};
+ghost use Rattle.telling.specs.Shows.{each_of, desk_line, head_lines, crossing_lines};
+ghost use Rattle.telling.specs.Shows.{threshold_line, shown_text};
 
 use crate::heads::{DictionaryLine, DllLine, Each, ErrorLines, Moment, NmtLine, SocLine};
 use crate::texts::{Bytes, EntryBytes};
@@ -17,7 +19,8 @@ use std::fmt;
 use std::fmt::Display;
 use watched::nodes::WatchedNode;
 
-/// A head, the memory of its queue and its history, the run of watched nodes that is lent with its number, and the bytes on the desk.
+/// A head, the memory of its queue and its history, the run of watched nodes that is lent with its
+/// number, and the bytes on the desk.
 #[derive(Clone, Copy)]
 pub struct Shown<'a> {
     pub head: &'a Head,
@@ -134,7 +137,7 @@ impl Display for ThresholdLine<'_> {
 #[derive(Clone, Copy)]
 struct Waiting<'a>(EmergencyQueue, &'a [u8; 640]);
 
-#[tactic(auto, using(crate::proofs::Entries::entry_more, crate::proofs::Entries::entries_end, crate::proofs::Entries::waiting_end))]
+#[tactic(auto, using(crate::proofs::EntriesShown::entry_more, crate::proofs::EntriesShown::entries_end, crate::proofs::EntriesShown::waiting_end))]
 impl Display for Waiting<'_> {
     ghost output = { λ x. Some (entries_text (waiting x.1.now x.0)) };
 
@@ -172,7 +175,7 @@ impl Display for QueueLine<'_> {
 #[derive(Clone, Copy)]
 struct Past<'a>(ErrorHistory, &'a [u8; 5080]);
 
-#[tactic(auto, using(crate::proofs::Entries::entry_more, crate::proofs::Entries::entries_end, crate::proofs::Entries::history_end))]
+#[tactic(auto, using(crate::proofs::EntriesShown::entry_more, crate::proofs::EntriesShown::entries_end, crate::proofs::EntriesShown::history_end))]
 impl Display for Past<'_> {
     ghost output = { λ x. Some (entries_text (history x.1.now x.0)) };
 
@@ -230,7 +233,8 @@ fn filled(places: &[WatchedNode]) -> &[WatchedNode]
     filled
 }
 
-// The nodes watched; then how many places are lent, the number, and the places past it up to the last one that holds something.
+// The nodes watched; then how many places are lent, the number, and the places past it up to the
+// last one that holds something.
 #[derive(Clone, Copy)]
 struct RunLines<'a>(&'a [WatchedNode], usize);
 

@@ -1,6 +1,6 @@
 -- The number so far, with the digits that are left, is the whole.
 use Rattle.std.proofs.Common.{◌≡◌, drop}
-use Rattle.script.specs.Words.{value_from}
+use Rattle.script.specs.Reads.{value_from}
 use Rattle.script.proofs.words.value.Given as goal
 
 abbrev pub invariant-loop-digit : goal.invariant-loop-digit

@@ -1,7 +1,7 @@
 -- One entry more is written behind those before.
 use Rattle.std.proofs.Common.{rules}
 use Rattle.std.proofs.lemmas.Grind.{put_two}
-use Rattle.telling.proofs.Entries.{entry_more}
+use Rattle.telling.proofs.EntriesShown.{entry_more}
 use Rattle.telling.proofs.shows.PastDisplay.fmt.Goals as goal
 
 pub loop-place-preserved : goal.loop-place-preserved
