@@ -15,7 +15,10 @@ pub(crate) fn text_of(digits: &[u8]) -> &str
     requires { IsAscii digits.now }
     ensures { result.now ≡ digits.now }
 {
-    str::from_utf8(digits).unwrap()
+    let Ok(text) = str::from_utf8(digits) else {
+        unreachable!()
+    };
+    text
 }
 
 /// A mark: 1, or 0.
