@@ -8,8 +8,13 @@ crates=$(grep -c '^[a-z]' crates.txt)
 rt ci 2>&1 | tee target/ci.log | awk -v crates="$crates" '
     BEGIN { "date +%s" | getline begun; close("date +%s") }
     function so_far() { "date +%s" | getline now; close("date +%s"); return sprintf("%d:%02d", (now - begun) / 60, (now - begun) % 60) }
-    /^(fn|struct|enum|trait|impl|type|const) .*: proved$/ || /^(logic|statements|library|axioms|checked|crate|empty contracts|== )/ { next }
-    /^rt: [a-z0-9_]+ proved/ { printf "  %2d of %d crates, %s so far: %s\n", ++proved, crates, so_far(), substr($0, 5); fflush(); next }
+    /: proved( where its callers give what it asks)?$/ || /: note: |^note: / { next }
+    /^(logic|statements|library|axioms|checked|crate|empty contracts|linked|== )/ { next }
+    /^rt: [a-z0-9_]+ (proved|is kept)/ {
+        printf "  %2d of %d crates, %s so far: %s %s\n", ++proved, crates, so_far(), $2, /kept/ ? "as proved before" : "proved"
+        fflush()
+        next
+    }
     { print; fflush() }' || {
     echo "scripts/gate.sh: rt ci failed; its whole output is target/ci.log." >&2
     exit 1
