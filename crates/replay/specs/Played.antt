@@ -29,7 +29,6 @@ use Rattle.script.specs.declared.Line.TheVariants as line
 use Rattle.script.specs.Grammar.{says, line_says}
 use Rattle.telling.specs.declared.answers.Told.{Told}
 use Rattle.telling.specs.declared.answers.Told.TheVariants as told
-use Rattle.telling.specs.declared.answers.Reply.{Reply}
 use Rattle.telling.specs.declared.answers.Bitmap.{Bitmap}
 use Rattle.telling.specs.Texts.{joined}
 use Rattle.telling.specs.Answers.{reply_text}

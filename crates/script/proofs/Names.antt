@@ -1,13 +1,12 @@
 -- The names of the rows are text, so bytes that are no text are none of them.
 -- Assumes nothing.
-use Rattle.std.proofs.Common.{◌≡◌, ◌<◌, ◌∙◌, ℕ, Bool, true, false, List, [], ◌∷◌, Option, None, Some, option_and_then, option_map, refl, sym, ap, subst, nat_lt}
-use Rattle.std.specs.List.{list_all}
+use Rattle.std.proofs.Common.{◌≡◌, ℕ, Bool, true, false, List, [], ◌∷◌, None, refl, sym, subst, nat_lt}
 use Rattle.std.specs.Str.{IsUtf8, IsAscii, bytes_eq}
 use Rattle.std.proofs.lemmas.Str.{IsUtf8-from_ascii}
 use Rattle.std.proofs.lemmas.Str.Ascii.{IsAscii-nil, IsAscii-cons}
 use Rattle.std.proofs.lemmas.Slice.Eq.{bytes_eq-Decides}
 use borrow.Author.Tests.{ltb-true}
-use Rattle.types.specs.Pick.{both, all_of}
+use Rattle.types.specs.Pick.{all_of}
 use Rattle.types.proofs.Tests.{both_first, both_second}
 use Rattle.script.specs.Reads.{Reads, first_word, behind_word, only}
 use Rattle.script.specs.Grammar.{Row, named, call_rows, call_named, line_rows, line_named, words_say}

@@ -1,8 +1,8 @@
 -- Turns of the walks over digits and over entries.
 -- Assumes nothing.
-use Rattle.std.proofs.Common.{◌≡◌, ◌∙◌, ℕ, suc, ◌+◌, ◌/◌, List, [], ◌∷◌, ◌++◌, length, get_or, take_at, drop_at, Option, Some, None, option_and_then, ap, arith}
+use Rattle.std.proofs.Common.{◌≡◌, ◌∙◌, ℕ, suc, ◌+◌, ◌/◌, List, [], ◌∷◌, ◌++◌, length, get_or, take_at, drop_at, Some, None, option_and_then, ap, arith}
 use Rattle.std.proofs.lemmas.List.{length-append}
-use Rattle.script.specs.Bytes.{byte_of, bytes_at, word_at, entries_at, filled}
+use Rattle.script.specs.Bytes.{byte_of, bytes_at, word_at, entries_at}
 
 -- a turn of the walk over the pairs of digits
 two : (x t bs : List ℕ) (b : ℕ) → length x ≡ 2 → byte_of (get_or x 0 0) (get_or x 1 0) ≡ Some b → bytes_at t (bs ++ (b ∷ [])) ≡ bytes_at (x ++ t) bs

@@ -1,9 +1,8 @@
 -- The entries of a ring are written one after the other, by their indexes, until none is there.
 -- Assumes nothing.
-use Rattle.std.proofs.Common.{◌≡◌, ◌∙◌, ℕ, zero, suc, ◌+◌, ◌%◌, ◌≤◌, min, List, [], ◌∷◌, ◌++◌, length, take, Option, Some, None, refl, sym, ap, arith, add-one}
-use Rattle.std.specs.List.{flat_map}
+use Rattle.std.proofs.Common.{◌≡◌, ℕ, zero, suc, ◌+◌, ◌%◌, ◌≤◌, min, List, [], ◌∷◌, ◌++◌, take, Some, None, refl, ap, arith, add-one}
 use Rattle.std.proofs.lemmas.List.{flat_map_more, take_all as whole}
-use Rattle.entries.specs.Ring.{nth, entry_at, listed}
+use Rattle.entries.specs.Ring.{nth, entry_at}
 use Rattle.entries.specs.Queue.{waiting}
 use Rattle.entries.specs.History.{history}
 use Rattle.entries.specs.declared.status_response.ErrorEntry.{ErrorEntry}

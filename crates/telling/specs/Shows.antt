@@ -14,7 +14,6 @@ use Rattle.telling.specs.declared.shows.Shown.{Shown}
 use Rattle.head.specs.Places as at
 use Rattle.head.specs.Words.{nmt_of, dll_state, word, errors_of, soc_of, od_of, queue_of, history_of, earliest_of}
 use Rattle.watched.specs.declared.nodes.WatchedNode.{WatchedNode}
-use Rattle.watched.specs.Watched.{no_node}
 use Rattle.telling.specs.Texts.{joined, bytes_text, entries_text}
 use Rattle.telling.specs.Heads.{nmt_line, dll_line, error_lines, moment_text, soc_line, dictionary_line, each_text}
 

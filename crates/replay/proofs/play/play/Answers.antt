@@ -1,5 +1,5 @@
 -- A line more is played, and the end of the script.
-use Rattle.std.proofs.Common.{◌≡◌, ◌∙◌, ◌++◌, ◌<◌, List, ℕ, length, ap, subst, IfSome, vec_len, arith, rules}
+use Rattle.std.proofs.Common.{◌≡◌, ◌∙◌, ◌++◌, ◌<◌, List, ℕ, length, ap, subst, IfSome, arith}
 use Rattle.std.specs.Io.Buffered.{reader_remaining}
 use Rattle.std.specs.Io.BufRead.{strip_last, take_through}
 use Rattle.script.specs.Grammar.{line_says}

@@ -1,5 +1,5 @@
 -- The places that are lent are the first so many, before the call and after it.
-use Rattle.std.proofs.Common.{◌≡◌, ◌∙◌, ◌++◌, ℕ, min, List, length, take, drop, ap, sym, rules, arith}
+use Rattle.std.proofs.Common.{◌≡◌, ◌∙◌, ◌++◌, ℕ, min, length, take, drop, ap, sym, rules, arith}
 use Rattle.std.proofs.lemmas.List.{take_min, length-drop}
 use Rattle.replay.proofs.Lent.{front}
 use Rattle.replay.proofs.station.make_over_places.Goals as goal

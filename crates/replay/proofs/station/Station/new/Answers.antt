@@ -1,5 +1,5 @@
 -- No byte lies on the desk.
-use Rattle.std.proofs.Common.{ℕ, List, ap}
+use Rattle.std.proofs.Common.{ap}
 use Rattle.replay.specs.Played.{fresh, with_desk}
 use Rattle.replay.proofs.station.Station.new.Goals as goal
 
