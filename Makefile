@@ -17,7 +17,7 @@ help:
 	@echo "                     'make compare SEEDS=\"1 2\" CALLS=200000' makes fewer)"
 	@echo "make compare-oracle  call scripts on the original Rust (the same needs)"
 	@echo "make wireshark       entries, codes, commands and flags beside Wireshark (needs tshark)"
-	@echo "target/bin/replay <SCRIPT   plays an own script, after make run (docs/CALLS.md)"
+	@echo "target/bin/replay SCRIPT    plays an own script, after make run (docs/CALLS.md)"
 
 kit:
 	@command -v rt >/dev/null || { echo "The Rattle kit is missing: its command rt has to be on the path." >&2; exit 1; }

@@ -51,7 +51,8 @@ report() {
 # Gives the script $1.txt to both.
 compare() {
     "$oracle" replay <"$1.txt" >"$1.oracle"
-    "$replay" <"$1.txt" >"$1.replay"
+    # Status 1: the script has a line that can't be read, as intended.
+    "$replay" <"$1.txt" >"$1.replay" || [ $? -eq 1 ]
     cmp -s "$1.oracle" "$1.replay" || report "$1"
 }
 

@@ -4,7 +4,8 @@ set -eu
 cd "$(dirname "${BASH_SOURCE[0]}")/.."
 script=$1
 shift
-"${@:-target/bin/replay}" <"$script" >target/run.out
+# Status 1: a line of the script can't be read; its answer says so.
+"${@:-target/bin/replay}" <"$script" >target/run.out || [ $? -eq 1 ]
 # A comment, an empty line, a run and a desk answer nothing. `show` answers its first form and those behind it up to the next answer, which begins with one of four words.
 awk -v answers=target/run.out '
     function more() {

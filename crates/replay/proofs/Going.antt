@@ -1,33 +1,45 @@
 -- How a script goes on: what is printed of the rest follows what was printed before.
 -- Assumes nothing.
-use Rattle.std.proofs.Common.{◌≡◌, ◌<◌, ℕ, ◌+◌, List, [], ◌∷◌, ◌++◌, length, Option, Some, None, sym, ap, subst, ◌∙◌, append_assoc, append-nil, arith, IfSome, OnOk, Result, Ok, Err}
+use Rattle.std.proofs.Common.{◌≡◌, ◌<◌, ℕ, Bool, true, false, ◌&&◌, refl, ◌+◌, List, [], ◌∷◌, ◌++◌, length, Option, Some, None, sym, ap, subst, ◌∙◌, append_assoc, append-nil, arith, IfSome}
 use Rattle.std.specs.Io.BufRead.{first_piece, strip_last, take_through, drop_through, DropsThrough}
 use Rattle.std.specs.Io.KnownBytes.{Appends, Keeps, IsAtEnd}
 use Rattle.script.specs.declared.Line.{Line}
 use Rattle.script.specs.Grammar.{says, line_says}
 use Rattle.replay.specs.declared.station.Station.{Station}
 use Rattle.replay.specs.declared.station.Said.{Said}
-use Rattle.replay.specs.Played.{fresh, said_text, Plays, Script, ended, goes as next_line}
+use Rattle.replay.specs.Played.{fresh, said_text, is_played, Plays, Script, ended, goes as next_line}
 
--- the station, the place and the bytes that are left, of a script of which a text was printed so far
-pub record Going (bs : List ℕ) (x : Station) (n : ℕ) (rest text : List ℕ) : Type 0 where
-  pub goes : (page : List ℕ) → Script x n rest page → Script fresh 1 bs (text ++ page)
+-- the station, the place and the bytes that are left, of a script of which a text was printed so far, and whether each line of it could be played
+pub record Going (bs : List ℕ) (x : Station) (n : ℕ) (rest text : List ℕ) (played : Bool) : Type 0 where
+  pub goes : (page : List ℕ) (whole : Bool) → Script x n rest page whole → Script fresh 1 bs (text ++ page) (played && whole)
 
-pub begins : (bs : List ℕ) → Going bs fresh 1 bs []
-begins bs = record { goes = λ page s. s }
+pub begins : (bs : List ℕ) → Going bs fresh 1 bs [] true
+begins bs = record { goes = λ page whole s. s }
+
+and_behind : (a b c : Bool) → (a && b) && c ≡ a && (b && c)
+and_behind true b c = refl
+and_behind false b c = refl
+
+and_true : (a : Bool) → a && true ≡ a
+and_true true = refl
+and_true false = refl
 
 pub goes_on :
-    {bs rest text : List ℕ} {x y : Station} {n : ℕ} (l : Line) (o : Said) →
-    Going bs x n rest text → 0 < length rest → says l ≡ line_says (first_piece 10 rest) → Plays l x o y →
-    Going bs y (n + 1) (drop_through 10 rest) (text ++ said_text o n y)
-goes_on {bs} {rest} {text} {x} {y} {n} l o g more reads plays =
+    {bs rest text : List ℕ} {x y : Station} {n : ℕ} {played : Bool} (l : Line) (o : Said) →
+    Going bs x n rest text played → 0 < length rest → says l ≡ line_says (first_piece 10 rest) → Plays l x o y →
+    Going bs y (n + 1) (drop_through 10 rest) (text ++ said_text o n y) (played && is_played o)
+goes_on {bs} {rest} {text} {x} {y} {n} {played} l o g more reads plays =
     record {
-      goes = λ page s.
-          subst (Script fresh 1 bs) (sym (append_assoc text (said_text o n y) page)) (g.goes (said_text o n y ++ page) (next_line l o more reads plays s));
+      goes = λ page whole s.
+          subst (λ (b : Bool). Script fresh 1 bs ((text ++ said_text o n y) ++ page) b) (sym (and_behind played (is_played o) whole))
+          (subst (λ (xs : List ℕ). Script fresh 1 bs xs (played && (is_played o && whole))) (sym (append_assoc text (said_text o n y) page))
+          (g.goes (said_text o n y ++ page) (is_played o && whole) (next_line l o more reads plays s)));
     }
 
-pub all_of_it : {bs text : List ℕ} {x : Station} {n : ℕ} → Going bs x n [] text → Script fresh 1 bs text
-all_of_it {bs} {text} g = subst (Script fresh 1 bs) (append-nil text) (g.goes [] ended)
+pub all_of_it : {bs text : List ℕ} {x : Station} {n : ℕ} {played : Bool} → Going bs x n [] text played → Script fresh 1 bs text played
+all_of_it {bs} {text} {x} {n} {played} g =
+    subst (λ (b : Bool). Script fresh 1 bs text b) (and_true played)
+    (subst (λ (xs : List ℕ). Script fresh 1 bs xs (played && true)) (append-nil text) (g.goes [] true ended))
 
 -- bytes that join those before
 pub none_joins : (known : Option (List ℕ)) → Appends known known []
@@ -47,18 +59,19 @@ keeps (Some xs) (Some ys) None s p q = absurd q
 keeps (Some xs) (Some ys) (Some zs) s p q = q ∙ p
 
 -- The same of a reader with bytes left, and a writer.
-pub record Goes (bs : List ℕ) (left : Option (List ℕ)) (x : Station) (n : ℕ) (before now : Option (List ℕ)) : Type 0 where
+pub record Goes (bs : List ℕ) (left : Option (List ℕ)) (x : Station) (n : ℕ) (played : Bool) (before now : Option (List ℕ)) : Type 0 where
   pub rest : List ℕ
   pub text : List ℕ
   pub left_is : left ≡ Some rest
   pub written : Appends before now text
-  pub going : Going bs x n rest text
+  pub going : Going bs x n rest text played
 
-module _ (x : Station) (n : ℕ) (before : Option (List ℕ)) where
+module _ (x : Station) (n : ℕ) (played : Bool) (before : Option (List ℕ)) where
   -- a line more was played, and what it prints written
   pub next :
-      (first left left' now now' now'' : Option (List ℕ)) (read : List ℕ) (l : Line) (o : Said) (y : Station) →
-      IfSome first (λ bs. Goes bs left x n before now) →
+      (first left left' now now' now'' : Option (List ℕ)) (read : List ℕ) (l : Line) (o : Said) (y : Station) (told : Bool) →
+      told ≡ is_played o →
+      IfSome first (λ bs. Goes bs left x n played before now) →
       Keeps now now' →
       IfSome left (λ xs. read ≡ take_through 10 xs) →
       DropsThrough left left' 10 →
@@ -66,9 +79,9 @@ module _ (x : Station) (n : ℕ) (before : Option (List ℕ)) where
       says l ≡ line_says (strip_last 10 read) →
       Plays l x o y →
       Appends now' now'' (said_text o n y) →
-      IfSome first (λ bs. Goes bs left' y (n + 1) before now'')
-  next None left left' now now' now'' read l o y g k t d more s p a = tt
-  next (Some bs) left left' now now' now'' read l o y g k t d more s p a =
+      IfSome first (λ bs. Goes bs left' y (n + 1) (played && told) before now'')
+  next None left left' now now' now'' read l o y told e g k t d more s p a = tt
+  next (Some bs) left left' now now' now'' read l o y told e g k t d more s p a =
       let piece : read ≡ take_through 10 g.rest = rw g.left_is at t in
       let behind : left' ≡ Some (drop_through 10 g.rest) = rw g.left_is at d in
       record {
@@ -76,7 +89,8 @@ module _ (x : Station) (n : ℕ) (before : Option (List ℕ)) where
         text = g.text ++ said_text o n y;
         left_is = behind;
         written = joins before now' now'' g.text (said_text o n y) (keeps before now now' g.text g.written k) a;
-        going = goes_on l o g.going (some_left g.rest read piece more) (s ∙ ap (λ (cs : List ℕ). line_says (strip_last 10 cs)) piece) p;
+        going = subst (λ (b : Bool). Going bs y (n + 1) (drop_through 10 g.rest) (g.text ++ said_text o n y) (played && b)) (sym e)
+            (goes_on l o g.going (some_left g.rest read piece more) (s ∙ ap (λ (cs : List ℕ). line_says (strip_last 10 cs)) piece) p);
       }
     where
       some_left : (xs read : List ℕ) → read ≡ take_through 10 xs → 0 < length read → 0 < length xs
@@ -85,17 +99,16 @@ module _ (x : Station) (n : ℕ) (before : Option (List ℕ)) where
 
   -- nothing is left
   pub finish :
-      {E : Type 0} (r : Result (Unit {0}) E) (first left now now' now'' : Option (List ℕ)) →
-      IfSome first (λ bs. Goes bs left x n before now) →
+      (first left now now' now'' : Option (List ℕ)) →
+      IfSome first (λ bs. Goes bs left x n played before now) →
       IsAtEnd left →
       Keeps now now' →
       Keeps now' now'' →
-      OnOk r (IfSome first (λ bs. (page : List ℕ) × Script fresh 1 bs page × Appends before now'' page))
-  finish (Err e) first left now now' now'' g z k k' = tt
-  finish (Ok u) None left now now' now'' g z k k' = tt
-  finish (Ok u) (Some bs) left now now' now'' g z k k' =
+      IfSome first (λ bs. (page : List ℕ) × Script fresh 1 bs page played × Appends before now'' page)
+  finish None left now now' now'' g z k k' = tt
+  finish (Some bs) left now now' now'' g z k k' =
       let none : g.rest ≡ [] = rw g.left_is at z in (
         g.text,
-        all_of_it (subst (λ (rest : List ℕ). Going bs x n rest g.text) none g.going),
+        all_of_it (subst (λ (rest : List ℕ). Going bs x n rest g.text played) none g.going),
         keeps before now' now'' g.text (keeps before now now' g.text g.written k) k',
       )

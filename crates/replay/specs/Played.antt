@@ -1,6 +1,6 @@
 -- What the lines of a script do on a station, and what they print.
 -- Assumes nothing.
-use Rattle.std.specs.Prelude.{ℕ, ◌≡◌, ◌+◌, ◌<◌, length, Bool, true, false, nat_lt, max, min, if◌then◌else◌, Option, Some, None, MatchBool, MatchOption, MatchResult, List, [], ◌∷◌, ◌++◌, take, drop, set, replicate, codes}
+use Rattle.std.specs.Prelude.{ℕ, ◌≡◌, ◌+◌, ◌<◌, length, Bool, true, false, ◌&&◌, nat_lt, max, min, if◌then◌else◌, Option, Some, None, MatchBool, MatchOption, MatchResult, List, [], ◌∷◌, ◌++◌, take, drop, set, replicate, codes}
 use Rattle.std.specs.Fmt.{decimal}
 use Rattle.std.specs.Io.BufRead.{first_piece, drop_through}
 use Rattle.std.specs.declared.result.Result.{Result}
@@ -207,13 +207,19 @@ said_text said.Unreadable n x = joined (codes "(unreadable " ∷ decimal n ∷ c
 said_text (said.Reply r) n x = reply_text r.0
 said_text said.Show n x = station_text x
 
--- The bytes of a script from a place on, and what is printed of them: each line up to its newline, or to the end, on the station that the last one left.
-pub data Script : Station → ℕ → List ℕ → List ℕ → Type 0 where
-  ended : {x : Station} {n : ℕ} → Script x n [] []
+-- whether a line could be read and played
+abbrev pub is_played : Said → Bool
+is_played said.Unreadable = false
+is_played o = true
+
+-- The bytes of a script from a place on, what is printed of them, and whether each line could be played: each line up to its newline, or to the end, on the station
+-- that the last one left.
+pub data Script : Station → ℕ → List ℕ → List ℕ → Bool → Type 0 where
+  ended : {x : Station} {n : ℕ} → Script x n [] [] true
   goes :
-      {x y : Station} {n : ℕ} {bs page : List ℕ} (l : Line) (o : Said) →
+      {x y : Station} {n : ℕ} {bs page : List ℕ} {whole : Bool} (l : Line) (o : Said) →
       0 < length bs →
       says l ≡ line_says (first_piece 10 bs) →
       Plays l x o y →
-      Script y (n + 1) (drop_through 10 bs) page →
-      Script x n bs (said_text o n y ++ page)
+      Script y (n + 1) (drop_through 10 bs) page whole →
+      Script x n bs (said_text o n y ++ page) (is_played o && whole)

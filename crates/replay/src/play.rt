@@ -1,5 +1,5 @@
 //! A script is played line by line, and what each line prints is written.
-ghost use Rattle.std.specs.Prelude.{◌≡◌, ℕ, List, Some, OnOk, IfSome};
+ghost use Rattle.std.specs.Prelude.{◌≡◌, ℕ, List, Some, IfOk, IfSome};
 ghost use Rattle.std.specs.Io.Buffered.{reader_remaining};
 ghost use Rattle.std.specs.Io.BufRead.{strip_last};
 ghost use Rattle.std.specs.Io.KnownBytes.{Appends, Keeps};
@@ -54,26 +54,30 @@ fn flush_before_reading<R: Read, W: Write>(script: &BufReader<R>, out: &mut W) -
 }
 
 /// Plays a script to its end, and writes what each line prints. What is printed is flushed before
-/// more of the script is read.
+/// more of the script is read. Answers whether each line could be read and played; an error is that
+/// of the reader, of the writer, or of memory.
 pub fn play<R: Read, W: Write>(
     alloc: Global,
     script: &mut BufReader<R>,
     out: &mut W,
-) -> io::Result<()>
-    ensures { OnOk result (IfSome (reader_remaining R.remaining script.old)
-        (λ bytes. (page : List ℕ) × Script fresh 1 bytes page
+) -> io::Result<bool>
+    ensures { IfOk result (λ played. IfSome (reader_remaining R.remaining script.old)
+        (λ bytes. (page : List ℕ) × Script fresh 1 bytes page played
         × Appends (W.contents out.old) (W.contents out.new) page)) }
 {
     let mut station = Station::new();
     let mut line = Vec::new(alloc);
     let mut bytes = LineBytes::new();
+    let mut all_played = true;
     for place in 1..u64::MAX {
         flush_before_reading(script, out)?;
         line.clear();
         if script.read_until(b'\n', &mut line)? == 0 {
-            return out.flush();
+            out.flush()?;
+            return Ok(all_played);
         }
         let said = station.play(read(without_newline(&line), &mut bytes));
+        all_played &= said.is_played();
         let printed = Printed {
             said,
             place,

@@ -57,6 +57,17 @@ pub enum Said {
     Show,
 }
 
+impl Said {
+    ghost use Rattle.replay.specs.Played.{is_played};
+
+    /// Whether the line could be read and played.
+    pub fn is_played(&self) -> bool
+        ensures { result ≡ is_played self.now }
+    {
+        !matches!(self, Said::Unreadable)
+    }
+}
+
 // A call that is lent the first so many of some places.
 fn make_over_places(
     head: &mut Head,
