@@ -5,12 +5,25 @@ set -euo pipefail
 cd "$(dirname "${BASH_SOURCE[0]}")/.."
 mkdir -p target
 crates=$(grep -c '^[a-z]' crates.txt)
-rt ci 2>&1 | tee target/ci.log | awk -v crates="$crates" '
-    BEGIN { "date +%s" | getline begun; close("date +%s") }
-    function so_far() { "date +%s" | getline now; close("date +%s"); return sprintf("%d:%02d", (now - begun) / 60, (now - begun) % 60) }
-    /^(fn|struct|enum|trait|impl|type|const) .*: proved$/ || /^(logic|statements|library|axioms|checked|crate|empty contracts|== )/ { next }
-    /^rt: [a-z0-9_]+ proved/ { printf "  %2d of %d crates, %s so far: %s\n", ++proved, crates, so_far(), substr($0, 5); fflush(); next }
-    { print; fflush() }' || {
+
+# What rt ci tells of each function, library and link is left out.
+progress() {
+    local line proved=0 begun=$SECONDS
+    while IFS= read -r line; do
+        case $line in
+        *': proved' | *': proved where its callers give what it asks' | *': note: '* | 'note: '*) ;;
+        'logic'* | 'statements '* | 'library '* | 'axioms '* | 'checked '* | 'crate '* | 'empty contracts'* | 'linked '* | '== '*) ;;
+        'rt: '*' proved' | 'rt: '*' is kept'*)
+            proved=$((proved + 1))
+            line=${line#rt: }
+            printf '  %2d of %d crates, %d:%02d so far: %s\n' "$proved" "$crates" $(((SECONDS - begun) / 60)) $(((SECONDS - begun) % 60)) "${line%%:*}"
+            ;;
+        *) printf '%s\n' "$line" ;;
+        esac
+    done
+}
+
+rt ci 2>&1 | tee target/ci.log | progress || {
     echo "scripts/gate.sh: rt ci failed; its whole output is target/ci.log." >&2
     exit 1
 }

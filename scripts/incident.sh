@@ -1,5 +1,5 @@
 #!/usr/bin/env bash
-# The accident that document 02, No. 7 rules out, to be seen: plays incident.txt through `replay` and, where cargo and the Rust source are at hand, through the
+# The accident that RULES 4.5 rules out, to be seen: plays incident.txt through `replay` and, where cargo and the Rust source are at hand, through the
 # original as it is, whose resets forget nothing, and says at which line the two part. Ends with 1 where they do not part as they should.
 set -euo pipefail
 cd "$(dirname "${BASH_SOURCE[0]}")/.."

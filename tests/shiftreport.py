@@ -1,5 +1,5 @@
 #!/usr/bin/env python3
-"""Runs target/bin/shiftreport (document 02, No. 11) on stored and on generated inputs.
+"""Runs target/bin/shiftreport (RULES 11.2) on stored and on generated inputs.
 
 tests/shiftreport.py            the stored cases, then 400 generated inputs beside a second implementation, then what fails
 tests/shiftreport.py SEED N     other generated inputs

@@ -1,7 +1,7 @@
 //! Prints what the original Rust reads in patterns of 20 bytes and writes of that, what it reads at
 //! places of a longer one, and the error history while entries join it, one form a line. Every answer
 //! is computed by calling the original code; what stands from a place on, and that nothing does past
-//! the end, is taken from document 02.
+//! the end, is taken from docs/RULES.md.
 
 mod generator;
 

@@ -1,6 +1,6 @@
 //! Prints every position (NMT state, enabled, ready) that the original machine reaches by its 19
 //! events and withdrawals, with the least number of steps, one form a line. By hand behind the
-//! original: a reset clears the readiness (document 02, No. 7), and a withdrawal, which the original
+//! original: a reset clears the readiness (RULES 4.5), and a withdrawal, which the original
 //! has not, clears it everywhere but at ReadyToOperate, where it is refused and so no step.
 
 mod forms;

@@ -1,5 +1,5 @@
 //! What a reset does: the states that it enters and the index ranges that it restores; and what
-//! document 02, No. 7 lets it forget, which the original does not.
+//! RULES 4.5 lets it forget, which the original does not.
 //!
 //! States: the original default method `reset` runs on a machine of ours that keeps each state that
 //! `set_state` gets.
@@ -171,7 +171,7 @@ pub fn is_reset(event: NmtEvent) -> bool {
     )
 }
 
-/// Document 02, No. 7, of the NMT machine: a reset event clears the readiness, which the original
+/// RULES 4.5, of the NMT machine: a reset event clears the readiness, which the original
 /// leaves. Set by hand behind the event.
 pub fn forget_readiness(machine: &mut CnNmtStateMachine, event: NmtEvent) {
     if is_reset(event) {

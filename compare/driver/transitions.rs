@@ -1,6 +1,6 @@
 //! Prints what the original Rust does at every pair of its two state machines, one form a line. Every
 //! answer is computed by calling the original code, but for the readiness behind a reset, which is
-//! cleared by hand (document 02, No. 7).
+//! cleared by hand (RULES 4.5).
 
 mod forms;
 mod reset;

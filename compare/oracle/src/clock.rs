@@ -1,4 +1,4 @@
-//! A clock known within a range (document 02, No. 13). The original has no such call: the answers come from the document's
+//! A clock known within a range (RULES 7.10). The original has no such call: the answers come from the rule's
 //! sentences, in numbers of 128 bits.
 
 /// Of the SoC watch: the last SoC time and the limit, in µs.
@@ -8,13 +8,13 @@ pub struct Watch {
 }
 
 impl Watch {
-    /// "limit minus elapsed"; elapsed is at least 0.
+    /// The limit less what has elapsed, which is at least 0.
     pub fn margin(&self, reading: u64) -> i128 {
         let elapsed = (i128::from(reading) - i128::from(self.last_soc)).max(0);
         i128::from(self.limit) - elapsed
     }
 
-    /// "lost if every reading from one to the other, both included, is a loss, kept if none is, else open": by how many
+    /// Lost where all readings from one to the other are losses, kept where none is: by how many
     /// readings there are, and how many of them are losses.
     pub fn verdict(&self, earliest: u64, latest: u64) -> &'static str {
         let first_loss = i128::from(self.last_soc) + i128::from(self.limit) + 1;

@@ -289,7 +289,7 @@ pub struct Coverage {
     passed_over: u64,
     shows: u64,
     run_lines: u64,
-    /// Of document 02, No. 1.
+    /// Of RULES 8.
     arrivals: Arrivals,
 }
 

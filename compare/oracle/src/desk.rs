@@ -1,6 +1,6 @@
-//! The desk's buffer (document 02, No. 4): its calls, by the original's own `serialize` and
+//! The desk's buffer (RULES 9): its calls, by the original's own `serialize` and
 //! `deserialize`. The original writes an entry at no place and refuses none, so the place and the two
-//! refusals are computed here, from the document.
+//! refusals are computed here, from the rules.
 
 use crate::forms;
 use crate::head::Answer;

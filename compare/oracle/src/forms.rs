@@ -171,21 +171,21 @@ fn queue(context: &CnContext) -> String {
     named_form("queue", std::iter::once(capacity).chain(entries))
 }
 
-/// The cumulative values of the original (document 02, No. 3).
+/// The cumulative values of the original (RULES 6.2).
 fn crossings(context: &CnContext) -> String {
     let counters = seven(&context.dll_error_manager.counters);
     let crossings = counters.map(|counter| counter.cumulative_count().to_string());
     named_form("crossings", crossings.into_iter())
 }
 
-/// As the original's counters hold them (document 02, No. 6).
+/// As the original's counters hold them (RULES 6.1).
 fn thresholds(context: &CnContext) -> String {
     let counters = seven(&context.dll_error_manager.counters);
     let thresholds = counters.map(|counter| threshold(counter).to_string());
     named_form("thresholds", thresholds.into_iter())
 }
 
-/// What `show` tells of the run beside the nodes watched (document 02, No. 1).
+/// What `show` tells of the run beside the nodes watched (RULES 8).
 fn lent(run: &Run) -> String {
     let (places, number) = (run.places(), run.number());
     let rest = named_form("rest", run.rest().iter().map(watched));

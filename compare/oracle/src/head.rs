@@ -1,4 +1,4 @@
-//! A head on top of the original `CnContext`, and its calls. Document 01's refusals stand in front
+//! A head on top of the original `CnContext`, and its calls. The refusals stand in front
 //! of the original code, in their order: a call that is declined does not reach it.
 
 use crate::clock::Watch;
@@ -41,7 +41,7 @@ const TOLERANCE_IF_MISSING: u32 = 100_000;
 /// What a reset does beside what the original's does.
 #[derive(Debug, Clone, Copy, PartialEq, Eq)]
 pub enum Resets {
-    /// It forgets, as document 02, No. 7 asks for.
+    /// It forgets, as RULES 4.5 asks for.
     Forget,
     /// Nothing.
     AsTheOriginal,
@@ -324,8 +324,8 @@ impl Head {
     }
 }
 
-/// Document 02, No. 7: "Every reset event now also clears the readiness, the deadline and the SoC
-/// check, and puts the DLL machine at NonCyclic." The original leaves these four, so they are set by
+/// What a reset forgets (RULES 4.5): readiness, deadline and SoC check, and the DLL machine is at
+/// NonCyclic. The original leaves these four, so they are set by
 /// hand behind an event that its NMT machine was given. Nothing else is touched. The events that a
 /// tick gives by itself, Error and Timeout, are no resets.
 fn forget(context: &mut CnContext, event: NmtEvent) {

@@ -1,9 +1,9 @@
 //! The oracle of the comparison: reads a call script (docs/CALLS.md), drives the original Rust and
-//! prints what the script's calls answer. Behind each reset it sets by hand what document 02, No. 7
+//! prints what the script's calls answer. Behind each reset it sets by hand what RULES 4.5
 //! lets a reset forget. Behind `cumulative` stand the errors that reached a counter of the original,
-//! and its own cumulative values are the crossings (document 02, No. 3). Thresholds that a start names
-//! are given to its counters (No. 6). The run of watched nodes is set as its heartbeat consumers, which an
-//! add and a removal change (No. 1).
+//! and its own cumulative values are the crossings (RULES 6.2). Thresholds that a start names
+//! are given to its counters (RULES 6.1). The run of watched nodes is set as its heartbeat consumers, which an
+//! add and a removal change (RULES 8).
 //!
 //!     oracle [replay] < SCRIPT     the answers
 //!     oracle original < SCRIPT     the answers of the original as it is, whose resets forget nothing

@@ -1,7 +1,7 @@
 //! The watched nodes of the original, its heartbeat consumers, and the calls that add and remove one, write them as bits
-//! (document 02, No. 1). The run is lent from outside: at each call that is lent it the consumers are set from the records
+//! (RULES 8). The run is lent from outside: at each call that is lent it the consumers are set from the records
 //! up to the number watched, and what they are behind it is given back. The original has no earliest moment, no bits and
-//! no limit of 32; these are computed here from the document.
+//! no limit of 32; these are computed here from the rules.
 
 use crate::forms;
 use crate::head::{Answer, Head, LAST_TIME, try_node};
@@ -14,7 +14,7 @@ use std::collections::BTreeMap;
 /// Timeout and last heard of each node, as the original keeps them.
 pub type Consumers = BTreeMap<NodeId, (u64, u64)>;
 
-/// Number 3: the run has 32 places and a number that they hold; "the places past that number are not tried".
+/// Number 3: the run has 32 places and a number that they hold; the places past it are not tried.
 pub fn try_run(run: &Run) -> Result<&[Watched], u8> {
     let watched = run.watched();
     let sound = run.places() == PLACES
@@ -42,14 +42,14 @@ fn records(consumers: &Consumers) -> Vec<Watched> {
     consumers.iter().map(record).collect()
 }
 
-/// "the smallest of last heard + timeout + 1, over nodes where both are above 0, or none"
+/// The smallest of last heard + timeout + 1 where both are above 0 (RULES 8.5).
 pub fn earliest(consumers: &Consumers) -> Option<u64> {
     let counts = |(timeout, heard): &&(u64, u64)| *timeout > 0 && *heard > 0;
     let moment = |(timeout, heard): &(u64, u64)| heard + timeout + 1;
     consumers.values().filter(counts).map(moment).min()
 }
 
-/// "node n being bit n mod 8 of byte n div 8, lowest bit first"
+/// Node n is bit n mod 8 of byte n / 8, lowest bit first (RULES 8.7).
 fn bits(consumers: &Consumers) -> [u8; 32] {
     let mut bytes = [0; 32];
     for NodeId(node) in consumers.keys() {
@@ -66,8 +66,8 @@ impl Head {
         Ok(())
     }
 
-    /// Behind an accepted call that leaves the nodes, their number and the places past it. "The head shows the earliest
-    /// moment .. It is kept up to date".
+    /// Behind an accepted call that leaves the nodes, their number and the places past it. The earliest moment
+    /// is worked out anew.
     pub fn give_back(&mut self, run: &mut Run) {
         let left = records(&self.context.heartbeat_consumers);
         let lent = run.watched_mut();
@@ -104,8 +104,7 @@ impl Head {
         self.earliest.is_some()
     }
 
-    /// "Turned away: 9, adding when 32 are watched; 10, adding a node already watched (tried before 9); numbers 1 and 3
-    /// keep their meaning for the added node and come before both"
+    /// Refused by 1, 3, 10 or 9, in this order.
     pub fn add(&mut self, node: u8, timeout: u64, run: &mut Run) -> Answer {
         let node = try_node(node)?;
         self.lend(run)?;
@@ -125,7 +124,7 @@ impl Head {
         Ok(forms::taken(&[]))
     }
 
-    /// "removing an unwatched node gives 7"
+    /// Refused by 3 or 7.
     pub fn remove(&mut self, node: u8, run: &mut Run) -> Answer {
         self.lend(run)?;
         let removed = self.context.heartbeat_consumers.remove(&NodeId(node));
@@ -156,7 +155,7 @@ impl Head {
         Ok(forms::taken(&[first.map_or("none".to_string(), |moment| moment.to_string())]))
     }
 
-    /// "written as 32 bytes .. with the number of nodes counted from those bits"
+    /// The bytes, and how many bits are set in them.
     pub fn bitmap(&mut self, run: &Run) -> Answer {
         self.lend(run)?;
         let bytes = bits(&self.context.heartbeat_consumers);

@@ -1,4 +1,4 @@
-//! The run of watched nodes that a script lends: places, and the number watched beside them (document 02, No. 1).
+//! The run of watched nodes that a script lends: places, and the number watched beside them (RULES 8).
 
 use crate::script::Watched;
 
@@ -79,7 +79,7 @@ impl Run {
         &rest[..last.map_or(0, |last| last + 1)]
     }
 
-    /// "the places past that number .. hold zeros after an accepted add or removal"
+    /// The places past the number hold zeros behind an add or a removal that was taken.
     pub fn become_only(&mut self, watched: &[Watched]) {
         self.number = watched.len() as u64;
         self.memory[..watched.len()].copy_from_slice(watched);

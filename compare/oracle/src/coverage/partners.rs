@@ -1,4 +1,4 @@
-//! What a script reached of document 02, No. 1: runs of every number and length, nodes added and removed at every place,
+//! What a script reached of RULES 8: runs of every number and length, nodes added and removed at every place,
 //! what stands past the number, and the earliest moment.
 
 use super::{

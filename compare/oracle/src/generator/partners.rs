@@ -1,4 +1,4 @@
-//! Scenarios of document 02, No. 1: nodes that arrive and leave, runs of every number, of other lengths and with something
+//! Scenarios of RULES 8: nodes that arrive and leave, runs of every number, of other lengths and with something
 //! in the places past the number, and what the head shows as the earliest moment.
 
 use super::{ALL_STATES, OPERATIONAL, RESET, Script, TOP};
