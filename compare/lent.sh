@@ -92,21 +92,28 @@ compare() {
     echo "The $(wc -l <"$report") counts of target/compare/lent/report are $least or more; the least: $(sort -n "$report" | head -n 1)."
 }
 
-# Wrong form number $1: in the file $2 of the crate, the text $3 stands once; with $4 in its place, the driver has to notice a difference.
+# Wrong form number $1: in the file $2 of the crate, the text $3 stands once; with $4 in its place, the driver has to notice
+# a difference, or be stopped at an index or a range out of bounds.
 notice() {
-    local text rest top="$work/$1" report="$kept/wrong-$1"
+    local text rest seen top="$work/$1" report="$kept/wrong-$1"
     copy "$top"
     text=$(cat "$top/crates/lent/src/$2")
     rest=${text#*"$3"}
     [ "$rest" != "$text" ] && [ "${rest#*"$3"}" = "$rest" ] || fail "crates/lent/src/$2 does not have this once: $3"
     printf '%s\n' "${text%%"$3"*}$4$rest" >"$top/crates/lent/src/$2"
     drive "$top" "$calls" 1000 "$report" || true
-    [ -s "$report" ] || {
+    if grep -q '^seed ' "$report"; then
+        seen="noticed at $(grep '^seed ' "$report")"
+    elif grep -q '^checked: fault ' "$report.log"; then
+        # A program with no proof may be stopped before it prints a difference: the right one, played above, is not.
+        seen="stopped by a $(sed -n 's/^checked: fault kind=\([^ ]*\) in=\([^ ]*\) .*/\1 in \2/p' "$report.log" | head -n 1)"
+    elif [ -s "$report" ]; then
+        fail "in $2, this was not noticed: $4"
+    else
         cat "$report.log" >&2
         fail "the driver could not be run with this in $2: $4"
-    }
-    grep -q '^seed ' "$report" || fail "in $2, this was not noticed: $4"
-    echo "  $1 of $wrong: $2, $4 noticed at $(grep '^seed ' "$report")"
+    fi
+    echo "  $1 of $wrong: $2, $4 $seen"
     rm -rf "$top" "$report" "$report.log"
 }
 
