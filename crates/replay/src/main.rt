@@ -7,7 +7,7 @@ mod station;
 use clap::{Arg, ArgMatches, Command, Error};
 use std::alloc::Global;
 use std::fs::File;
-use std::io::{BufReader, BufWriter, Read, Write};
+use std::io::{BufRead, BufReader, BufWriter, Read, Write};
 use std::process::ExitCode;
 use std::{env, io};
 
@@ -36,35 +36,61 @@ fn parsed<'a>(alloc: Global, words: &'a [String]) -> Result<ArgMatches<'a>, Erro
         .try_get_matches_from(words)
 }
 
-fn played<R: Read + Drop, W: Write + Drop>(
+fn played<R: Read, W: Write + Drop>(
     alloc: Global,
-    script: R,
+    script: &mut BufReader<R>,
     out: W,
 ) -> io::Result<ExitCode> {
-    let mut script = BufReader::with_capacity(alloc, 65536, script)?;
     let mut out = BufWriter::with_capacity(alloc, 65536, out)?;
-    let all_played = play::play(alloc, &mut script, &mut out)?;
+    let all_played = play::play(alloc, script, &mut out)?;
     Ok(ExitCode::from(u8::from(!all_played)))
 }
 
-fn main(rt: HostRuntime) -> io::Result<ExitCode> {
+// The script is no file that can be read, as a directory is not.
+fn not_read(rt: &HostRuntime, path: &str, error: io::Error) -> io::Result<ExitCode> {
+    eprintln!(rt; "replay: {path}: {error}; give a file of calls, or - for standard input")?;
+    Ok(ExitCode::FAILURE)
+}
+
+fn play_file(rt: &HostRuntime, path: &str) -> io::Result<ExitCode> {
     let alloc = rt.alloc();
-    let words: Vec<String> = env::args(&rt)?.collect(alloc)?;
+    let file = match File::open(rt, path) {
+        Ok(file) => file,
+        Err(error) => return not_read(rt, path, error),
+    };
+    let mut script = BufReader::with_capacity(alloc, 65536, file)?;
+    // A directory is opened, and its first read fails.
+    let first_read = script.fill_buf().map(|_| ());
+    if let Err(error) = first_read {
+        return not_read(rt, path, error);
+    }
+    played(alloc, &mut script, rt.stdout())
+}
+
+fn run(rt: &HostRuntime) -> io::Result<ExitCode> {
+    let alloc = rt.alloc();
+    let words: Vec<String> = env::args(rt)?.collect(alloc)?;
     let matches = match parsed(alloc, words.as_slice()) {
         Ok(matches) => matches,
         Err(error) => {
-            error.print(&rt)?;
+            error.print(rt)?;
             return Ok(ExitCode::from(error.exit_code() as u8));
         }
     };
-    let path = match matches.get_str("SCRIPT") {
-        None | Some("-") => return played(alloc, rt.stdin(), rt.stdout()),
-        Some(path) => path,
-    };
-    match File::open(&rt, path) {
-        Ok(file) => played(alloc, file, rt.stdout()),
+    match matches.get_str("SCRIPT") {
+        None | Some("-") => {
+            let mut script = BufReader::with_capacity(alloc, 65536, rt.stdin())?;
+            played(alloc, &mut script, rt.stdout())
+        }
+        Some(path) => play_file(rt, path),
+    }
+}
+
+fn main(rt: HostRuntime) -> io::Result<ExitCode> {
+    match run(&rt) {
+        Ok(status) => Ok(status),
         Err(error) => {
-            eprintln!(rt; "replay: {path}: {error}")?;
+            eprintln!(rt; "replay: {error}")?;
             Ok(ExitCode::FAILURE)
         }
     }

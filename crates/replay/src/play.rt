@@ -55,7 +55,7 @@ fn flush_before_reading<R: Read, W: Write>(script: &BufReader<R>, out: &mut W) -
 
 /// Plays a script to its end, and writes what each line prints. What is printed is flushed before
 /// more of the script is read. Answers whether each line could be read and played; an error is that
-/// of the reader, of the writer, or of memory.
+/// of the reader, of the writer, or of memory, or InvalidInput after 2^64 - 2 lines.
 pub fn play<R: Read, W: Write>(
     alloc: Global,
     script: &mut BufReader<R>,
