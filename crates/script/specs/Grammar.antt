@@ -19,6 +19,7 @@ use Rattle.calling.specs.declared.Call.TheVariants as calls
 use Rattle.script.specs.declared.Line.{Line}
 use Rattle.script.specs.declared.Line.TheVariants as line
 use Rattle.script.specs.Reads.{Reads, just, only, ◌>>=◌, optional, ends, first_word, behind_word, up_to, bits8, bits16, bits32, bits64, flag, object}
+use Rattle.script.specs.Numerals.{numeral, event_named, cs_event_named, kind_named, state_named, command_named}
 use Rattle.script.specs.Bytes.{history, desk_bytes, entry_bytes}
 
 -- what a line says: a `Line`, with its bytes themselves
@@ -81,7 +82,7 @@ carried looked_at = if looked_at then bits8 else (bits64 >>= λ _. just 0)
 
 unfoldable pub error : Reads Call
 error = do
-  number ← bits64
+  number ← numeral kind_named
   a ← carried (carries_byte number)
   b ← carried (number == 18)
   just (calls.Error number a b)
@@ -169,8 +170,8 @@ named (row ∷ rows) name other = if bytes_eq name row.0 then row.1 else named r
 -- the calls on a head but for the load
 abbrev pub call_rows : List (Row Call)
 call_rows =
-    (codes "nmt", one bits64 calls.NmtEvent) ∷
-    (codes "dll", two bits64 flag calls.DllEvent) ∷
+    (codes "nmt", one (numeral event_named) calls.NmtEvent) ∷
+    (codes "dll", two (numeral cs_event_named) flag calls.DllEvent) ∷
     (codes "error", error) ∷
     (codes "cycle", just calls.CycleComplete) ∷
     (codes "withdraw", just calls.Withdraw) ∷
@@ -199,8 +200,8 @@ line_rows =
     (codes "desk", one desk_bytes desk) ∷
     (codes "entrywrite", two bits64 entry entrywrite) ∷
     (codes "entryread", one entry_bytes entryread) ∷
-    (codes "state", one bits64 state) ∷
-    (codes "command", one bits64 command) ∷
+    (codes "state", one (numeral state_named) state) ∷
+    (codes "command", one (numeral command_named) command) ∷
     (codes "kind", one bits64 kind) ∷
     (codes "show", just show) ∷ []
 

@@ -1,3 +1,4 @@
 pub mod Reads
+pub mod Numerals
 pub mod Bytes
 pub mod Grammar

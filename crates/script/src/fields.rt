@@ -12,6 +12,7 @@ use head::state::Dictionary;
 use node::load::DictionaryUpdate;
 use start::start::Setup;
 use types::common::NetTime;
+use types::frame::error::kinds::DllErrorKind;
 use types::nmt::flags::FeatureFlags;
 use watched::nodes::WatchedNode;
 
@@ -39,7 +40,7 @@ impl Words<'_> {
     pub(crate) fn error<'a>(&mut self) -> Option<Call<'a>>
         ensures { gives result self.new.rest.now ≡ error self.old.rest.now }
     {
-        let kind = self.bits64()?;
+        let kind = self.numeral::<DllErrorKind>()?;
         Some(Call::Error {
             kind,
             a: self.carried(carries_byte(kind))?,
