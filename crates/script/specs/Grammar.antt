@@ -20,6 +20,7 @@ use Rattle.script.specs.declared.Line.{Line}
 use Rattle.script.specs.declared.Line.TheVariants as line
 use Rattle.script.specs.Reads.{Reads, just, only, ◌>>=◌, optional, ends, first_word, behind_word, up_to, bits8, bits16, bits32, bits64, flag, object}
 use Rattle.script.specs.Numerals.{numeral, event_named, cs_event_named, kind_named, state_named, command_named}
+use Rattle.script.specs.Keys.{by_place, setup_by_keys}
 use Rattle.script.specs.Bytes.{history, desk_bytes, entry_bytes}
 
 -- what a line says: a `Line`, with its bytes themselves
@@ -40,6 +41,7 @@ pub data Reading : Type 0 where
   command : ℕ → Reading
   kind : ℕ → Reading
   show : Reading
+  why : Reading
 
 abbrev pub call_says : Call → Reading
 call_says (calls.Load u h) = load u (bytes_named h)
@@ -61,6 +63,7 @@ says (line.State n) = state n
 says (line.Command n) = command n
 says (line.Kind n) = kind n
 says line.Show = show
+says line.Why = why
 
 -- what several words are together
 abbrev pub one : {A B : Type 0} → Reads A → (A → B) → Reads B
@@ -118,8 +121,8 @@ unfoldable pub thresholds : Reads Thresholds
 thresholds [] = Some (same_for_all 15, [])
 thresholds (c ∷ cs) = named_thresholds (c ∷ cs)
 
-unfoldable pub setup : Reads Setup
-setup = do
+unfoldable pub setup_by_place : Reads Setup
+setup_by_place = do
   node ← bits8
   feature ← bits32
   timeout ← bits32
@@ -127,6 +130,10 @@ setup = do
   od ← dictionary
   limits ← thresholds
   just (record { node = node; feature_flags = flags feature; basic_ethernet_timeout = timeout; queue_capacity = capacity; od = od; thresholds = limits })
+
+-- what a start is given, by place or by keys
+unfoldable pub setup : Reads Setup
+setup rest = if by_place rest then setup_by_place rest else setup_by_keys rest
 
 -- the values that a load names, in this order
 unfoldable pub update : Reads DictionaryUpdate
@@ -203,7 +210,8 @@ line_rows =
     (codes "state", one (numeral state_named) state) ∷
     (codes "command", one (numeral command_named) command) ∷
     (codes "kind", one bits64 kind) ∷
-    (codes "show", just show) ∷ []
+    (codes "show", just show) ∷
+    (codes "why", just why) ∷ []
 
 unfoldable pub line_named : List ℕ → Reads Reading
 line_named name = named line_rows name (one (call_named name) call_says)

@@ -2,7 +2,7 @@
 ghost use Rattle.std.specs.Prelude.{◌≡◌};
 ghost use Rattle.script.specs.Reads.{gives, optional, bits8, bits32, object};
 ghost use Rattle.script.specs.Grammar.{carries_byte, carried, error, watched, dictionary};
-ghost use Rattle.script.specs.Grammar.{thresholds, setup, update, entry_type, entry};
+ghost use Rattle.script.specs.Grammar.{thresholds, setup_by_place, setup, update, entry_type, entry};
 
 use crate::words::Words;
 use calling::Call;
@@ -95,10 +95,20 @@ impl Words<'_> {
         })
     }
 
-    /// What a start is given.
+    /// What a start is given: by place where the first word is a number, and else by keys.
     #[tactic(auto, unfolding(crate::specs::Grammar::setup))]
     pub(crate) fn setup(&mut self) -> Option<Setup>
         ensures { gives result self.new.rest.now ≡ setup self.old.rest.now }
+    {
+        match self.rest {
+            [_, b'0'..=b'9', ..] => self.setup_by_place(),
+            _ => self.setup_by_keys(),
+        }
+    }
+
+    #[tactic(auto, unfolding(crate::specs::Grammar::setup_by_place))]
+    fn setup_by_place(&mut self) -> Option<Setup>
+        ensures { gives result self.new.rest.now ≡ setup_by_place self.old.rest.now }
     {
         Some(Setup {
             node: self.bits8()?,

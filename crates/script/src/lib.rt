@@ -14,6 +14,7 @@ ghost use Rattle.script.specs.Grammar.{says, call_named, line_named, words_say, 
 
 mod bytes;
 mod fields;
+mod keys;
 mod numerals;
 mod words;
 
@@ -66,6 +67,8 @@ pub enum Line<'a> {
     Kind(u64),
     /// The head and the lent run are shown.
     Show,
+    /// It is told why the NMT machine is where it is.
+    Why,
 }
 
 /// Law of the names: each is read as the number of what it names.
@@ -145,6 +148,7 @@ fn read_named<'a>(name: &str, words: &mut Words<'_>, bytes: &'a mut LineBytes) -
         "command" => Some(Line::Command(words.numeral::<NmtStateCommand>()?)),
         "kind" => Some(Line::Kind(words.bits64()?)),
         "show" => Some(Line::Show),
+        "why" => Some(Line::Why),
         _ => Some(Line::Call(read_call(name, words)?)),
     }
 }

@@ -1,7 +1,8 @@
 //! The words of a line, each behind one space, and the numbers that they are.
 ghost use Rattle.std.specs.Prelude.{◌≡◌, ◌≤◌, length, option_copied, IfSome};
 ghost use Rattle.script.specs.Reads.{gives, word_length, first_word, behind_word, word, next_is};
-ghost use Rattle.script.specs.Reads.{behind_next, ends, digit_behind, value_of, number_of, up_to};
+ghost use Rattle.script.specs.Reads.{behind_next, ends, digit_behind, value_of, number_of};
+ghost use Rattle.script.specs.Reads.{number_within, up_to};
 ghost use Rattle.script.specs.Reads.{bits8, bits16, bits32, bits64, flag, object};
 ghost use Rattle.script.specs.Numerals.{number_named, numeral_of, numeral};
 
@@ -66,6 +67,16 @@ fn number_of(word: &[u8]) -> Option<u64>
     }
 }
 
+/// The number that a word is, of at most so much.
+#[tactic(auto, unfolding(crate::specs::Reads::number_within))]
+pub(crate) fn number_within(word: &[u8], most: u64) -> Option<u64>
+    ensures read { result ≡ number_within most word.now }
+    ensures within { IfSome result (λ n. n ≤ most) }
+{
+    let number = number_of(word)?;
+    (number <= most).then_some(number)
+}
+
 // The number that a word is by its digits, or by the name of an item.
 #[tactic(auto, unfolding(crate::specs::Numerals::numeral_of))]
 fn numeral_of<T: Named>(word: &[u8]) -> Option<u64>
@@ -125,8 +136,7 @@ impl<'a> Words<'a> {
         ensures read { gives result self.new.rest.now ≡ up_to most self.old.rest.now }
         ensures within { IfSome result (λ n. n ≤ most) }
     {
-        let number = number_of(self.word()?)?;
-        (number <= most).then_some(number)
+        number_within(self.word()?, most)
     }
 
     /// A number of 64 bits.

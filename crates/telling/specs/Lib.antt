@@ -2,3 +2,5 @@ pub mod Texts
 pub mod Answers
 pub mod Heads
 pub mod Shows
+pub mod Why
+pub mod Moves

@@ -4,5 +4,7 @@
 
 pub mod answers;
 mod heads;
+pub mod moves;
 pub mod shows;
 mod texts;
+pub mod why;
