@@ -3,8 +3,10 @@
 
 mod play;
 mod station;
+mod trace;
 
-use clap::{Arg, ArgMatches, Command, Error};
+use clap::{Arg, ArgAction, ArgMatches, Command, Error};
+use play::Options;
 use std::alloc::Global;
 use std::fs::File;
 use std::io::{BufRead, BufReader, BufWriter, Read, Write};
@@ -12,6 +14,8 @@ use std::process::ExitCode;
 use std::{env, io};
 
 const ABOUT: &str = "Drives a head by a call script and prints what each call answers.";
+
+const TRACE: &str = "Print each change of the NMT state behind the line that made it";
 
 const SCRIPT: &str = "The script, a file; none or - for standard input";
 
@@ -26,23 +30,33 @@ the first NMT event and shows the head:
 Exit status: 0 where each line could be read and played, 1 where one could not or the file
 could not be read, 2 where the arguments are wrong.";
 
+fn flag<'a>(alloc: Global, name: &'a str, help: &'a str) -> Arg<'a> {
+    Arg::new(alloc, name)
+        .long(name)
+        .action(ArgAction::SetTrue)
+        .help(help)
+}
+
 fn parsed<'a>(alloc: Global, words: &'a [String]) -> Result<ArgMatches<'a>, Error> {
     let script = Arg::new(alloc, "SCRIPT").help(SCRIPT);
+    let trace = flag(alloc, "trace", TRACE);
     Command::new(alloc, "replay")
         .version("0.1.0")
         .about(ABOUT)
         .after_help(AFTER)
         .arg(script)?
+        .arg(trace)?
         .try_get_matches_from(words)
 }
 
 fn played<R: Read, W: Write + Drop>(
     alloc: Global,
+    options: Options,
     script: &mut BufReader<R>,
     out: W,
 ) -> io::Result<ExitCode> {
     let mut out = BufWriter::with_capacity(alloc, 65536, out)?;
-    let all_played = play::play(alloc, script, &mut out)?;
+    let all_played = play::play(alloc, options, script, &mut out)?;
     Ok(ExitCode::from(u8::from(!all_played)))
 }
 
@@ -52,7 +66,7 @@ fn not_read(rt: &HostRuntime, path: &str, error: io::Error) -> io::Result<ExitCo
     Ok(ExitCode::FAILURE)
 }
 
-fn play_file(rt: &HostRuntime, path: &str) -> io::Result<ExitCode> {
+fn play_file(rt: &HostRuntime, options: Options, path: &str) -> io::Result<ExitCode> {
     let alloc = rt.alloc();
     let file = match File::open(rt, path) {
         Ok(file) => file,
@@ -64,7 +78,7 @@ fn play_file(rt: &HostRuntime, path: &str) -> io::Result<ExitCode> {
     if let Err(error) = first_read {
         return not_read(rt, path, error);
     }
-    played(alloc, &mut script, rt.stdout())
+    played(alloc, options, &mut script, rt.stdout())
 }
 
 fn run(rt: &HostRuntime) -> io::Result<ExitCode> {
@@ -77,12 +91,15 @@ fn run(rt: &HostRuntime) -> io::Result<ExitCode> {
             return Ok(ExitCode::from(error.exit_code() as u8));
         }
     };
+    let options = Options {
+        trace: matches.get_flag("trace"),
+    };
     match matches.get_str("SCRIPT") {
         None | Some("-") => {
             let mut script = BufReader::with_capacity(alloc, 65536, rt.stdin())?;
-            played(alloc, &mut script, rt.stdout())
+            played(alloc, options, &mut script, rt.stdout())
         }
-        Some(path) => play_file(rt, path),
+        Some(path) => play_file(rt, options, path),
     }
 }
 
