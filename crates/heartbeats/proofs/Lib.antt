@@ -1,5 +1,5 @@
 pub mod PartLaws
 pub mod Turns
-pub mod Beats
+pub mod LateErrors
 pub mod Handled
-pub mod Beatings
+pub mod LateWalk

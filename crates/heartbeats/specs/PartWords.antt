@@ -17,16 +17,16 @@ use Rattle.head.specs.Written.{nmt_written}
 use Rattle.node.specs.InPlace.{effect_words}
 
 -- the time that the look at one node leaves as its last-heard time
-abbrev pub looked_time : ℕ → ℕ → ℕ → ℕ
-looked_time t timeout last = pick (either (last == 0) (is_late t (watched_node 0 timeout last))) t last
+abbrev pub refreshed_time : ℕ → ℕ → ℕ → ℕ
+refreshed_time t timeout last = pick (either (last == 0) (is_late t (watched_node 0 timeout last))) t last
 
 -- the words after the look at the i-th node, and at the first so many
-abbrev pub look_words : ℕ → ℕ → List ℕ → List ℕ
-look_words t i ns = slice_set ns (3 * i + 2) (looked_time t (slice_index ns (3 * i + 1)) (slice_index ns (3 * i + 2)))
+abbrev pub refresh_words : ℕ → ℕ → List ℕ → List ℕ
+refresh_words t i ns = slice_set ns (3 * i + 2) (refreshed_time t (slice_index ns (3 * i + 1)) (slice_index ns (3 * i + 2)))
 
-unfoldable pub looked_words : ℕ → ℕ → List ℕ → List ℕ
-looked_words t zero ns = ns
-looked_words t (suc i) ns = look_words t i (looked_words t i ns)
+unfoldable pub refreshed_words : ℕ → ℕ → List ℕ → List ℕ
+refreshed_words t zero ns = ns
+refreshed_words t (suc i) ns = refresh_words t i (refreshed_words t i ns)
 
 -- a signal: `error_status_changed`, the register's lowest bit, and counter 5 where that changes it
 abbrev pub signal_words : List ℕ → List ℕ
@@ -48,11 +48,11 @@ abbrev pub ends_by : List ℕ → DllError → Bool
 ends_by ws e = acts (handled (errors_of ws) e).action
 
 -- the error of a late node, and those of all
-unfoldable pub beat_words : List ℕ → WatchedNode → List ℕ
-beat_words ws w =
+unfoldable pub on_late_words : List ℕ → WatchedNode → List ℕ
+on_late_words ws w =
     finished_words (ends_by ws (timeout_of w))
     (pick (handled (errors_of ws) (timeout_of w)).signal (signal_words (effect_words ws (effect (timeout_of w)))) (effect_words ws (effect (timeout_of w))))
 
-unfoldable pub beat_all_words : List ℕ → List WatchedNode → List ℕ
-beat_all_words ws [] = ws
-beat_all_words ws (v ∷ vs) = pick (ends_by ws (timeout_of v)) (beat_words ws v) (beat_all_words (beat_words ws v) vs)
+unfoldable pub on_late_all_words : List ℕ → List WatchedNode → List ℕ
+on_late_all_words ws [] = ws
+on_late_all_words ws (v ∷ vs) = pick (ends_by ws (timeout_of v)) (on_late_words ws v) (on_late_all_words (on_late_words ws v) vs)

@@ -10,7 +10,7 @@ use Rattle.counters.specs.Counters.{Effect, counts, loses_link, is_logged, nothi
 use Rattle.head.specs.Head.{Head}
 use Rattle.watched.specs.declared.nodes.WatchedNode.{WatchedNode}
 use Rattle.watched.specs.Watched.{first}
-use Rattle.node.specs.Tick.{Ticked, looked, event_in_tick}
+use Rattle.node.specs.Tick.{Ticked, refreshed, event_in_tick}
 use Rattle.node.specs.Refines.{plain, SamePlaces, rings, joins_all}
 
 -- what a part of the tick leaves: the head, what was logged, and whether the tick has ended
@@ -46,5 +46,5 @@ abbrev pub is_quiet : DllError → Bool
 is_quiet e = quiet_effect (effect e)
 
 -- all places of the watched nodes: the look at the first so many; those behind are kept
-abbrev pub looked_first : ℕ → ℕ → List WatchedNode → List WatchedNode
-looked_first t = first (map (looked t))
+abbrev pub refreshed_first : ℕ → ℕ → List WatchedNode → List WatchedNode
+refreshed_first t = first (map (refreshed t))

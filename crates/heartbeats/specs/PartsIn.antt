@@ -7,7 +7,7 @@ use Rattle.node.specs.Tick.{Ticked}
 use Rattle.node.specs.Refines.{Becomes}
 use Rattle.heartbeats.specs.Parts.{PartLeft, Finishes, Ticks}
 use Rattle.head.specs.Words.{head_of}
-use Rattle.heartbeats.specs.declared.dealt.Dealt.{Dealt}
+use Rattle.heartbeats.specs.declared.phase.PhaseOutcome.{PhaseOutcome}
 use Rattle.heartbeats.specs.PartWords.{finished_words}
 
 -- Of a step f of the tick: the head that the words stand for becomes what f makes of it, queue and
@@ -17,16 +17,16 @@ pub record Turns (ws : List ℕ) (f : Plain → Plain) (ws' known : List ℕ) : 
   pub words : ws' ≡ known
 
 -- what a part of the tick leaves, with the head that the words stand for
-abbrev pub dealt_of : List ℕ → Dealt → PartLeft
-dealt_of ws d = record { head = head_of ws; logged = d.logged; ended = d.ended }
+abbrev pub outcome_of : List ℕ → PhaseOutcome → PartLeft
+outcome_of ws d = record { head = head_of ws; logged = d.logged; ended = d.ended }
 
 -- of the end of an error on the words ws: what it leaves, and every word
-pub record FinishesIn (ws : List ℕ) (es : DllErrors) (ends : Bool) (d : Dealt) (ws' : List ℕ) : Type 0 where
-  pub finishes : Finishes (head_of ws) es ends (dealt_of ws' d)
+pub record FinishesIn (ws : List ℕ) (es : DllErrors) (ends : Bool) (d : PhaseOutcome) (ws' : List ℕ) : Type 0 where
+  pub finishes : Finishes (head_of ws) es ends (outcome_of ws' d)
   pub words : ws' ≡ finished_words ends ws
 
 -- of a part of the tick on the words ws and the memory q and m: what it leaves is what k says, and
 -- the words are all known
-pub record TicksIn (ws q m : List ℕ) (k : Ticked) (d : Dealt) (ws' q' m' known : List ℕ) : Type 0 where
-  pub ticks : Ticks (head_of ws) q m k (dealt_of ws' d) q' m'
+pub record TicksIn (ws q m : List ℕ) (k : Ticked) (d : PhaseOutcome) (ws' q' m' known : List ℕ) : Type 0 where
+  pub ticks : Ticks (head_of ws) q m k (outcome_of ws' d) q' m'
   pub words : ws' ≡ known

@@ -2,5 +2,5 @@
 //! what the handling of an error in a tick leaves, whichever phase it comes from.
 #![tactic(auto)]
 
-pub mod dealt;
+pub mod phase;
 pub mod heartbeats;

@@ -7,7 +7,7 @@
 //! - `scan`: each record becomes what the step makes of it and of the value carried to it, from the
 //!   first to the last
 //! - `scan_back`: the same from the last to the first
-//! - `judged`: a fold over the records, a judge that is given its result, and a scan that starts
+//! - `decided`: a fold over the records, a judge that is given its result, and a scan that starts
 //!   with what the judge gives
 //!
 //! The contract of a walk holds for every function, or pair of functions, that the step computes. A
@@ -16,7 +16,7 @@
 
 ghost use Rattle.std.specs.Prelude.{◌≡◌};
 ghost use Rattle.lentlaws.specs.Fold.{folded};
-ghost use Rattle.lentlaws.specs.Judged.{Judges};
+ghost use Rattle.lentlaws.specs.Decided.{Decides};
 ghost use Rattle.lentlaws.specs.Scan.{scanned, scanned_back};
 
 /// Sets a value to what the step makes of it.
@@ -79,15 +79,15 @@ pub fn scan_back<E: Copy, A: Copy, F: Fn(A, E) -> (E, A)>(xs: &mut [E], last: A,
 }
 
 /// A call that depends on the records and sets them: `see` is carried over the records from `first`
-/// on, `judge` is lent a value and given what was found, and answers the call's answer and what
+/// on, `decide` is lent a value and given what was found, and answers the call's answer and what
 /// `set` then carries over the records. Several lent values are given as a tuple of references; the
 /// contract says what is left of each.
-pub fn judged<E: Copy, P, S, Y: Copy, X, F, J, T>(
+pub fn decided<E: Copy, P, S, Y: Copy, X, F, J, T>(
     lent: &mut P,
     xs: &mut [E],
     first: S,
     see: F,
-    judge: J,
+    decide: J,
     set: T,
 ) -> X
 where
@@ -95,16 +95,16 @@ where
     J: FnOnce(&mut P, S) -> (X, Y),
     T: Fn(Y, E) -> (E, Y),
     requires see { F.IsAlwaysCallable see }
-    requires judge { J.IsAlwaysCallable judge }
+    requires decide { J.IsAlwaysCallable decide }
     requires set { T.IsAlwaysCallable set }
     ensures { (f : S → E → S) (sets : Y → E → E) (carries : Y → E → Y) →
         ((a : S) (x : E) (b : S) → F.post see a x b → b ≡ f a x) →
         ((a : Y) (x : E) (r : E × Y) → T.post set a x r → r ≡ (sets a x, carries a x)) →
-        (y : Y) × Judges J.FnOnce judge lent.old (folded f first xs.old) (result, y) lent.new ×
+        (y : Y) × Decides J.FnOnce decide lent.old (folded f first xs.old) (result, y) lent.new ×
         (xs.new ≡ scanned sets carries y xs.old) }
 {
     let found = fold(xs, first, see);
-    let (answer, setting) = judge(lent, found);
+    let (answer, setting) = decide(lent, found);
     scan(xs, setting, set);
     answer
 }

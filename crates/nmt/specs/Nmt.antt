@@ -85,13 +85,13 @@ cyclic_rows =
     []
 
 -- the move of a state and an event by their row among some; Unexpected where they have none
-abbrev pub look : List Row → NmtState → NmtEvent → Move
-look [] s e = Unexpected
-look (r ∷ rs) s e = pick (both (same_state s r.state) (same_event e r.event)) r.does (look rs s e)
+abbrev pub examine : List Row → NmtState → NmtEvent → Move
+examine [] s e = Unexpected
+examine (r ∷ rs) s e = pick (both (same_state s r.state) (same_event e r.event)) r.does (examine rs s e)
 
 -- the move of a state and an event
 unfoldable pub row_of : NmtState → NmtEvent → Move
-row_of s e = look (boot_up_rows ++ cyclic_rows) s e
+row_of s e = examine (boot_up_rows ++ cyclic_rows) s e
 
 -- a new machine is at GsInitialising, not enabled, ready
 abbrev pub new_machine : NodeId → FeatureFlags → ℕ → CnNmtStateMachine

@@ -88,7 +88,7 @@ values r a b c e =
 -- occurrences, crossings and level of LossOfSoc, occurrences and level of HeartbeatTimeout; the
 -- other numbers are 0
 abbrev pub counters_of : ℕ → ℕ → ℕ → ℕ → ℕ → CnErrorCounters
-counters_of socs crossings soc beats beat =
+counters_of socs crossings soc late_errors on_late =
     record {
       counters =
           record {
@@ -98,7 +98,7 @@ counters_of socs crossings soc beats beat =
             loss_of_preq = counter_of 0 0 15 0;
             soc_jitter = counter_of 0 0 15 0;
             crc_errors = counter_of 0 0 15 0;
-            heartbeat_timeout = counter_of beats beat 15 0;
+            heartbeat_timeout = counter_of late_errors on_late 15 0;
           };
       loss_of_link_cumulative = 0;
     }

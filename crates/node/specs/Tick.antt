@@ -78,8 +78,8 @@ is_late t w =
     both (ltb 0 w.last_heard) (both (ltb 0 w.timeout) (ltb w.timeout (t - w.last_heard)))
 
 -- the look at a node: its last-heard time becomes now where it was never heard or is late
-abbrev pub looked : ℕ → WatchedNode → WatchedNode
-looked t w = pick (either (eqb w.last_heard 0) (is_late t w)) (heard_now t w) w
+abbrev pub refreshed : ℕ → WatchedNode → WatchedNode
+refreshed t w = pick (either (eqb w.last_heard 0) (is_late t w)) (heard_now t w) w
 
 -- the late nodes, in order
 abbrev pub late_ones : ℕ → List WatchedNode → List WatchedNode
@@ -148,34 +148,34 @@ finished ends logged marks checked crossings p =
     }
 
 -- an error that brings an action ends the tick
-abbrev pub dealt : HandledError → List Mark → List Mark → List ErrorEntry → Plain → Ticked
-dealt r ms checked cs p = finished (acts r.action) (reported r.logged) ms checked cs p
+abbrev pub on_handled : HandledError → List Mark → List Mark → List ErrorEntry → Plain → Ticked
+on_handled r ms checked cs p = finished (acts r.action) (reported r.logged) ms checked cs p
 
 -- the error of a late node: neither counter 1 nor an entry follows from it
-abbrev pub beat_by : Plain → List Mark → HandledError → Ticked
-beat_by p ms r =
-    dealt r ms [] [] (pick r.signal (signalled (with_errors p r.counters)) (with_errors p r.counters))
+abbrev pub on_late_by : Plain → List Mark → HandledError → Ticked
+on_late_by p ms r =
+    on_handled r ms [] [] (pick r.signal (signalled (with_errors p r.counters)) (with_errors p r.counters))
 
 -- the error that a late node brings
 abbrev pub timeout_of : WatchedNode → DllError
 timeout_of w = HeartbeatTimeout (node w.node)
 
 -- the error of a late node, given to the counters
-unfoldable pub beat : Plain → WatchedNode → Ticked
-beat p w = beat_by p (error_marks p.errors (timeout_of w)) (handled p.errors (timeout_of w))
+unfoldable pub on_late : Plain → WatchedNode → Ticked
+on_late p w = on_late_by p (error_marks p.errors (timeout_of w)) (handled p.errors (timeout_of w))
 
 -- the errors of late nodes in order: the first that brings an action ends the walk, and the tick
-unfoldable pub beat_all : Plain → List WatchedNode → Ticked
-beat_all p [] = goes_on p
-beat_all p (w ∷ ws) = pick (beat p w).ended (beat p w) (behind (beat p w) (beat_all (beat p w).head ws))
+unfoldable pub on_late_all : Plain → List WatchedNode → Ticked
+on_late_all p [] = goes_on p
+on_late_all p (w ∷ ws) = pick (on_late p w).ended (on_late p w) (behind (on_late p w) (on_late_all (on_late p w).head ws))
 
 -- the heartbeats of a tick: what comes of the late nodes; and the run as the look leaves it. All
 -- nodes are looked at before any error is counted.
 abbrev pub heartbeats : Plain → ℕ → List WatchedNode → Ticked
-heartbeats p t ws = pick (checks_heartbeats p.nmt.current_state) (beat_all p (late_ones t ws)) (goes_on p)
+heartbeats p t ws = pick (checks_heartbeats p.nmt.current_state) (on_late_all p (late_ones t ws)) (goes_on p)
 
-abbrev pub looked_at : Plain → ℕ → Run → Run
-looked_at p t r = pick (checks_heartbeats p.nmt.current_state) (changing (map (looked t)) r) r
+abbrev pub refreshed_at : Plain → ℕ → Run → Run
+refreshed_at p t r = pick (checks_heartbeats p.nmt.current_state) (changing (map (refreshed t)) r) r
 
 -- the head with a deadline
 abbrev pub with_deadline : Plain → Deadline → Plain
@@ -246,18 +246,18 @@ unfoldable pub queued : Plain → ErrorEntry → Plain
 queued p e = pick (ltb (length p.queue) p.capacity) (kept p e) (dropped_one p)
 
 -- one error of the SoC check; one that crosses signals, and its entry is queued
-abbrev pub deal_by : Plain → List Mark → Bool → ErrorEntry → HandledError → Ticked
-deal_by p ms crosses x r =
-    dealt r ms ms (pick crosses (x ∷ []) [])
+abbrev pub on_dll_error_by : Plain → List Mark → Bool → ErrorEntry → HandledError → Ticked
+on_dll_error_by p ms crosses x r =
+    on_handled r ms ms (pick crosses (x ∷ []) [])
     (pick crosses (queued (signalled (with_errors (counter1 p) r.counters)) x) (with_errors (counter1 p) r.counters))
 
-unfoldable pub deal : ℕ → Plain → DllError → Ticked
-deal t p e = deal_by p (error_marks p.errors e) (crosses p.errors e) (crossing_entry e t) (handled p.errors e)
+unfoldable pub on_dll_error : ℕ → Plain → DllError → Ticked
+on_dll_error t p e = on_dll_error_by p (error_marks p.errors e) (crosses p.errors e) (crossing_entry e t) (handled p.errors e)
 
 -- the errors of the SoC check in order: the first that brings an action ends the tick
-unfoldable pub deal_all : ℕ → Plain → List DllError → Ticked
-deal_all t p [] = goes_on p
-deal_all t p (e ∷ es) = pick (deal t p e).ended (deal t p e) (behind (deal t p e) (deal_all t (deal t p e).head es))
+unfoldable pub on_dll_errors : ℕ → Plain → List DllError → Ticked
+on_dll_errors t p [] = goes_on p
+on_dll_errors t p (e ∷ es) = pick (on_dll_error t p e).ended (on_dll_error t p e) (behind (on_dll_error t p e) (on_dll_errors t (on_dll_error t p e).head es))
 
 -- the time of the last SoC, and how long ago it was, at least 0. No call leaves one above the
 -- latest time that a call takes; one is read as that.
@@ -297,7 +297,7 @@ abbrev pub after_loss : ℕ → Ticked → Ticked
 after_loss t k = pick k.ended k (behind k (goes_on (rescheduled k.head t)))
 
 abbrev pub lost : Plain → ℕ → Ticked
-lost p t = after_loss t (deal_all t (with_dll p (soc_timeout p).state) (soc_timeout p).errors)
+lost p t = after_loss t (on_dll_errors t (with_dll p (soc_timeout p).state) (soc_timeout p).errors)
 
 -- the SoC check, where it is on; otherwise the tick ends
 unfoldable pub soc_check : Plain → ℕ → Ticked
@@ -335,4 +335,4 @@ tick_answered k r =
 
 abbrev pub tick_step : Plain → ℕ → Run → Step
 tick_step p t r =
-    tried (tick_tests p t r) (declines p r) (tick_answered (tick_taken p t (watching r)) (looked_at p t r))
+    tried (tick_tests p t r) (declines p r) (tick_answered (tick_taken p t (watching r)) (refreshed_at p t r))

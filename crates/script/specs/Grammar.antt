@@ -77,7 +77,7 @@ carries_byte k = k == 9 || k == 10 || k == 12 || (nat_le 18 k && nat_le k 21)
 
 -- a number that is a byte where it is looked at; any other is read as 0
 abbrev pub carried : Bool → Reads ℕ
-carried looked_at = if looked_at then bits8 else (bits64 >>= λ _. just 0)
+carried refreshed_at = if refreshed_at then bits8 else (bits64 >>= λ _. just 0)
 
 unfoldable pub error : Reads Call
 error = do

@@ -23,7 +23,7 @@ use Rattle.std.specs.declared.option.Option.{Option}
 use Rattle.std.specs.declared.option.Option.TheVariants.{Some, None}
 use Rattle.std.specs.declared.result.Result.{Result}
 use Rattle.types.specs.declared.refusals.Refusal.{Refusal}
-use Rattle.heartbeats.specs.PartWords.{looked_words}
+use Rattle.heartbeats.specs.PartWords.{refreshed_words}
 use Rattle.tick.specs.TickWords.{loss_words, rest_words, tick_words}
 
 -- a SocTimeout on a head in words: the head and the errors as the plain tick has them, and every
@@ -38,10 +38,10 @@ is_still c t vs = pick c (all_of (rests t) vs) true
 
 -- none where the nodes are not well formed; of nodes that are, whether one asks for something, and
 -- then whether none was heard after now
-abbrev pub roused_of : Bool → ℕ → List WatchedNode → Option Seen
-roused_of c t vs =
+abbrev pub active_of : Bool → ℕ → List WatchedNode → Option Seen
+active_of c t vs =
     pick (well_formed vs)
-    (Some (pick (is_still c t vs) (seen.Resting (moment_of (soonest never vs))) (seen.Roused (all_of (not_before t) vs))))
+    (Some (pick (is_still c t vs) (seen.Resting (moment_of (soonest never vs))) (seen.Active (all_of (not_before t) vs))))
     None
 
 -- what a tick answers
@@ -65,7 +65,7 @@ pub record TickedOn (ws q m : List ℕ) (r : Run) (t : ℕ) (a : Result DllError
 -- and every word of theirs.
 pub record TickedIn (ws q m ns : List ℕ) (k t : ℕ) (a : Result DllErrors Refusal) (ws' q' m' ns' : List ℕ) : Type 0 where
   pub on : TickedOn ws q m (run (nodes_of ns) k) t a ws' q' m' (run (nodes_of ns') k)
-  pub nodes : ns' ≡ unless_refused a ns (pick (checks_heartbeats (nmt_of ws).current_state) (looked_words t k ns) ns)
+  pub nodes : ns' ≡ unless_refused a ns (pick (checks_heartbeats (nmt_of ws).current_state) (refreshed_words t k ns) ns)
 
 -- The plain tick at t behind its heartbeats, after which s is shown as the earliest moment. Its one
 -- test is TimeLimit.

@@ -14,13 +14,13 @@ use Rattle.head.specs.declared.state.Deadline.TheVariants.{At, Nothing}
 use Rattle.watched.specs.declared.nodes.WatchedNode.{WatchedNode}
 use Rattle.node.specs.Plain.{Plain}
 use Rattle.node.specs.Steps.{cycle_of, limit_of}
-use Rattle.node.specs.Tick.{one_more, last_soc, elapsed, next_deadline, soc_timeout, at_not_active, checks_heartbeats, late_ones, beat_all, deal_all}
+use Rattle.node.specs.Tick.{one_more, last_soc, elapsed, next_deadline, soc_timeout, at_not_active, checks_heartbeats, late_ones, on_late_all, on_dll_errors}
 use Rattle.node.specs.Refines.{plain}
 use Rattle.head.specs.Places as at
 use Rattle.head.specs.Words.{word, nmt_of, errors_of, soc_of, od_of, queue_of, history_of, head_of}
 use Rattle.head.specs.Written.{deadline_written, queue_written, history_written}
 use Rattle.node.specs.InPlace.{effect_words}
-use Rattle.heartbeats.specs.PartWords.{signal_words, event_words, finished_words, ends_by, beat_all_words}
+use Rattle.heartbeats.specs.PartWords.{signal_words, event_words, finished_words, ends_by, on_late_all_words}
 
 -- counter 2 rises
 abbrev pub count2 : List ℕ → List ℕ
@@ -38,14 +38,14 @@ unfoldable pub counted_words : List ℕ → DllError → List ℕ
 counted_words ws e = set (effect_words ws (effect e)) at.counter1 (one_more (word (effect_words ws (effect e)) at.counter1))
 
 -- one error of the SoC check, and its errors in order
-unfoldable pub deal_words : List ℕ → DllError → List ℕ
-deal_words ws e =
+unfoldable pub on_dll_error_words : List ℕ → DllError → List ℕ
+on_dll_error_words ws e =
     finished_words (ends_by ws e)
     (pick (handled (errors_of ws) e).signal (entry_words (signal_words (counted_words ws e))) (counted_words ws e))
 
-unfoldable pub deal_all_words : List ℕ → List DllError → List ℕ
-deal_all_words ws [] = ws
-deal_all_words ws (e ∷ es) = pick (ends_by ws e) (deal_words ws e) (deal_all_words (deal_words ws e) es)
+unfoldable pub on_dll_errors_words : List ℕ → List DllError → List ℕ
+on_dll_errors_words ws [] = ws
+on_dll_errors_words ws (e ∷ es) = pick (ends_by ws e) (on_dll_error_words ws e) (on_dll_errors_words (on_dll_error_words ws e) es)
 
 -- what the deadlines read of a head, they read of it with no memory
 abbrev pub unlent : List ℕ → Plain
@@ -73,8 +73,8 @@ after_loss_words ended ws t = pick ended ws (rescheduled_words ws t)
 
 unfoldable pub lost_words : List ℕ → List ℕ → List ℕ → ℕ → List ℕ
 lost_words ws q m t =
-    after_loss_words (deal_all t (plain (head_of (loss_words ws)) q m) (soc_timeout (unlent ws)).errors).ended
-    (deal_all_words (loss_words ws) (soc_timeout (unlent ws)).errors) t
+    after_loss_words (on_dll_errors t (plain (head_of (loss_words ws)) q m) (soc_timeout (unlent ws)).errors).ended
+    (on_dll_errors_words (loss_words ws) (soc_timeout (unlent ws)).errors) t
 
 -- the SoC check
 unfoldable pub check_words : List ℕ → List ℕ → List ℕ → ℕ → List ℕ
@@ -107,6 +107,6 @@ rest_words ws q m t = deadline_words ws q m t (soc_of ws).next_tick_us
 unfoldable pub tick_words : List ℕ → List ℕ → List ℕ → ℕ → List WatchedNode → List ℕ
 tick_words ws q m t vs =
     pick (checks_heartbeats (nmt_of ws).current_state)
-    (pick (beat_all (plain (head_of ws) q m) (late_ones t vs)).ended (beat_all_words ws (late_ones t vs))
-    (rest_words (beat_all_words ws (late_ones t vs)) q m t))
+    (pick (on_late_all (plain (head_of ws) q m) (late_ones t vs)).ended (on_late_all_words ws (late_ones t vs))
+    (rest_words (on_late_all_words ws (late_ones t vs)) q m t))
     (rest_words ws q m t)

@@ -11,13 +11,13 @@ ghost use Rattle.tick.specs.TickWords.{check_words, basic_words, timeout_words, 
 ghost use Rattle.heartbeats.specs.PartsIn.{Turns, TicksIn};
 ghost use Rattle.tick.specs.TickIn.{LosesIn};
 
-use crate::soc::deal_all;
+use crate::soc::on_dll_errors;
 use head::parts::{
     check_of, check_off, deadline_at, dll_of, od_of, set_deadline, set_dll, soc_of, state_at,
     timeout_of,
 };
 use head::state::{Deadline, Head};
-use heartbeats::dealt::{Dealt, timeout_in_tick};
+use heartbeats::phase::{PhaseOutcome, timeout_in_tick};
 use node::range::is_loss;
 use node::timing::{cycle, last_soc, limit, time_since, tolerance_us};
 use types::frame::cs_state_machine::DllCsEvent;
@@ -81,23 +81,23 @@ fn soc_timeout(head: &mut Head) -> DllErrors
 }
 
 // The errors of a lost SoC are dealt with; where none brings an action, the deadline is set anew.
-fn lose(head: &mut Head, queue: &mut [u8; 640], history: &mut [u8; 5080], time: Time) -> Dealt
+fn lose(head: &mut Head, queue: &mut [u8; 640], history: &mut [u8; 5080], time: Time) -> PhaseOutcome
     ensures { TicksIn head.old queue.old history.old
         (lost (plain (head_of head.old) queue.old history.old) time.us)
         result head.new queue.new history.new
         (lost_words head.old queue.old history.old time.us) }
 {
     let errors = soc_timeout(head);
-    let dealt = deal_all(head, queue, history, errors, time.us);
-    if dealt.ended {
-        return dealt;
+    let outcome = on_dll_errors(head, queue, history, errors, time.us);
+    if outcome.ended {
+        return outcome;
     }
     reschedule(head, time);
-    dealt
+    outcome
 }
 
 // The SoC check, where it is on.
-fn soc_check(head: &mut Head, queue: &mut [u8; 640], history: &mut [u8; 5080], time: Time) -> Dealt
+fn soc_check(head: &mut Head, queue: &mut [u8; 640], history: &mut [u8; 5080], time: Time) -> PhaseOutcome
     ensures { TicksIn head.old queue.old history.old
         (soc_check (plain (head_of head.old) queue.old history.old) time.us)
         result head.new queue.new history.new
@@ -109,7 +109,7 @@ fn soc_check(head: &mut Head, queue: &mut [u8; 640], history: &mut [u8; 5080], t
         }
         within_limit(head, time);
     }
-    Dealt::GOES_ON
+    PhaseOutcome::GOES_ON
 }
 
 /// Whether the head is at NotActive.
@@ -145,7 +145,7 @@ pub fn by_deadline(
     queue: &mut [u8; 640],
     history: &mut [u8; 5080],
     time: Time,
-) -> Dealt
+) -> PhaseOutcome
     ensures { let deadline = (soc_of head.old).next_tick_us in
         TicksIn head.old queue.old history.old
         (by_deadline (plain (head_of head.old) queue.old history.old) time.us deadline)
@@ -156,15 +156,15 @@ pub fn by_deadline(
         if at_not_active(head) {
             set_basic(head, time);
         }
-        return Dealt::GOES_ON;
+        return PhaseOutcome::GOES_ON;
     };
     if time.us < at {
-        return Dealt::GOES_ON;
+        return PhaseOutcome::GOES_ON;
     }
     with_deadline(head, Deadline::Nothing);
     if at_not_active(head) {
         time_out(head);
-        return Dealt::GOES_ON;
+        return PhaseOutcome::GOES_ON;
     }
     soc_check(head, queue, history, time)
 }

@@ -3,17 +3,17 @@ ghost use Rattle.std.specs.Prelude.{◌≡◌, true};
 ghost use Rattle.types.specs.Pick.{all_of};
 ghost use Rattle.types.specs.Errors.{reported};
 ghost use Rattle.entries.specs.Entry.{crossing_entry};
-ghost use Rattle.node.specs.Tick.{queued, deal, deal_all};
+ghost use Rattle.node.specs.Tick.{queued, on_dll_error, on_dll_errors};
 ghost use Rattle.node.specs.Refines.{plain, rings, joins};
 ghost use Rattle.heartbeats.specs.Parts.{is_quiet};
 ghost use Rattle.head.specs.Words.{head_of};
-ghost use Rattle.tick.specs.TickWords.{entry_words, deal_words, deal_all_words};
+ghost use Rattle.tick.specs.TickWords.{entry_words, on_dll_error_words, on_dll_errors_words};
 ghost use Rattle.heartbeats.specs.PartsIn.{TicksIn};
 
 use entries::status_response::ErrorEntry;
 use head::parts::{history_of, increment_counter, queue_of, set_history, set_queue};
 use head::state::{Head, Statistic};
-use heartbeats::dealt::{Dealt, acts, finish, signal};
+use heartbeats::phase::{PhaseOutcome, acts, finish, signal};
 use node::calls::handled;
 use types::frame::error::types::{DllError, DllErrors};
 
@@ -45,17 +45,17 @@ fn queue_entry(
 }
 
 // One error of the SoC check.
-fn deal(
+fn on_dll_error(
     head: &mut Head,
     queue: &mut [u8; 640],
     history: &mut [u8; 5080],
     error: DllError,
     time: u64,
-) -> Dealt
+) -> PhaseOutcome
     requires { is_quiet error ≡ true }
     ensures { TicksIn head.old queue.old history.old
-        (deal time (plain (head_of head.old) queue.old history.old) error)
-        result head.new queue.new history.new (deal_words head.old error) }
+        (on_dll_error time (plain (head_of head.old) queue.old history.old) error)
+        result head.new queue.new history.new (on_dll_error_words head.old error) }
 {
     let answer = handled(head, error);
     increment_counter(head, Statistic::Counter1);
@@ -68,24 +68,24 @@ fn deal(
 
 /// Deals with the errors of the SoC check in their order, at a time in µs: the first whose handling
 /// brings an action ends the tick.
-pub(crate) fn deal_all(
+pub(crate) fn on_dll_errors(
     head: &mut Head,
     queue: &mut [u8; 640],
     history: &mut [u8; 5080],
     errors: DllErrors,
     time: u64,
-) -> Dealt
+) -> PhaseOutcome
     requires { all_of is_quiet (reported errors) ≡ true }
     ensures { TicksIn head.old queue.old history.old
-        (deal_all time (plain (head_of head.old) queue.old history.old) (reported errors))
-        result head.new queue.new history.new (deal_all_words head.old (reported errors)) }
+        (on_dll_errors time (plain (head_of head.old) queue.old history.old) (reported errors))
+        result head.new queue.new history.new (on_dll_errors_words head.old (reported errors)) }
 {
-    let mut dealt = Dealt::GOES_ON;
+    let mut outcome = PhaseOutcome::GOES_ON;
     'walk: for error in errors {
-        dealt = deal(head, queue, history, error, time);
-        if dealt.ended {
+        outcome = on_dll_error(head, queue, history, error, time);
+        if outcome.ended {
             break 'walk;
         }
     }
-    dealt
+    outcome
 }

@@ -85,14 +85,14 @@ pub record Claim (s : Start) (cs : List Call) (says : List Said) (h : Head) (q m
   -- to PreOperational2 just before
   pub asked : h.nmt.current_state ≡ NmtReadyToOperate → Enabled (fresh s) cs
   -- in PreOperational2 the head is enabled exactly where one came in this visit
-  pub enabled : h.nmt.current_state ≡ NmtPreOperational2 → h.nmt.ready_to_operate_enabled ≡ (tallied s cs).told.asked
+  pub enabled : h.nmt.current_state ≡ NmtPreOperational2 → h.nmt.ready_to_operate_enabled ≡ (tallied s cs).orders.asked
   -- at ReadyToOperate, a ready word (CnConfigurationComplete) counted since the last reset, and no
   -- withdrawal was taken behind it
   pub word : h.nmt.current_state ≡ NmtReadyToOperate → ReadyWord (fresh s) cs
   -- in every state the head's ready flag is what the last word or withdrawal that counted since the
   -- last reset says: off where none did. Before the first reset it is on until a withdrawal is
   -- taken.
-  pub heeded : h.nmt.app_ready ≡ (tallied s cs).told.word
+  pub heeded : h.nmt.app_ready ≡ (tallied s cs).orders.word
   -- RULES 10.3: level, errors, crossings and completed cycles of each kind, with the threshold that
   -- start was given
   pub balance : (k : CounterKind) → Balance (threshold_for k s.thresholds) k (tallied s cs).marks (level k h.errors)

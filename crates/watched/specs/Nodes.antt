@@ -44,9 +44,9 @@ rising n (w ∷ ws) = both (both (ltb n w.node) (fits w)) (rising w.node ws)
 
 -- the nodes climb behind the number n: each number is above the one before, and all times are
 -- within their limits; whether a number is a node's is not tried
-abbrev pub climbing : ℕ → List WatchedNode → Bool
-climbing n [] = true
-climbing n (w ∷ ws) = both (both (ltb n w.node) (timed w)) (climbing w.node ws)
+abbrev pub well_ordered : ℕ → List WatchedNode → Bool
+well_ordered n [] = true
+well_ordered n (w ∷ ws) = both (both (ltb n w.node) (timed w)) (well_ordered w.node ws)
 
 -- the number is a node's
 abbrev pub numbered : WatchedNode → Bool
@@ -77,8 +77,8 @@ soonest s (w ∷ ws) = soonest (sooner_by s w) ws
 
 -- whether t is before no last-heard time of some nodes, where these are well formed behind the
 -- number n
-abbrev pub roused_from : ℕ → ℕ → List WatchedNode → Option Bool
-roused_from n t ws = pick (rising n ws) (Some (all_of (not_before t) ws)) None
+abbrev pub active_from : ℕ → ℕ → List WatchedNode → Option Bool
+active_from n t ws = pick (rising n ws) (Some (all_of (not_before t) ws)) None
 
 -- the soonest moment of well formed nodes; none where they are not well formed
 abbrev pub nodes_tried : List WatchedNode → Option (Option ℕ)
@@ -93,5 +93,5 @@ found_of n t vs = pick (well_formed vs) (Some (place_of n vs, soonest never (hea
 abbrev pub seen_of : ℕ → List WatchedNode → Option Seen
 seen_of t vs =
     pick (well_formed vs)
-    (Some (pick (all_of (rests t) vs) (seen.Resting (moment_of (soonest never vs))) (seen.Roused (all_of (not_before t) vs))))
+    (Some (pick (all_of (rests t) vs) (seen.Resting (moment_of (soonest never vs))) (seen.Active (all_of (not_before t) vs))))
     None

@@ -2,7 +2,7 @@
 ghost use Rattle.std.specs.Prelude.{◌≡◌, ◌<◌, ◌+◌, ◌*◌, ltb, set, true};
 ghost use Rattle.types.specs.Pick.{both};
 ghost use Rattle.watched.specs.Watched.{timed, fits, no_node};
-ghost use Rattle.watched.specs.Climb.{one_less, three_before};
+ghost use Rattle.watched.specs.Scan.{one_less, three_before};
 ghost use Rattle.watched.specs.Nodes.{not_before, numbered, sooner_by, rest_until};
 ghost use Rattle.watched.specs.Nodes.{node_of, node_at, nodes_of};
 
@@ -97,7 +97,7 @@ impl NodeRecord {
     }
 
     /// Whether the number is above the one before it, and both times are at most 2^62 - 1.
-    pub fn climbs(self, last: u64) -> bool
+    pub fn comes_after(self, last: u64) -> bool
         ensures { result ≡ both (ltb last self.node) (timed (node_of self)) }
     {
         last < self.node && in_time(self.timeout) && in_time(self.last_heard)
@@ -107,7 +107,7 @@ impl NodeRecord {
     pub fn follows(self, last: u64) -> bool
         ensures { result ≡ both (ltb last self.node) (fits (node_of self)) }
     {
-        self.climbs(last) && self.is_numbered()
+        self.comes_after(last) && self.is_numbered()
     }
 
     /// Whether a time is not before the node was last heard, where it has a timeout and was heard

@@ -4,7 +4,7 @@ use Prim.Native.Nat.{◌+◌}
 use mathlib.Core.Path.{sym, ◌∙◌}
 use Rattle.std.proofs.Common.{rules, ◌≡◌, None}
 use Rattle.watched.specs.Nodes.{node_of, nodes_of}
-use Rattle.watched.specs.Climb.{nodes_from}
+use Rattle.watched.specs.Scan.{nodes_from}
 use Rattle.watched.proofs.Lists.{at_end}
 use Rattle.watched.proofs.Watching.{places, turn_read}
 use Rattle.due.proofs.Walking.{walk_stops, walk_next, walk_ends, run_begins}

@@ -10,7 +10,7 @@ use Rattle.entries.proofs.Lists.{pushed_as}
 use Rattle.entries.specs.History.{joined, joined_bytes}
 use Rattle.entries.proofs.Entries.{crossing_fits}
 use Rattle.head.specs.Written.{queue_written, history_written}
-use Rattle.tick.proofs.Dealings.{enters, drops}
+use Rattle.tick.proofs.DllErrorWalk.{enters, drops}
 use Rattle.tick.proofs.soc.queue_entry.Goals as goal
 
 pub returns-then-push_back : goal.returns-then-push_back
