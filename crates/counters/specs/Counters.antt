@@ -106,9 +106,13 @@ top = 4294967295
 abbrev pub add_top : ℕ → ℕ → ℕ
 add_top a b = min (a + b) top
 
+-- what an error adds to the level of its counter
+abbrev pub error_weight : ℕ
+error_weight = 8
+
 -- an error raises the cumulative count by 1 and the level by 8; both stop at the top
 abbrev pub incremented : ThresholdCounter → ThresholdCounter
-incremented c = counter_of (add_top c.cumulative_cnt 1) (add_top c.threshold_cnt 8) c.threshold c.crossings_cnt
+incremented c = counter_of (add_top c.cumulative_cnt 1) (add_top c.threshold_cnt error_weight) c.threshold c.crossings_cnt
 
 -- the level is at the threshold or above; a threshold of 0 is never reached
 abbrev pub reaches : ThresholdCounter → Bool

@@ -11,7 +11,7 @@ use Rattle.types.specs.declared.refusals.Refusal.{Refusal}
 use Rattle.types.specs.declared.refusals.Refusal.TheVariants.{WatchedNodes}
 use Rattle.head.specs.Words.{nmt_of, soc_of}
 use Rattle.watched.specs.declared.nodes.WatchedNode.{WatchedNode}
-use Rattle.watched.specs.Watched.{fits, Run}
+use Rattle.watched.specs.Watched.{fits, Run, watched_places}
 use Rattle.watched.specs.Nodes.{never, moment_of, sooner_by}
 use Rattle.node.specs.Steps.{smaller}
 use Rattle.node.specs.Tick.{checks_heartbeats}
@@ -38,7 +38,7 @@ walked a (w ∷ ws) = pick (both (ltb a.last w.node) (fits w)) (walked (with_nod
 
 -- with the watched nodes of a run; none where it is not well formed
 abbrev pub walked_run : Run → Option Walk
-walked_run r = pick (both (eqb (length r.places) 32) (leb r.number 32)) (walked start (take r.number r.places)) None
+walked_run r = pick (both (eqb (length r.places) watched_places) (leb r.number watched_places)) (walked start (take r.number r.places)) None
 
 -- when the nodes need a tick: at once where one was not heard yet
 abbrev pub walk_due : Walk → Option ℕ

@@ -1,6 +1,7 @@
 -- A ring of places in lent bytes, each of 20 bytes with an entry.
 -- Assumes nothing.
 use Rattle.std.specs.Prelude.{ℕ, zero, suc, ◌+◌, ◌*◌, ◌%◌, List, [], ◌∷◌, ◌++◌, length, take, drop}
+use Rattle.entries.specs.Sizes.{entry_size}
 use Rattle.entries.specs.Entry.{entry_bytes, entry_in}
 use Rattle.entries.specs.declared.status_response.ErrorEntry.{ErrorEntry}
 use Rattle.std.specs.declared.option.Option.{Option}
@@ -12,10 +13,10 @@ written s at b = take at s ++ (b ++ drop (at + length b) s)
 
 -- the entry at place i, and the bytes with an entry put there
 abbrev pub entry_at : List ℕ → ℕ → ErrorEntry
-entry_at m i = entry_in (drop (20 * i) m)
+entry_at m i = entry_in (drop (entry_size * i) m)
 
 abbrev pub put_at : List ℕ → ℕ → ErrorEntry → List ℕ
-put_at m i e = written m (20 * i) (entry_bytes e)
+put_at m i e = written m (entry_size * i) (entry_bytes e)
 
 -- the list f 0, f 1, .., f (n - 1)
 unfoldable pub listed : {A : Type 0} → (ℕ → A) → ℕ → List A

@@ -10,7 +10,7 @@ use Rattle.counters.specs.declared.counters.ThresholdCounter.{ThresholdCounter}
 use Rattle.head.specs.Places as at
 use Rattle.head.specs.Words.{nmt_of, counter_at}
 use Rattle.watched.specs.declared.nodes.WatchedNode.{WatchedNode}
-use Rattle.watched.specs.Watched.{fits, heard_now}
+use Rattle.watched.specs.Watched.{fits, heard_now, watched_places}
 use Rattle.watched.specs.Nodes.{not_before, never, sooner_by}
 use Rattle.node.specs.Tick.{checks_heartbeats, is_late, refreshed}
 use Rattle.lentlaws.specs.Fold.{folded}
@@ -65,7 +65,7 @@ abbrev pub formed_of : Findings → Option Findings
 formed_of f = pick (is_some f.tried) (Some f) None
 
 abbrev pub inspected : ℕ → Findings → List WatchedNode → Option Findings
-inspected k s vs = pick (both (eqb (length vs) 32) (leb k 32)) (formed_of (found_all s (take k vs))) None
+inspected k s vs = pick (both (eqb (length vs) watched_places) (leb k watched_places)) (formed_of (found_all s (take k vs))) None
 
 -- what is found before the first node: what a call asks for
 abbrev pub sought_from : ℕ → ℕ → Setting → ThresholdCounter → Findings

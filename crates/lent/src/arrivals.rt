@@ -13,7 +13,7 @@ use lentlaws::{scan, scan_back};
 use partners::{try_place, try_remove};
 use types::refusals::Refusal;
 use types::types::NodeId;
-use watched::nodes::{WatchedNode, moment};
+use watched::nodes::{WATCHED_PLACES, WatchedNode, moment};
 
 /// An add at one place: what is carried there.
 #[derive(Clone, Copy)]
@@ -149,7 +149,7 @@ pub fn remove(
     let found = inspect(nodes, *number, for_heard(node, 0)).ok_or(Refusal::WatchedNodes)?;
     try_remove(Some(found.watched))?;
     let closing = Closing {
-        left: 32,
+        left: WATCHED_PLACES,
         number: *number,
         node,
         next: WatchedNode::NONE,

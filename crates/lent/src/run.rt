@@ -11,7 +11,7 @@ use head::state::Head;
 use heartbeats::heartbeats::{is_late, refreshed};
 use lentlaws::fold;
 use tick::tick::checks_heartbeats;
-use watched::nodes::{NEVER, WatchedNode};
+use watched::nodes::{NEVER, WATCHED_PLACES, WatchedNode};
 use watched::record::NodeRecord;
 
 /// The errors of the late nodes, ascending: the first that crosses ends them.
@@ -182,7 +182,7 @@ pub fn walk(nodes: &[WatchedNode], first: Findings) -> Findings
 pub fn inspect(nodes: &[WatchedNode], number: usize, first: Findings) -> Option<Findings>
     ensures { result ≡ inspected number first nodes.now }
 {
-    if nodes.len() != 32 || 32 < number {
+    if nodes.len() != WATCHED_PLACES || WATCHED_PLACES < number {
         return None;
     }
     let found = walk(&nodes[..number], first);

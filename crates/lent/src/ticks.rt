@@ -13,6 +13,7 @@ ghost use Rattle.watched.specs.Watched.{run};
 
 use crate::run::{LateErrors, Setting, for_tick, set_times, inspect};
 use counters::counters::CounterKind;
+use entries::sizes::{HistoryBytes, QueueBytes};
 use head::parts::{set_counter, set_earliest, state_at};
 use head::state::Head;
 use heartbeats::phase::{PhaseOutcome, finish, signal};
@@ -48,8 +49,8 @@ fn count_late(head: &mut Head, late_errors: LateErrors) -> PhaseOutcome
 // The heartbeats, and what follows where no crossing ended the tick.
 fn phases(
     head: &mut Head,
-    queue: &mut [u8; 640],
-    history: &mut [u8; 5080],
+    queue: &mut QueueBytes,
+    history: &mut HistoryBytes,
     late_errors: LateErrors,
     time: Time,
 ) -> PhaseOutcome
@@ -73,8 +74,8 @@ fn phases(
 /// 2^62 - 1, BeforeHeard where heartbeats are checked; then nothing changes.
 pub fn process_tick(
     head: &mut Head,
-    queue: &mut [u8; 640],
-    history: &mut [u8; 5080],
+    queue: &mut QueueBytes,
+    history: &mut HistoryBytes,
     nodes: &mut [WatchedNode],
     number: usize,
     time: u64,

@@ -26,6 +26,7 @@ use Rattle.dll.specs.declared.cs_state_machine.DllCsState.TheVariants.{NonCyclic
 use Rattle.counters.specs.Counters.{new_counters, thresholds_fit, handled, HandledError, CompletedCycle}
 use Rattle.counters.specs.Marks.{Mark, error_marks}
 use Rattle.counters.specs.declared.counters.CnErrorCounters.{CnErrorCounters}
+use Rattle.entries.specs.Sizes.{queue_places, history_places}
 use Rattle.entries.specs.Ring.{nth, rest}
 use Rattle.entries.specs.declared.status_response.ErrorEntry.{ErrorEntry}
 use Rattle.head.specs.declared.state.SocWatch.{SocWatch}
@@ -33,7 +34,7 @@ use Rattle.head.specs.declared.state.Dictionary.{Dictionary}
 use Rattle.head.specs.Head.{soc_watch, forgotten}
 use Rattle.node.specs.declared.load.DictionaryUpdate.{DictionaryUpdate}
 use Rattle.watched.specs.declared.nodes.WatchedNode.{WatchedNode}
-use Rattle.watched.specs.Watched.{in_time, is_watched, unheard, watched_node, Run, run, watching, well_lent, changing, inserted, without, holding}
+use Rattle.watched.specs.Watched.{in_time, is_watched, unheard, watched_node, Run, run, watching, well_lent, changing, inserted, without, holding, watched_places}
 use Rattle.node.specs.Plain.{Plain, HistoryUpdate, set, keep, Start, Answer, refused, taken, nmt_answer, dll_answer, error_answer, cycle_answer, hand_out_answer, made, no_event, Step, begins, declined, FirstStep}
 
 -- a test that a call makes, and the refusal that it gives otherwise, as a number or as the value of
@@ -126,7 +127,7 @@ fresh s =
 abbrev pub start_tests : Start → List (Test ℕ)
 start_tests s =
     must (is_node s.node) 1 ∷
-    must (leb s.capacity 32) 2 ∷
+    must (leb s.capacity queue_places) 2 ∷
     must (well_lent s.watched) 3 ∷
     must (thresholds_fit s.thresholds) 14 ∷
     []
@@ -219,7 +220,7 @@ add_tests n o r =
     must (is_node n) 1 ∷
     must (both (well_lent r) (in_time o)) 3 ∷
     must (not (is_watched n (watching r))) 10 ∷
-    must (ltb r.number 32) 9 ∷
+    must (ltb r.number watched_places) 9 ∷
     []
 
 abbrev pub remove_tests : ℕ → Run → List (Test ℕ)
@@ -264,7 +265,7 @@ updated o u =
 
 -- of a history that is named the newest 254 entries are kept
 abbrev pub updated_history : List ErrorEntry → HistoryUpdate → List ErrorEntry
-updated_history old (set l) = take 254 l
+updated_history old (set l) = take history_places l
 updated_history old keep = old
 
 -- cycle and tolerance, either of which may be missing: then 0 and 100,000 ns count

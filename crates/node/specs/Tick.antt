@@ -18,6 +18,7 @@ use Rattle.nmt.specs.Nmt as Nmt
 use Rattle.dll.specs.Dll as Dll
 use Rattle.counters.specs.Counters.{handled, HandledError}
 use Rattle.counters.specs.Marks.{Mark, crosses, error_marks}
+use Rattle.entries.specs.Sizes.{history_places}
 use Rattle.entries.specs.Entry.{crossing_entry}
 use Rattle.entries.specs.declared.status_response.ErrorEntry.{ErrorEntry}
 use Rattle.head.specs.declared.state.Deadline.{Deadline}
@@ -237,7 +238,7 @@ abbrev pub kept : Plain → ErrorEntry → Plain
 kept p e =
     plain_of p.nmt p.dll p.errors p.soc
     (statistics p.od p.od.counter_1 (one_more p.od.counter_2) p.od.counter_3) p.capacity
-    (p.queue ++ (e ∷ [])) (take 254 (e ∷ p.history)) p.earliest
+    (p.queue ++ (e ∷ [])) (take history_places (e ∷ p.history)) p.earliest
 
 abbrev pub dropped_one : Plain → Plain
 dropped_one p = with_od p (statistics p.od p.od.counter_1 p.od.counter_2 (one_more p.od.counter_3))

@@ -19,6 +19,7 @@ ghost use Rattle.node.specs.InPlace.{error_words, cycle_words, arm_words, hand_o
 use crate::timing::armed;
 pub use counters::counters::ErrorTaken;
 use counters::counters::{CounterKind, ErrorEffect, effect_of};
+use entries::sizes::QueueBytes;
 use entries::status_response::ErrorEntry;
 use head::parts::{
     counter_of, dll_of, errors_of, forget, links_of, nmt_of, od_of, queue_of, set_counter, set_dll,
@@ -158,7 +159,7 @@ pub fn arm(head: &mut Head, time: u64) -> Result<(), Refusal>
 }
 
 /// The oldest entry, which leaves the emergency queue; of an empty queue, none.
-pub fn hand_out(head: &mut Head, memory: &[u8; 640]) -> Option<ErrorEntry>
+pub fn hand_out(head: &mut Head, memory: &QueueBytes) -> Option<ErrorEntry>
     ensures { ((m : List ℕ) → Refines (head_of head.old) memory.now m Call.hand_out
         (left (head_of head.new) (hand_out_answer result)) memory.now m no_run) ×
         (head.new ≡ hand_out_words head.old memory.now) ×

@@ -5,7 +5,7 @@ use Rattle.std.specs.Prelude.{ℕ, ◌≡◌, Bool, not, List, [], ◌∷◌, lt
 use Rattle.types.specs.Pick.{both}
 use Rattle.types.specs.declared.refusals.Refusal.TheVariants.{NodeNumber, WatchedNodes, NotWatched, AllWatched, AlreadyWatched}
 use Rattle.watched.specs.declared.nodes.WatchedNode.{WatchedNode}
-use Rattle.watched.specs.Watched.{in_time, Run, run}
+use Rattle.watched.specs.Watched.{in_time, Run, run, watched_places}
 use Rattle.watched.specs.Nodes.{nodes_of}
 use Rattle.std.specs.declared.result.Result.{Result}
 use Rattle.std.specs.declared.result.Result.TheVariants.{Ok, Err}
@@ -19,7 +19,7 @@ use Rattle.node.specs.InPlace.{unless_refused, OnRun}
 abbrev pub add_answer : Bool → Bool → ℕ → Bool → ℕ → Result (Unit {0}) Refusal
 add_answer known formed o watched k =
     tried
-    (must known NodeNumber ∷ must (both formed (in_time o)) WatchedNodes ∷ must (not watched) AlreadyWatched ∷ must (ltb k 32) AllWatched ∷ [])
+    (must known NodeNumber ∷ must (both formed (in_time o)) WatchedNodes ∷ must (not watched) AlreadyWatched ∷ must (ltb k watched_places) AllWatched ∷ [])
     Err (Ok tt)
 
 -- WatchedNodes, NotWatched

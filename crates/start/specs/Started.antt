@@ -9,6 +9,7 @@ use Rattle.types.specs.declared.refusals.Refusal.TheVariants.{NodeNumber, QueueC
 use Rattle.nmt.specs.Nmt as Nmt
 use Rattle.dll.specs.Dll.{fresh_machine}
 use Rattle.counters.specs.Counters.{new_counters, thresholds_fit, Thresholds}
+use Rattle.entries.specs.Sizes.{queue_places}
 use Rattle.entries.specs.Queue.{queue}
 use Rattle.entries.specs.History.{error_history}
 use Rattle.std.specs.Result.{IfOk}
@@ -86,7 +87,7 @@ unheard_words (suc i) ns = set (unheard_words i ns) (3 * i + 2) 0
 -- well formed
 abbrev pub start_answer : ℕ → ℕ → Bool → Thresholds → Result (Unit {0}) Refusal
 start_answer n c formed ts =
-    tried (must (is_node n) NodeNumber ∷ must (leb c 32) QueueCapacity ∷ must formed WatchedNodes ∷ must (thresholds_fit ts) ThresholdLimit ∷ []) Err (Ok tt)
+    tried (must (is_node n) NodeNumber ∷ must (leb c queue_places) QueueCapacity ∷ must formed WatchedNodes ∷ must (thresholds_fit ts) ThresholdLimit ∷ []) Err (Ok tt)
 
 -- the run that start leaves
 abbrev pub start_left : Result (Unit {0}) Refusal → Run → Run

@@ -12,6 +12,7 @@ ghost use Rattle.heartbeats.specs.PartsIn.{Turns, TicksIn};
 ghost use Rattle.tick.specs.TickIn.{LosesIn};
 
 use crate::soc::on_dll_errors;
+use entries::sizes::{HistoryBytes, QueueBytes};
 use head::parts::{
     check_of, check_off, deadline_at, dll_of, od_of, set_deadline, set_dll, soc_of, state_at,
     timeout_of,
@@ -81,7 +82,7 @@ fn soc_timeout(head: &mut Head) -> DllErrors
 }
 
 // The errors of a lost SoC are dealt with; where none brings an action, the deadline is set anew.
-fn lose(head: &mut Head, queue: &mut [u8; 640], history: &mut [u8; 5080], time: Time) -> PhaseOutcome
+fn lose(head: &mut Head, queue: &mut QueueBytes, history: &mut HistoryBytes, time: Time) -> PhaseOutcome
     ensures { TicksIn head.old queue.old history.old
         (lost (plain (head_of head.old) queue.old history.old) time.us)
         result head.new queue.new history.new
@@ -97,7 +98,7 @@ fn lose(head: &mut Head, queue: &mut [u8; 640], history: &mut [u8; 5080], time: 
 }
 
 // The SoC check, where it is on.
-fn soc_check(head: &mut Head, queue: &mut [u8; 640], history: &mut [u8; 5080], time: Time) -> PhaseOutcome
+fn soc_check(head: &mut Head, queue: &mut QueueBytes, history: &mut HistoryBytes, time: Time) -> PhaseOutcome
     ensures { TicksIn head.old queue.old history.old
         (soc_check (plain (head_of head.old) queue.old history.old) time.us)
         result head.new queue.new history.new
@@ -142,8 +143,8 @@ fn time_out(head: &mut Head)
 /// with now.
 pub fn by_deadline(
     head: &mut Head,
-    queue: &mut [u8; 640],
-    history: &mut [u8; 5080],
+    queue: &mut QueueBytes,
+    history: &mut HistoryBytes,
     time: Time,
 ) -> PhaseOutcome
     ensures { let deadline = (soc_of head.old).next_tick_us in

@@ -10,6 +10,7 @@ ghost use Rattle.head.specs.Words.{head_of};
 ghost use Rattle.tick.specs.TickWords.{entry_words, on_dll_error_words, on_dll_errors_words};
 ghost use Rattle.heartbeats.specs.PartsIn.{TicksIn};
 
+use entries::sizes::{HistoryBytes, QueueBytes};
 use entries::status_response::ErrorEntry;
 use head::parts::{history_of, increment_counter, queue_of, set_history, set_queue};
 use head::state::{Head, Statistic};
@@ -20,8 +21,8 @@ use types::frame::error::types::{DllError, DllErrors};
 // The entry of a crossing joins queue and history, with counter 2, or is dropped, with counter 3.
 fn queue_entry(
     head: &mut Head,
-    queue: &mut [u8; 640],
-    history: &mut [u8; 5080],
+    queue: &mut QueueBytes,
+    history: &mut HistoryBytes,
     error: DllError,
     time: u64,
 )
@@ -47,8 +48,8 @@ fn queue_entry(
 // One error of the SoC check.
 fn on_dll_error(
     head: &mut Head,
-    queue: &mut [u8; 640],
-    history: &mut [u8; 5080],
+    queue: &mut QueueBytes,
+    history: &mut HistoryBytes,
     error: DllError,
     time: u64,
 ) -> PhaseOutcome
@@ -70,8 +71,8 @@ fn on_dll_error(
 /// brings an action ends the tick.
 pub(crate) fn on_dll_errors(
     head: &mut Head,
-    queue: &mut [u8; 640],
-    history: &mut [u8; 5080],
+    queue: &mut QueueBytes,
+    history: &mut HistoryBytes,
     errors: DllErrors,
     time: u64,
 ) -> PhaseOutcome

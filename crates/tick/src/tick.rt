@@ -14,6 +14,7 @@ ghost use Rattle.heartbeats.specs.PartsIn.{TicksIn};
 ghost use Rattle.tick.specs.TickIn.{active_of, TickedIn, StillTicks};
 
 use crate::deadline::by_deadline;
+use entries::sizes::{HistoryBytes, QueueBytes};
 use head::parts::{set_earliest, state_at};
 use head::state::Head;
 use heartbeats::phase::PhaseOutcome;
@@ -46,8 +47,8 @@ fn active(checks: bool, nodes: &NodeWords, count: usize, time: u64) -> Option<Se
 // The heartbeats, and what follows where no crossing ended the tick.
 fn phases(
     head: &mut Head,
-    queue: &mut [u8; 640],
-    history: &mut [u8; 5080],
+    queue: &mut QueueBytes,
+    history: &mut HistoryBytes,
     formed: Formed,
     time: Time,
 ) -> PhaseOutcome
@@ -69,8 +70,8 @@ fn phases(
 // is written before the last test is passed.
 fn tick_active(
     head: &mut Head,
-    queue: &mut [u8; 640],
-    history: &mut [u8; 5080],
+    queue: &mut QueueBytes,
+    history: &mut HistoryBytes,
     nodes: &mut NodeWords,
     count: usize,
     time: u64,
@@ -98,8 +99,8 @@ fn tick_active(
 /// TimeLimit where the time is above 2^62 - 1; then nothing changes.
 pub fn tick_still(
     head: &mut Head,
-    queue: &mut [u8; 640],
-    history: &mut [u8; 5080],
+    queue: &mut QueueBytes,
+    history: &mut HistoryBytes,
     time: u64,
     late: Option<u64>,
 ) -> Result<DllErrors, Refusal>
@@ -119,8 +120,8 @@ pub fn tick_still(
 /// checked; then nothing changes.
 pub fn process_tick(
     head: &mut Head,
-    queue: &mut [u8; 640],
-    history: &mut [u8; 5080],
+    queue: &mut QueueBytes,
+    history: &mut HistoryBytes,
     nodes: &mut NodeWords,
     count: usize,
     time: u64,

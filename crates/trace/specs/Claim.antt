@@ -3,7 +3,7 @@
 -- Assumes nothing.
 use Rattle.std.specs.Prelude.{ℕ, ◌+◌, ◌*◌, ◌<◌, ◌≤◌, ◌≡◌, false, List, [], ◌∷◌, ◌++◌, length}
 use Rattle.types.specs.declared.nmt.states.NmtState.TheVariants.{NmtPreOperational2, NmtReadyToOperate}
-use Rattle.counters.specs.Counters.{counter, top, threshold_for}
+use Rattle.counters.specs.Counters.{counter, top, threshold_for, error_weight}
 use Rattle.counters.specs.Marks.{Mark, level, is_crossing, count_of, E, N, D}
 use Rattle.counters.specs.declared.counters.CounterKind.{CounterKind}
 use Rattle.entries.specs.declared.status_response.ErrorEntry.{ErrorEntry}
@@ -59,15 +59,15 @@ Each p (c ∷ cs) = Rule p c × Each (step p c).head cs
 -- cycles that took 1 from the level. An error adds 8 to the level, and a crossing clears it.
 pub record Balance (T : ℕ) (k : CounterKind) (ms : List Mark) (L : ℕ) : Type 0 where
   -- a crossing clears a level of at least T
-  pub low : 0 < T → T * N k ms + L + D k ms ≤ 8 * E k ms
+  pub low : 0 < T → T * N k ms + L + D k ms ≤ error_weight * E k ms
   -- and of at most T + 7: without the last error it was below T
-  pub high : 0 < T → 8 * E k ms ≤ (T + 7) * N k ms + L + D k ms
+  pub high : 0 < T → error_weight * E k ms ≤ (T + 7) * N k ms + L + D k ms
   -- a threshold of 0 never crosses
   pub none : T ≡ 0 → N k ms ≡ 0
   -- an error adds at most 8, for the level stops at its top of 2^32 − 1
-  pub most : T ≡ 0 → L + D k ms ≤ 8 * E k ms
+  pub most : T ≡ 0 → L + D k ms ≤ error_weight * E k ms
   -- and exactly 8 while 8 × E is no more than that
-  pub exact : T ≡ 0 → 8 * E k ms ≤ top → L + D k ms ≡ 8 * E k ms
+  pub exact : T ≡ 0 → error_weight * E k ms ≤ top → L + D k ms ≡ error_weight * E k ms
 
 -- what is counted of the calls cs behind the start s
 abbrev pub tallied : Start → List Call → Tally

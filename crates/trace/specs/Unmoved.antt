@@ -3,6 +3,7 @@
 -- Assumes nothing.
 use Rattle.std.specs.Prelude.{ℕ, ◌/◌, min, ◌≡◌, false, List, [], ◌∷◌, ◌++◌, length, get_or}
 use Rattle.types.specs.Pick.{pick}
+use Rattle.entries.specs.Sizes.{history_places}
 use Rattle.entries.specs.Ring.{listed}
 use Rattle.entries.specs.History.{error_history, history, place_before, joined}
 use Rattle.entries.specs.declared.status_response.ErrorEntry.{ErrorEntry}
@@ -55,7 +56,7 @@ joined_all h (e ∷ es) = joined_all (joined h) es
 -- the same after what a call brings: a load's newest entry stands at place 0, and at most 254 are
 -- taken
 abbrev pub stands_after : ErrorHistory → Brought → ErrorHistory
-stands_after h (by_load es) = error_history 0 (min (length es) 254)
+stands_after h (by_load es) = error_history 0 (min (length es) history_places)
 stands_after h (by_crossings es) = joined_all h es
 
 -- the places that entries are written to when they join the history h: each the place before the
@@ -66,7 +67,7 @@ joined_at h (e ∷ es) = place_before h ∷ joined_at (joined h) es
 
 -- the places that a call writes: a load one for each entry that it takes, from place 0 on
 abbrev pub written_at : ErrorHistory → Brought → List ℕ
-written_at h (by_load es) = listed (λ i. i) (min (length es) 254)
+written_at h (by_load es) = listed (λ i. i) (min (length es) history_places)
 written_at h (by_crossings es) = joined_at h es
 
 -- where the history stands behind a list of calls on the head p, and the places that they write

@@ -7,7 +7,7 @@ use Rattle.types.specs.Types.{is_node}
 use Rattle.entries.specs.Ring.{listed}
 use Rattle.watched.specs.declared.nodes.WatchedNode.{WatchedNode}
 use Rattle.watched.specs.declared.record.NodeRecord.{NodeRecord}
-use Rattle.watched.specs.Watched.{timed, fits, well_formed, watched_node, heard_at, place_of}
+use Rattle.watched.specs.Watched.{timed, fits, well_formed, watched_node, heard_at, place_of, watched_places}
 use Rattle.std.specs.declared.option.Option.{Option}
 use Rattle.std.specs.declared.option.Option.TheVariants.{Some, None}
 use Rattle.watched.specs.declared.nodes.Seen.{Seen}
@@ -22,7 +22,7 @@ node_at ns i = watched_node (get_or ns (3 * i) 0) (get_or ns (3 * i + 1) 0) (get
 
 -- the nodes at the 32 places
 unfoldable pub nodes_of : List ℕ → List WatchedNode
-nodes_of ns = listed (node_at ns) 32
+nodes_of ns = listed (node_at ns) watched_places
 
 -- a node rests at t: it was heard, not after t where it has a timeout, and is not late. A tick
 -- leaves it as it is

@@ -7,6 +7,10 @@ use Rattle.types.specs.Types.{is_node}
 use Rattle.entries.specs.Ring.{listed}
 use Rattle.watched.specs.declared.nodes.WatchedNode.{WatchedNode}
 
+-- the places of a run of watched nodes
+abbrev pub watched_places : ℕ
+watched_places = 32
+
 -- the latest time that is taken, 2^62 − 1 µs
 abbrev pub latest : ℕ
 latest = 4611686018427387903
@@ -30,7 +34,7 @@ fits w = both (is_node w.node) (timed w)
 
 -- the watched nodes are well formed: at most 32, ascending, each within its limits
 unfoldable pub well_formed : List WatchedNode → Bool
-well_formed ws = both (leb (length ws) 32) (both (ascending ws) (all_of fits ws))
+well_formed ws = both (leb (length ws) watched_places) (both (ascending ws) (all_of fits ws))
 
 -- a node by its number, its timeout and the time it was last heard
 abbrev pub watched_node : ℕ → ℕ → ℕ → WatchedNode
@@ -80,7 +84,7 @@ watching r = watched_of r.places r.number
 -- a run is well formed: it has 32 places, and its watched nodes are well formed. The places past
 -- the number may hold anything
 abbrev pub well_lent : Run → Bool
-well_lent r = both (eqb (length r.places) 32) (well_formed (watching r))
+well_lent r = both (eqb (length r.places) watched_places) (well_formed (watching r))
 
 -- a change of the first k nodes alone; the places behind stay
 abbrev pub first : (List WatchedNode → List WatchedNode) → ℕ → List WatchedNode → List WatchedNode
@@ -108,4 +112,4 @@ without n (w ∷ ws) = pick (eqb w.node n) ws (w ∷ without n ws)
 -- the run that watches these nodes, with zeros in the places past them, as an add or a removal
 -- leaves it
 abbrev pub holding : List WatchedNode → Run
-holding ws = run (ws ++ replicate (32 - length ws) no_node) (length ws)
+holding ws = run (ws ++ replicate (watched_places - length ws) no_node) (length ws)

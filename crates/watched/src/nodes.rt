@@ -2,7 +2,7 @@
 //! There are 32 places, of which the first ones, as many as the count says, are watched.
 ghost use Rattle.std.specs.Prelude.{◌≡◌, ◌≤◌, ◌<◌, ◌+◌, ◌*◌, set, true, MatchOption};
 ghost use Rattle.types.specs.Pick.{all_of};
-ghost use Rattle.watched.specs.Watched.{well_formed, no_node, watched_of};
+ghost use Rattle.watched.specs.Watched.{well_formed, no_node, watched_of, watched_places};
 ghost use Rattle.watched.specs.Scan.{scanned, over, scan_of, scanned_of, heard_scanned};
 ghost use Rattle.watched.specs.Scan.{nodes_from};
 ghost use Rattle.watched.specs.Nodes.{never, moment_of, well_ordered, numbered, active_from};
@@ -11,8 +11,11 @@ ghost use Rattle.watched.specs.Nodes.{nodes_tried, found_of, seen_of, node_of, n
 use crate::record::NodeRecord;
 use crate::time::in_time;
 
-/// A run of watched nodes as words: 32 places of three.
-pub type NodeWords = [u64; 96];
+/// The places of a run of watched nodes.
+pub const WATCHED_PLACES: usize = 32;
+
+/// A run of watched nodes as words: three a place.
+pub type NodeWords = [u64; 3 * WATCHED_PLACES];
 
 /// A watched node.
 #[derive(Clone, Copy, PartialEq, Eq)]
@@ -52,7 +55,7 @@ pub fn moment(soonest: u64) -> Option<u64>
 
 /// Sets when the node at a place was last heard, in µs.
 pub fn set_heard(nodes: &mut NodeWords, place: usize, time: u64)
-    requires { place < 32 }
+    requires { place < watched_places }
     ensures { nodes.new ≡ set nodes.old (3 * place + 2) time }
 {
     nodes[3 * place + 2] = time;
@@ -71,7 +74,7 @@ struct Scanned {
 impl Scanned {
     // The same behind the node at its place.
     fn over(self, node: NodeRecord) -> Self
-        requires { self.place < 32 }
+        requires { self.place < watched_places }
         ensures { result ≡ over self (node_of node) }
     {
         Scanned {
@@ -90,7 +93,7 @@ struct Ahead<'a> {
     count: usize,
     place: usize,
     last: u64,
-    ghost few: { count ≤ 32 },
+    ghost few: { count ≤ watched_places },
 }
 
 impl<'a> Ahead<'a> {
@@ -98,10 +101,10 @@ impl<'a> Ahead<'a> {
     // two cases by selects, which slows the walks.
     #[inline(always)]
     fn all(nodes: &'a NodeWords, count: usize) -> Option<Self>
-        ensures { MatchOption result (32 < count)
+        ensures { MatchOption result (watched_places < count)
             (λ a. (a.nodes.now ≡ nodes.now) × (a.count ≡ count) × (a.place ≡ 0) × (a.last ≡ 0)) }
     {
-        if 32 < count {
+        if WATCHED_PLACES < count {
             return None;
         }
         Some(Ahead {
