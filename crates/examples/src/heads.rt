@@ -18,10 +18,12 @@ use counters::counters::{CnErrorCounters, CounterKind, ThresholdCounter, Thresho
 use dll::cs_state_machine::{DllCsState, DllCsStateMachine};
 use entries::emergency_queue::EmergencyQueue;
 use entries::error_history::ErrorHistory;
-use head::parts::{
-    clear, set_capacity, set_counter, set_dll, set_earliest, set_history, set_identity, set_nmt,
-    set_od, set_queue, set_soc, set_thresholds,
-};
+use head::dictionary::set_od;
+use head::errors::{set_counter, set_thresholds};
+use head::machines::{set_dll, set_identity, set_nmt};
+use head::memory::{set_capacity, set_history, set_queue};
+use head::watch::{set_earliest, set_soc};
+use head::words::clear;
 use head::state::{Deadline, Dictionary, Head, SocWatch};
 use nmt::cn_state_machine::{CnNmtStateMachine, Position};
 use types::nmt::flags::FeatureFlags;

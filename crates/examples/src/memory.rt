@@ -7,7 +7,7 @@ ghost use Rattle.examples.specs.Same.{Exactly};
 
 use entries::sizes::{HistoryBytes, QueueBytes};
 use entries::status_response::ErrorEntry;
-use head::parts::{history_of, queue_of};
+use head::memory::{history_of, queue_of};
 use head::state::Head;
 
 // Two functions of one shape: the two rings are different types, and a trait for both would be

@@ -6,9 +6,9 @@ ghost use Rattle.node.specs.Tick.{acts, signalled, event_in_tick};
 ghost use Rattle.heartbeats.specs.PartWords.{signal_words, event_words};
 ghost use Rattle.heartbeats.specs.PartsIn.{Turns, FinishesIn};
 
-use head::parts::{
-    check_off, increment_counter, nmt_of, register_of, set_changed, set_nmt, set_register,
-};
+use head::dictionary::{increment_counter, register_of, set_register};
+use head::machines::{nmt_of, set_nmt};
+use head::watch::{check_off, set_changed};
 use head::state::{Head, Statistic};
 use types::frame::error::types::{DllErrors, NmtAction};
 use types::nmt::events::NmtEvent;

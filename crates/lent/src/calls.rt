@@ -4,7 +4,7 @@ ghost use Rattle.node.specs.Heard.{HeardOn};
 ghost use Rattle.start.specs.Started.{StartedOn};
 
 use crate::run::{Setting, for_heard, for_nodes, set_times, inspect};
-use head::parts::set_earliest;
+use head::watch::set_earliest;
 use head::state::Head;
 use node::heard::try_heard;
 use start::start::{Setup, begin};

@@ -6,7 +6,8 @@ ghost use Rattle.lent.specs.Runs.{sought_from, asked_for, for_heard, for_tick, t
 ghost use Rattle.lent.specs.Runs.{found_by, found_all, inspected, times_set, setting_of, times_set_all};
 
 use counters::counters::{CounterKind, ThresholdCounter};
-use head::parts::{counter_of, state_at};
+use head::errors::counter_of;
+use head::machines::state_at;
 use head::state::Head;
 use heartbeats::heartbeats::{is_late, refreshed};
 use lentlaws::fold;

@@ -21,10 +21,11 @@ pub use counters::counters::ErrorTaken;
 use counters::counters::{CounterKind, ErrorEffect, effect_of};
 use entries::sizes::QueueBytes;
 use entries::status_response::ErrorEntry;
-use head::parts::{
-    counter_of, dll_of, errors_of, forget, links_of, nmt_of, od_of, queue_of, set_counter, set_dll,
-    set_levels, set_links, set_nmt, set_queue, set_ready, set_soc, soc_of, state_at,
-};
+use head::dictionary::od_of;
+use head::errors::{counter_of, errors_of, links_of, set_counter, set_levels, set_links};
+use head::machines::{dll_of, nmt_of, set_dll, set_nmt, set_ready, state_at};
+use head::memory::{queue_of, set_queue};
+use head::watch::{forget, set_soc, soc_of};
 use head::state::Head;
 use nmt::state_machine::{ResetSequence, is_reset};
 use types::frame::cs_state_machine::DllCsEvent;

@@ -9,7 +9,8 @@ ghost use Rattle.head.specs.Head.{head_with_od};
 
 use entries::error_history::ErrorHistory;
 use entries::sizes::HistoryBytes;
-use head::parts::{set_history, set_object, set_register, set_statistic};
+use head::dictionary::{set_object, set_register, set_statistic};
+use head::memory::set_history;
 use head::state::{Head, Object, Statistic};
 
 /// The values of the dictionary that a load names; `None` leaves one as it is. Cycle and tolerance

@@ -8,7 +8,8 @@ ghost use Rattle.node.specs.InPlace.{Reading, range_said, margin_said};
 ghost use Rattle.head.specs.Words.{head_of};
 
 use crate::timing::{last_soc, limit, time_since};
-use head::parts::{od_of, soc_of};
+use head::dictionary::od_of;
+use head::watch::soc_of;
 use head::state::Head;
 use types::refusals::Refusal;
 use watched::time::Time;

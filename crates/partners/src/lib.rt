@@ -10,7 +10,7 @@ ghost use Rattle.watched.specs.Watched.{no_node, inserted, watched_places};
 ghost use Rattle.partners.specs.Walks.{place_before, closed};
 ghost use Rattle.partners.specs.Partners.{add_answer, remove_answer, Added, Removed};
 
-use head::parts::set_earliest;
+use head::watch::set_earliest;
 use head::state::Head;
 use types::refusals::Refusal;
 use types::types::NodeId;

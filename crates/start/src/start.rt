@@ -8,7 +8,11 @@ ghost use Rattle.watched.specs.Nodes.{nodes_of};
 
 use counters::counters::{CnErrorCounters, Thresholds};
 use entries::sizes::QUEUE_PLACES;
-use head::parts::{clear, set_capacity, set_identity, set_nmt, set_od, set_thresholds};
+use head::dictionary::set_od;
+use head::errors::set_thresholds;
+use head::machines::{set_identity, set_nmt};
+use head::memory::set_capacity;
+use head::words::clear;
 use head::state::{Dictionary, Head};
 use nmt::cn_state_machine::CnNmtStateMachine;
 use types::nmt::flags::FeatureFlags;

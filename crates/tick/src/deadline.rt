@@ -13,10 +13,9 @@ ghost use Rattle.tick.specs.TickIn.{LosesIn};
 
 use crate::soc::on_dll_errors;
 use entries::sizes::{HistoryBytes, QueueBytes};
-use head::parts::{
-    check_of, check_off, deadline_at, dll_of, od_of, set_deadline, set_dll, soc_of, state_at,
-    timeout_of,
-};
+use head::dictionary::od_of;
+use head::machines::{dll_of, set_dll, state_at, timeout_of};
+use head::watch::{check_of, check_off, deadline_at, set_deadline, soc_of};
 use head::state::{Deadline, Head};
 use heartbeats::phase::{PhaseOutcome, timeout_in_tick};
 use node::range::is_loss;

@@ -12,7 +12,8 @@ ghost use Rattle.heartbeats.specs.PartsIn.{TicksIn};
 
 use entries::sizes::{HistoryBytes, QueueBytes};
 use entries::status_response::ErrorEntry;
-use head::parts::{history_of, increment_counter, queue_of, set_history, set_queue};
+use head::dictionary::increment_counter;
+use head::memory::{history_of, queue_of, set_history, set_queue};
 use head::state::{Head, Statistic};
 use heartbeats::phase::{PhaseOutcome, acts, finish, signal};
 use node::calls::handled;

@@ -15,7 +15,8 @@ ghost use Rattle.tick.specs.TickIn.{active_of, TickedIn, StillTicks};
 
 use crate::deadline::by_deadline;
 use entries::sizes::{HistoryBytes, QueueBytes};
-use head::parts::{set_earliest, state_at};
+use head::machines::state_at;
+use head::watch::set_earliest;
 use head::state::Head;
 use heartbeats::phase::PhaseOutcome;
 use heartbeats::heartbeats::{on_late_all, refresh_all};

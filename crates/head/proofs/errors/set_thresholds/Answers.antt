@@ -1,10 +1,10 @@
--- `head::parts::set_thresholds` meets its contract: the word of each kind is its counter's own.
+-- `head::errors::set_thresholds` meets its contract: the word of each kind is its counter's own.
 -- Assumes nothing.
 use mathlib.Core.Path.{◌∙◌}
 use Rattle.std.proofs.Common.{rules}
 use Rattle.counters.specs.Counters.{counter, of_kind}
 use Rattle.head.proofs.Each.{same_each}
-use Rattle.head.proofs.parts.set_thresholds.Goals as goal
+use Rattle.head.proofs.errors.set_thresholds.Goals as goal
 
 pub returns : goal.returns
 returns c =

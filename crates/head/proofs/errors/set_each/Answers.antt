@@ -1,9 +1,9 @@
--- `head::parts::set_each` meets its contract: a word is written, and after the last every kind has
+-- `head::errors::set_each` meets its contract: a word is written, and after the last every kind has
 -- its own.
 -- Assumes nothing.
 use Rattle.std.proofs.Common.{◌+◌, ◌*◌, ap, sym, ◌∙◌, arith}
 use Rattle.head.proofs.Each.{nth_written, one_written, all_written, kinds_written}
-use Rattle.head.proofs.parts.set_each.Goals as goal
+use Rattle.head.proofs.errors.set_each.Goals as goal
 
 pub loop-i-preserved : goal.loop-i-preserved
 loop-i-preserved c =

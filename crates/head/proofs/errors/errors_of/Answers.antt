@@ -1,10 +1,10 @@
--- `head::parts::errors_of` meets its contract, kind by kind.
+-- `head::errors::errors_of` meets its contract, kind by kind.
 -- Assumes nothing.
 use Rattle.std.proofs.Common.{rules}
 use Rattle.counters.proofs.ByKind.{from_each}
 use Rattle.head.specs.Places as at
 use Rattle.head.specs.Words.{counter_at, word}
-use Rattle.head.proofs.parts.errors_of.Goals as goal
+use Rattle.head.proofs.errors.errors_of.Goals as goal
 
 pub returns : goal.returns
 returns c =

@@ -1,8 +1,8 @@
--- `head::parts::set_option` meets its contract: what `write` leaves.
+-- `head::words::set_option` meets its contract: what `write` leaves.
 -- Assumes nothing.
 use mathlib.Core.Path.{refl}
 use Rattle.std.proofs.Common.{rules}
-use Rattle.head.proofs.parts.set_option.Goals as goal
+use Rattle.head.proofs.words.set_option.Goals as goal
 
 pub returns-in-Some : goal.returns-in-Some
 returns-in-Some g c =
