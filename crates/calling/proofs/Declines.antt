@@ -25,7 +25,8 @@ use Rattle.types.proofs.Reading.{reads_holds}
 use Rattle.watched.specs.Watched.{in_time, heard_at, unheard, Run, watching, changing}
 use Rattle.node.specs.Plain.{Plain, Call, nmt_event, dll_event, error, cycle_complete, withdraw, heard, hand_out, load, arm, tick, range, margin, add, remove, next_due, refused, taken, range_answer, margin_answer, due_answer, Step, Start, Begun, begins, declined, FirstStep}
 use Rattle.node.specs.Steps.{Test, tried, no_run, answers, declines, leaves, with_nmt, with_soc, nmt_step, dll_step, error_step, withdrawn, withdraw_tests, heard_tests, add_tests, remove_tests, added, removed, arm_tests, armed, fresh, start_tests, started}
-use Rattle.node.specs.Tick.{tick_tests, tick_taken, tick_answered, refreshed_at}
+use Rattle.node.specs.Heartbeats.{refreshed_at}
+use Rattle.node.specs.Tick.{tick_tests, tick_taken, tick_answered}
 use Rattle.node.specs.Range.{range_tests, margin_tests, verdict_of, margin_of}
 use Rattle.node.specs.Due.{due, due_tests}
 use Rattle.node.specs.Run.{step}

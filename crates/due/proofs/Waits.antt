@@ -33,13 +33,17 @@ use Rattle.node.specs.Plain.{Plain, Call, tick_answer, Step}
 use Rattle.node.specs.Steps.{declines, up_to_date, with_dll, cycle_of, tolerance_of, limit_of, late_from, smaller, earliest}
 use lib.ListN.{set}
 use Rattle.head.specs.Places as at
-use Rattle.node.specs.Tick.{Ticked, used_up, with_deadline, rescheduled, within_limit, last_soc, soc_timeout, lost, is_loss, soc_check, on_dll_errors, goes_on, behind, checks_heartbeats, is_late, refreshed, late_ones, on_late_all, heartbeats, at_not_active, basic_timeout, by_deadline, tick_taken, tick_answered, refreshed_at}
+use Rattle.node.specs.Phases.{Ticked, goes_on, behind}
+use Rattle.node.specs.Heartbeats.{checks_heartbeats, is_late, refreshed, late_ones, on_late_all, heartbeats, refreshed_at}
+use Rattle.node.specs.DllErrors.{on_dll_errors}
+use Rattle.node.specs.Deadline.{used_up, with_deadline, rescheduled, within_limit, last_soc, soc_timeout, lost, is_loss, soc_check, at_not_active, basic_timeout, by_deadline}
+use Rattle.node.specs.Tick.{tick_taken, tick_answered}
 use Rattle.node.specs.Run.{step}
 use Rattle.node.specs.Refines.{plain, Rings, rings, joins_all}
 use Rattle.node.specs.Due.{deadline_due, was_heard, nodes_due, due, IsBefore}
 use Rattle.node.proofs.Watch.{tested, next_later, on_dll_errors_deadline}
 use Rattle.node.proofs.Fixed.{apart, errors_of_lem}
-use Rattle.heartbeats.specs.PartWords.{on_late_all_words, refreshed_words}
+use Rattle.heartbeats.specs.Words.{on_late_all_words, refreshed_words}
 use Rattle.heartbeats.proofs.LateWalk.{rest_late, rest_run, rest_words_lem}
 use Rattle.tick.specs.TickIn.{is_still, TickedOn, TickedIn}
 use Rattle.tick.specs.TickWords.{unlent, passed_words, rest_words, tick_words, deadline_words, basic_words}

@@ -14,7 +14,7 @@ use Rattle.watched.specs.declared.nodes.WatchedNode.{WatchedNode}
 use Rattle.watched.specs.Watched.{fits, Run, watched_places}
 use Rattle.watched.specs.Nodes.{never, moment_of, sooner_by}
 use Rattle.node.specs.Steps.{smaller}
-use Rattle.node.specs.Tick.{checks_heartbeats}
+use Rattle.node.specs.Heartbeats.{checks_heartbeats}
 use Rattle.node.specs.Due.{deadline_due, was_heard}
 use Rattle.tick.specs.TickWords.{unlent}
 use Rattle.due.specs.declared.moment.Walk.{Walk}

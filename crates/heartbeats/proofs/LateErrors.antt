@@ -14,11 +14,12 @@ use Rattle.head.specs.Head.{Head, head_with_errors}
 use Rattle.watched.specs.declared.nodes.WatchedNode.{WatchedNode}
 use Rattle.watched.specs.Watched.{watched_of}
 use Rattle.node.specs.Plain.{Plain}
-use Rattle.node.specs.Tick.{Ticked, goes_on, behind, is_late, late_ones, acts, signalled, event_in_tick, on_handled, on_late_by, timeout_of, on_late, on_late_all}
+use Rattle.node.specs.Phases.{Ticked, goes_on, behind, acts, signalled, event_in_tick, on_handled}
+use Rattle.node.specs.Heartbeats.{is_late, late_ones, on_late_by, timeout_of, on_late, on_late_all}
 use Rattle.node.specs.Refines.{plain, SamePlaces, Becomes, Rings, rings, joins_all}
-use Rattle.heartbeats.specs.Parts.{PartLeft, Finishes, Ticks}
+use Rattle.phases.specs.Parts.{PartLeft, Finishes, Ticks}
 use Rattle.watched.proofs.Lists.{from_here, at_end, whole}
-use Rattle.heartbeats.proofs.PartLaws.{handled_quiet, Alike}
+use Rattle.phases.proofs.PartLaws.{handled_quiet, Alike}
 
 -- the error of one late node, from what its parts left
 module _ (h : Head) (w : WatchedNode) (r : HandledError) (e : r ≡ handled h.errors (timeout_of w)) (a : Bool) (n : a ≡ acts r.action) (f : PartLeft) where

@@ -12,11 +12,13 @@ use Rattle.counters.specs.Counters.{effect, handled, HandledError, replied}
 use Rattle.head.specs.Head.{Head, head_with_errors}
 use Rattle.watched.specs.declared.nodes.WatchedNode.{WatchedNode}
 use Rattle.watched.specs.Watched.{in_time, fits, well_formed, no_node, heard_now, watched_of, Run, watching, changing}
-use Rattle.node.specs.Tick.{is_late, refreshed, late_ones, acts, signalled, timeout_of, on_late, on_late_all}
+use Rattle.node.specs.Phases.{acts, signalled}
+use Rattle.node.specs.Heartbeats.{is_late, refreshed, late_ones, timeout_of, on_late, on_late_all}
 use Rattle.node.specs.Refines.{plain, Becomes}
 use Rattle.watched.proofs.Lists.{watched_take, each_ahead, each_turn, from_here, at_end, whole}
-use Rattle.heartbeats.specs.Parts.{Finishes, refreshed_first}
-use Rattle.heartbeats.proofs.Handled.{handled_written, ending, signals, logs}
+use Rattle.phases.specs.Parts.{Finishes}
+use Rattle.heartbeats.specs.Words.{refreshed_first, refreshed_time, refresh_words, refreshed_words, on_late_words, on_late_all_words}
+use Rattle.phases.proofs.Handled.{handled_written, ending, signals, logs}
 use Rattle.heartbeats.proofs.LateErrors.{on_late_signalled, on_late_unsignalled, LateWalkOf, late_errors_begin, late_errors_over, late_errors_pass, late_errors_stop, late_errors_go_on}
 use Rattle.head.specs.Words.{errors_of, head_of}
 use Rattle.watched.specs.Nodes.{node_at, nodes_of, rests, not_before, never, sooner_by, soonest}
@@ -28,9 +30,9 @@ use Rattle.watched.specs.Scan.{sum_of, three_before}
 use Rattle.watched.proofs.Limits.{all_at}
 use Rattle.watched.proofs.Walk.{sooner_by_lem, joined}
 use Rattle.watched.proofs.Watching.{places, few, node_at_lem, rests_heard, heard_written}
-use Rattle.heartbeats.specs.declared.phase.PhaseOutcome.{PhaseOutcome}
-use Rattle.heartbeats.specs.PartWords.{signal_words, refreshed_time, refresh_words, refreshed_words, finished_words, ends_by, on_late_words, on_late_all_words}
-use Rattle.heartbeats.specs.PartsIn.{Turns, outcome_of, FinishesIn, TicksIn}
+use Rattle.phases.specs.declared.PhaseOutcome.{PhaseOutcome}
+use Rattle.phases.specs.PartWords.{signal_words, finished_words, ends_by}
+use Rattle.phases.specs.PartsIn.{Turns, outcome_of, FinishesIn, TicksIn}
 
 -- the look at one node
 pub refreshed_by : (t : ℕ) (w : WatchedNode) → heard_now (refreshed_time t w.timeout w.last_heard) w ≡ refreshed t w

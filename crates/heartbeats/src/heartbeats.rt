@@ -3,15 +3,16 @@
 ghost use Rattle.std.specs.Prelude.{◌≡◌, ℕ, ◌≤◌, true, List, map};
 ghost use Rattle.watched.specs.declared.nodes.WatchedNode.{WatchedNode};
 ghost use Rattle.watched.specs.Watched.{well_formed, watched_of};
-ghost use Rattle.node.specs.Tick.{is_late, refreshed, late_ones, on_late, on_late_all};
+ghost use Rattle.node.specs.Heartbeats.{is_late, refreshed, late_ones, on_late, on_late_all};
 ghost use Rattle.node.specs.Refines.{plain};
-ghost use Rattle.heartbeats.specs.Parts.{refreshed_first};
+ghost use Rattle.heartbeats.specs.Words.{refreshed_first};
 ghost use Rattle.head.specs.Words.{head_of};
 ghost use Rattle.watched.specs.Nodes.{node_of, nodes_of, never, soonest, moment_of};
-ghost use Rattle.heartbeats.specs.PartWords.{refreshed_time, refreshed_words, on_late_words, on_late_all_words};
-ghost use Rattle.heartbeats.specs.PartsIn.{TicksIn};
+ghost use Rattle.heartbeats.specs.Words.{refreshed_time, refreshed_words, on_late_words};
+ghost use Rattle.heartbeats.specs.Words.{on_late_all_words};
+ghost use Rattle.phases.specs.PartsIn.{TicksIn};
 
-use crate::phase::{PhaseOutcome, acts, finish, signal};
+use phases::{PhaseOutcome, acts, finish, signal};
 use head::state::Head;
 use node::calls::handled;
 use node::timing::time_since;

@@ -23,7 +23,8 @@ use Rattle.watched.specs.Watched.{in_time, heard_at, watched_of, Run, run, watch
 use Rattle.watched.proofs.Lists.{each_nodes, heard_nodes}
 use Rattle.node.specs.Plain.{heard}
 use Rattle.node.specs.Steps.{earliest}
-use Rattle.node.specs.Tick.{checks_heartbeats, refreshed, tick_taken}
+use Rattle.node.specs.Heartbeats.{checks_heartbeats, refreshed}
+use Rattle.node.specs.Tick.{tick_taken}
 use Rattle.watched.specs.Nodes.{not_before, never, soonest, moment_of}
 use Rattle.node.specs.Refines.{plain}
 use Rattle.node.specs.Heard.{heard_answer, HeardOn}
@@ -32,8 +33,8 @@ use Rattle.node.proofs.OnRuns.{run_declined}
 use Rattle.node.proofs.Hearing.{taken_passed, heard_declined, heard_taken}
 use Rattle.start.specs.declared.start.Setup.{Setup}
 use Rattle.start.specs.Started.{start_left, StartedOn, BeginsBy}
-use Rattle.heartbeats.specs.declared.phase.PhaseOutcome.{PhaseOutcome}
-use Rattle.heartbeats.specs.PartsIn.{TicksIn}
+use Rattle.phases.specs.declared.PhaseOutcome.{PhaseOutcome}
+use Rattle.phases.specs.PartsIn.{TicksIn}
 use Rattle.heartbeats.proofs.LateWalk.{all_refreshed_fit}
 use Rattle.tick.specs.TickWords.{tick_words}
 use Rattle.tick.specs.TickIn.{is_still, TickedOn, StillTicks}

@@ -27,13 +27,15 @@ use Rattle.head.proofs.Laws.{counter_written_lem}
 use Rattle.watched.specs.declared.nodes.WatchedNode.{WatchedNode}
 use Rattle.node.specs.Plain.{Plain}
 use Rattle.node.specs.Steps.{with_errors}
-use Rattle.node.specs.Tick.{Ticked, goes_on, acts, is_late, late_ones, signalled, event_in_tick, finished, on_late_by, timeout_of, on_late, on_late_all}
+use Rattle.node.specs.Phases.{Ticked, goes_on, acts, signalled, event_in_tick, finished}
+use Rattle.node.specs.Heartbeats.{is_late, late_ones, on_late_by, timeout_of, on_late, on_late_all}
 use Rattle.node.specs.Refines.{plain, rings}
 use Rattle.node.proofs.Refining.{check_keeps}
-use Rattle.heartbeats.specs.declared.phase.PhaseOutcome.{PhaseOutcome}
-use Rattle.heartbeats.specs.PartWords.{signal_words, finished_words, ends_by, on_late_words, on_late_all_words}
-use Rattle.heartbeats.specs.PartsIn.{Turns, outcome_of, FinishesIn, TicksIn}
-use Rattle.heartbeats.proofs.PartLaws.{Alike}
+use Rattle.phases.specs.declared.PhaseOutcome.{PhaseOutcome}
+use Rattle.phases.specs.PartWords.{signal_words, finished_words, ends_by}
+use Rattle.heartbeats.specs.Words.{on_late_words, on_late_all_words}
+use Rattle.phases.specs.PartsIn.{Turns, outcome_of, FinishesIn, TicksIn}
+use Rattle.phases.proofs.PartLaws.{Alike}
 use Rattle.heartbeats.proofs.LateErrors.{late_errors_on, alike_then, same_alike, alike_ticks, late_errors_end}
 use Rattle.lentlaws.specs.Fold.{folded}
 use Rattle.lent.specs.declared.run.LateErrors.{LateErrors}

@@ -12,7 +12,7 @@ use Rattle.head.specs.Words.{nmt_of, counter_at}
 use Rattle.watched.specs.declared.nodes.WatchedNode.{WatchedNode}
 use Rattle.watched.specs.Watched.{fits, heard_now, watched_places}
 use Rattle.watched.specs.Nodes.{not_before, never, sooner_by}
-use Rattle.node.specs.Tick.{checks_heartbeats, is_late, refreshed}
+use Rattle.node.specs.Heartbeats.{checks_heartbeats, is_late, refreshed}
 use Rattle.lentlaws.specs.Fold.{folded}
 use Rattle.lentlaws.specs.Scan.{scanned}
 use Rattle.lent.specs.declared.run.LateErrors.{LateErrors}

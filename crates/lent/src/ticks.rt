@@ -2,11 +2,12 @@
 //! ask, the head's part follows, and a walk sets the last-heard times.
 ghost use Rattle.std.specs.Prelude.{◌≡◌, true, List, ℕ};
 ghost use Rattle.head.specs.Words.{nmt_of, head_of};
-ghost use Rattle.node.specs.Tick.{checks_heartbeats, late_ones, on_late_all, tick_taken};
+ghost use Rattle.node.specs.Heartbeats.{checks_heartbeats, late_ones, on_late_all};
+ghost use Rattle.node.specs.Tick.{tick_taken};
 ghost use Rattle.node.specs.Refines.{plain};
-ghost use Rattle.heartbeats.specs.PartWords.{on_late_all_words};
+ghost use Rattle.heartbeats.specs.Words.{on_late_all_words};
 ghost use Rattle.tick.specs.TickWords.{tick_words};
-ghost use Rattle.heartbeats.specs.PartsIn.{TicksIn};
+ghost use Rattle.phases.specs.PartsIn.{TicksIn};
 ghost use Rattle.lent.specs.Runs.{late_errors_all};
 ghost use Rattle.tick.specs.TickIn.{TickedOn};
 ghost use Rattle.watched.specs.Watched.{run};
@@ -18,7 +19,7 @@ use head::errors::set_counter;
 use head::machines::state_at;
 use head::watch::set_earliest;
 use head::state::Head;
-use heartbeats::phase::{PhaseOutcome, finish, signal};
+use phases::{PhaseOutcome, finish, signal};
 use tick::deadline::by_deadline;
 use tick::tick::{checks_heartbeats, tick_still};
 use types::frame::error::types::{DllError, DllErrors};

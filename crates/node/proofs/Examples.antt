@@ -16,7 +16,10 @@ use Rattle.entries.specs.Entry.{crossing_entry}
 use Rattle.watched.specs.Watched.{well_formed}
 use Rattle.entries.specs.Ring.{listed}
 use Rattle.node.specs.Steps.{earliest, fresh}
-use Rattle.node.specs.Tick.{on_late, on_late_all, queued, on_dll_error, on_dll_errors, soc_check, tick_taken}
+use Rattle.node.specs.Heartbeats.{on_late, on_late_all}
+use Rattle.node.specs.DllErrors.{queued, on_dll_error, on_dll_errors}
+use Rattle.node.specs.Deadline.{soc_check}
+use Rattle.node.specs.Tick.{tick_taken}
 use Rattle.node.specs.Examples.{comes_of, stated, examples}
 
 pub examples_hold : (map comes_of examples ≡ map stated examples) × (length examples ≡ 12)

@@ -29,7 +29,11 @@ use Rattle.watched.specs.declared.nodes.WatchedNode.{WatchedNode}
 use Rattle.watched.specs.Watched.{latest}
 use Rattle.node.specs.Plain.{Plain}
 use Rattle.node.specs.Steps.{with_dll, with_errors, cycle_of, tolerance_of, limit_of, value_or, armed}
-use Rattle.node.specs.Tick.{Ticked, goes_on, behind, checks_heartbeats, acts, signalled, finished, on_late_by, timeout_of, on_late, on_late_all, late_ones, heartbeats, with_deadline, at_not_active, timed_out, counter1, kept, dropped_one, queued, on_dll_error_by, on_dll_error, on_dll_errors, last_soc, elapsed, next_deadline, rescheduled, within_limit, soc_timeout, lost, soc_check, by_deadline, tick_taken}
+use Rattle.node.specs.Phases.{Ticked, goes_on, behind, acts, signalled, finished}
+use Rattle.node.specs.Heartbeats.{checks_heartbeats, on_late_by, timeout_of, on_late, on_late_all, late_ones, heartbeats}
+use Rattle.node.specs.DllErrors.{counter1, kept, dropped_one, queued, on_dll_error_by, on_dll_error, on_dll_errors}
+use Rattle.node.specs.Deadline.{with_deadline, at_not_active, timed_out, last_soc, elapsed, next_deadline, rescheduled, within_limit, soc_timeout, lost, soc_check, by_deadline}
+use Rattle.node.specs.Tick.{tick_taken}
 use Rattle.node.specs.Watch.{Watching, OffOrLater, off, later, Sleeps, Raised, Moves}
 use Rattle.node.proofs.Refining.{picked}
 

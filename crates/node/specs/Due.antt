@@ -10,7 +10,8 @@ use Rattle.watched.specs.declared.nodes.WatchedNode.{WatchedNode}
 use Rattle.watched.specs.Watched.{Run, watching, well_lent}
 use Rattle.node.specs.Plain.{Plain, due_answer, Step}
 use Rattle.node.specs.Steps.{Test, must, tried, answers, declines, smaller, earliest}
-use Rattle.node.specs.Tick.{checks_heartbeats, at_not_active, basic_timeout}
+use Rattle.node.specs.Heartbeats.{checks_heartbeats}
+use Rattle.node.specs.Deadline.{at_not_active, basic_timeout}
 
 -- Of the head alone: the deadline, if one stands. Without one a tick at NotActive sets it, if the basic timeout is above 0: at once.
 abbrev pub deadline_due : Plain → Deadline → Option ℕ

@@ -8,7 +8,7 @@ use Rattle.node.specs.declared.range.SocVerdict.{SocVerdict}
 use Rattle.node.specs.declared.range.SocVerdict.TheVariants as verdict
 use Rattle.node.specs.Plain.{Plain, Step, range_answer, margin_answer}
 use Rattle.node.specs.Steps.{Test, must, tried, answers, declines, no_run, limit_of}
-use Rattle.node.specs.Tick.{elapsed, is_loss}
+use Rattle.node.specs.Deadline.{elapsed, is_loss}
 
 -- a range: TimeLimit for either reading, EarliestAfterLatest; a margin: TimeLimit
 abbrev pub range_tests : ℕ → ℕ → List (Test ℕ)

@@ -9,7 +9,7 @@ use Rattle.head.specs.declared.state.SocWatch.{SocWatch}
 use Rattle.head.specs.declared.state.Dictionary.{Dictionary}
 use Rattle.node.specs.Plain.{Plain}
 use Rattle.node.specs.Steps.{cycle_of, tolerance_of}
-use Rattle.node.specs.Tick.{last_soc}
+use Rattle.node.specs.Deadline.{last_soc}
 
 -- before the tick: the head is outside NotActive, with the check on and a deadline at d
 pub record Watching (p : Plain) (d : ℕ) : Type 0 where

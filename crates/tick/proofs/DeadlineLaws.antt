@@ -24,9 +24,11 @@ use Rattle.head.specs.Head.{Head, head_with_dll}
 use Rattle.watched.specs.Watched.{latest}
 use Rattle.node.specs.Plain.{Plain}
 use Rattle.node.specs.Steps.{plain_of, with_soc, with_dll, cycle_of, tolerance_of, limit_of}
-use Rattle.node.specs.Tick.{Ticked, goes_on, behind, check_off, with_deadline, next_deadline, rescheduled, within_limit, is_loss, soc_timeout, on_dll_errors, lost, soc_check, at_not_active, sets_basic, times_out, timed_out, event_in_tick, used_up, by_deadline}
+use Rattle.node.specs.Phases.{Ticked, goes_on, behind, check_off, event_in_tick}
+use Rattle.node.specs.DllErrors.{on_dll_errors}
+use Rattle.node.specs.Deadline.{with_deadline, next_deadline, rescheduled, within_limit, is_loss, soc_timeout, lost, soc_check, at_not_active, sets_basic, times_out, timed_out, used_up, by_deadline}
 use Rattle.node.specs.Refines.{plain, Becomes, rings, joins_all}
-use Rattle.heartbeats.specs.Parts.{PartLeft, Ticks, is_quiet}
+use Rattle.phases.specs.Parts.{PartLeft, Ticks, is_quiet}
 use Rattle.tick.specs.Ticks.{Loses}
 
 module _ (h : Head) (t : ℕ) where

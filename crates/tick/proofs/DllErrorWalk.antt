@@ -21,11 +21,12 @@ use Rattle.entries.specs.declared.error_history.ErrorHistory.{ErrorHistory}
 use Rattle.entries.proofs.Lists.{pushed_capacity}
 use Rattle.head.specs.Head.{Head, with_statistic, of_parts, head_with_errors, head_with_od}
 use Rattle.node.specs.Steps.{with_errors}
-use Rattle.node.specs.Tick.{acts, one_more, statistics, counter1, signalled, queued, on_dll_error, on_dll_errors}
+use Rattle.node.specs.Phases.{acts, one_more, signalled}
+use Rattle.node.specs.DllErrors.{statistics, counter1, queued, on_dll_error, on_dll_errors}
 use Rattle.node.specs.Refines.{plain, Becomes, rings, joins}
 use Rattle.head.specs.declared.state.Statistic.TheVariants.{Counter3}
 use Rattle.head.proofs.Laws.{statistic_written}
-use Rattle.heartbeats.specs.Parts.{is_quiet}
+use Rattle.phases.specs.Parts.{is_quiet}
 use Rattle.tick.proofs.TickLaws as tick
 use Rattle.tick.proofs.TickLaws.{entry_kept, entry_dropped, on_dll_error_signalled, on_dll_error_unsignalled}
 use Rattle.head.specs.Places as at
@@ -34,11 +35,11 @@ use Rattle.head.specs.Written.{queue_written, history_written}
 use Rattle.node.specs.InPlace.{effect_words}
 use Rattle.counters.specs.declared.counters.ErrorTaken.{ErrorTaken}
 use Rattle.node.proofs.Refining.{picked}
-use Rattle.heartbeats.proofs.Handled.{handled_written, ending, signals, logs}
-use Rattle.heartbeats.specs.declared.phase.PhaseOutcome.{PhaseOutcome}
-use Rattle.heartbeats.specs.PartWords.{signal_words, finished_words, ends_by}
+use Rattle.phases.proofs.Handled.{handled_written, ending, signals, logs}
+use Rattle.phases.specs.declared.PhaseOutcome.{PhaseOutcome}
+use Rattle.phases.specs.PartWords.{signal_words, finished_words, ends_by}
 use Rattle.tick.specs.TickWords.{count2, entry_words, counted_words, on_dll_error_words, on_dll_errors_words}
-use Rattle.heartbeats.specs.PartsIn.{Turns, outcome_of, FinishesIn, TicksIn}
+use Rattle.phases.specs.PartsIn.{Turns, outcome_of, FinishesIn, TicksIn}
 use Rattle.tick.proofs.Turning.{counter1_turns, entry_read}
 
 -- the entry of a crossing

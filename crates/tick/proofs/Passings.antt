@@ -19,7 +19,8 @@ use Rattle.dll.specs.declared.cs_state_machine.DllAnswer.{DllAnswer}
 use Rattle.head.specs.declared.state.Deadline.TheVariants.{At, Nothing}
 use Rattle.head.specs.Head.{Head}
 use Rattle.node.specs.Steps.{limit_of}
-use Rattle.node.specs.Tick.{with_deadline, rescheduled, within_limit, is_loss, on_dll_errors, soc_timeout, lost, soc_check, at_not_active, sets_basic, times_out, by_deadline}
+use Rattle.node.specs.DllErrors.{on_dll_errors}
+use Rattle.node.specs.Deadline.{with_deadline, rescheduled, within_limit, is_loss, soc_timeout, lost, soc_check, at_not_active, sets_basic, times_out, by_deadline}
 use Rattle.node.specs.Refines.{plain}
 use Rattle.tick.specs.Ticks.{Loses}
 use Rattle.tick.proofs.DeadlineLaws.{loses, lose_ends, lose_goes_on, check_none, check_lost, check_within, none_stands, basic_set, not_passed, passed_idle, passed_check}
@@ -27,9 +28,9 @@ use Rattle.head.specs.Places as at
 use Rattle.head.specs.Words.{word, state_of, dll_state, soc_of, od_of, head_of}
 use Rattle.head.specs.Written.{deadline_written}
 use Rattle.head.proofs.Laws.{dll_written}
-use Rattle.heartbeats.specs.declared.phase.PhaseOutcome.{PhaseOutcome}
+use Rattle.phases.specs.declared.PhaseOutcome.{PhaseOutcome}
 use Rattle.tick.specs.TickWords.{unlent, rescheduled_words, within_words, loss_words, after_loss_words, on_dll_errors_words, lost_words, check_words, basic_words, timeout_words, passed_words, deadline_words}
-use Rattle.heartbeats.specs.PartsIn.{Turns, outcome_of, TicksIn}
+use Rattle.phases.specs.PartsIn.{Turns, outcome_of, TicksIn}
 use Rattle.tick.specs.TickIn.{LosesIn}
 
 abbrev pub on : PhaseOutcome

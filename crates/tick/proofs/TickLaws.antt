@@ -27,10 +27,11 @@ use Rattle.entries.proofs.Lists.{kept_exactly, waiting_pushed, pushed_capacity, 
 use Rattle.head.specs.Head.{Head, of_parts}
 use Rattle.node.specs.Plain.{Plain}
 use Rattle.node.specs.Steps.{plain_of, with_errors}
-use Rattle.node.specs.Tick.{Ticked, acts, on_handled, on_dll_error_by, on_dll_error, on_dll_errors, goes_on, behind, one_more, signalled, event_in_tick, statistics, counter1, kept, dropped_one, queued}
+use Rattle.node.specs.Phases.{Ticked, acts, on_handled, goes_on, behind, one_more, signalled, event_in_tick}
+use Rattle.node.specs.DllErrors.{on_dll_error_by, on_dll_error, on_dll_errors, statistics, counter1, kept, dropped_one, queued}
 use Rattle.node.specs.Refines.{plain, Becomes, Rings, rings, joins, joins_all}
-use Rattle.heartbeats.specs.Parts.{PartLeft, Finishes, Ticks, is_quiet}
-use Rattle.heartbeats.proofs.PartLaws.{Quiet, handled_quiet, quiet_crosses, Alike}
+use Rattle.phases.specs.Parts.{PartLeft, Finishes, Ticks, is_quiet}
+use Rattle.phases.proofs.PartLaws.{Quiet, handled_quiet, quiet_crosses, Alike}
 
 -- where an entry is dropped, no byte is written
 dropped_bytes : (q : List ℕ) (k : EmergencyQueue) (e : ErrorEntry) → (pushed k).kept ≡ false → pushed_bytes q k e ≡ q

@@ -15,12 +15,15 @@ use Rattle.watched.specs.Watched.{in_time, Run, watching, well_lent, changing}
 use Rattle.node.specs.Plain.{Plain, tick, Answer, refused, tick_answer, Step}
 use Rattle.node.specs.Steps.{earliest, up_to_date, declines}
 use Rattle.watched.specs.Nodes.{not_before}
-use Rattle.node.specs.Tick.{Ticked, goes_on, behind, checks_heartbeats, refreshed, late_ones, on_late, on_late_all, timeout_of, by_deadline, tick_taken, tick_answered, refreshed_at}
+use Rattle.node.specs.Phases.{Ticked, goes_on, behind}
+use Rattle.node.specs.Heartbeats.{checks_heartbeats, refreshed, late_ones, on_late, on_late_all, timeout_of, refreshed_at}
+use Rattle.node.specs.Deadline.{by_deadline}
+use Rattle.node.specs.Tick.{tick_taken, tick_answered}
 use Rattle.node.specs.Run.{step}
 use Rattle.node.specs.Refines.{plain, left, rings, joins_all, Refines}
-use Rattle.heartbeats.specs.Parts.{PartLeft, Ticks}
+use Rattle.phases.specs.Parts.{PartLeft, Ticks}
 use Rattle.node.proofs.Laws.{refined}
-use Rattle.heartbeats.proofs.PartLaws.{handled_quiet}
+use Rattle.phases.proofs.PartLaws.{handled_quiet}
 use Rattle.tick.proofs.DeadlineLaws.{ticks_as}
 
 -- heartbeats that end nothing log nothing, and none has an entry

@@ -27,9 +27,12 @@ use Rattle.node.proofs.Moments.{moment_of_lem, all_fit}
 use Rattle.types.specs.declared.refusals.Refusal.TheVariants.{WatchedNodes, TimeLimit, BeforeHeard}
 use Rattle.watched.specs.declared.nodes.WatchedNode.{WatchedNode}
 use Rattle.watched.specs.Watched.{in_time, well_formed, watched_of, Run, run, watching, well_lent, changing}
-use Rattle.node.specs.Tick.{Ticked, goes_on, behind, checks_heartbeats, refreshed, late_ones, on_late_all, by_deadline, tick_taken, tick_answered, refreshed_at}
+use Rattle.node.specs.Phases.{Ticked, goes_on, behind}
+use Rattle.node.specs.Heartbeats.{checks_heartbeats, refreshed, late_ones, on_late_all, refreshed_at}
+use Rattle.node.specs.Deadline.{by_deadline}
+use Rattle.node.specs.Tick.{tick_taken, tick_answered}
 use Rattle.node.specs.Refines.{plain, rings, joins_all}
-use Rattle.heartbeats.specs.Parts.{refreshed_first}
+use Rattle.heartbeats.specs.Words.{refreshed_first, on_late_all_words, refreshed_words}
 use Rattle.watched.proofs.Lists.{each_nodes}
 use Rattle.tick.proofs.TickRefines.{tick_idle, tick_ended, tick_goes_on, TickLeft, tick_unformed, tick_late, tick_before, tick_accepted}
 use Rattle.head.specs.Words.{nmt_of, soc_of, head_of}
@@ -38,10 +41,9 @@ use Rattle.types.specs.declared.nmt.states.NmtState.{NmtState}
 use Rattle.watched.specs.declared.nodes.Seen.{Seen}
 use Rattle.watched.specs.declared.nodes.Seen.TheVariants as seen
 use Rattle.watched.proofs.Watching.{places, few, lent_words, lent_inside, seen_unformed, seen_active, seen_resting}
-use Rattle.heartbeats.specs.declared.phase.PhaseOutcome.{PhaseOutcome}
-use Rattle.heartbeats.specs.PartWords.{on_late_all_words, refreshed_words}
+use Rattle.phases.specs.declared.PhaseOutcome.{PhaseOutcome}
 use Rattle.tick.specs.TickWords.{rest_words, tick_words}
-use Rattle.heartbeats.specs.PartsIn.{outcome_of, TicksIn}
+use Rattle.phases.specs.PartsIn.{outcome_of, TicksIn}
 use Rattle.node.specs.InPlace.{unless_refused}
 use Rattle.tick.specs.TickIn.{is_still, active_of, TickedOn, TickedIn, still_answered, still_step, StillTicks}
 use Rattle.heartbeats.proofs.LateWalk.{all_refreshed_fit, rest_before, rest_late, rest_words_lem, rest_run}

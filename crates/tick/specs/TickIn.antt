@@ -8,7 +8,9 @@ use Rattle.types.specs.declared.frame.error.types.DllErrors.{DllErrors}
 use Rattle.node.specs.Plain.{Plain, Call, Answer, tick_answer, Step}
 use Rattle.watched.specs.Watched.{in_time, well_formed, Run, run, watching}
 use Rattle.node.specs.Steps.{must, tried, with_earliest, no_run, declines, earliest}
-use Rattle.node.specs.Tick.{Ticked, checks_heartbeats, by_deadline}
+use Rattle.node.specs.Phases.{Ticked}
+use Rattle.node.specs.Heartbeats.{checks_heartbeats}
+use Rattle.node.specs.Deadline.{by_deadline}
 use Rattle.node.specs.Run.{step}
 use Rattle.node.specs.InPlace.{answered, unless_refused}
 use Rattle.node.specs.Refines.{plain, left, rings, joins_all, Refines}
@@ -23,7 +25,7 @@ use Rattle.std.specs.declared.option.Option.{Option}
 use Rattle.std.specs.declared.option.Option.TheVariants.{Some, None}
 use Rattle.std.specs.declared.result.Result.{Result}
 use Rattle.types.specs.declared.refusals.Refusal.{Refusal}
-use Rattle.heartbeats.specs.PartWords.{refreshed_words}
+use Rattle.heartbeats.specs.Words.{refreshed_words}
 use Rattle.tick.specs.TickWords.{loss_words, rest_words, tick_words}
 
 -- a SocTimeout on a head in words: the head and the errors as the plain tick has them, and every

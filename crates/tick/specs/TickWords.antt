@@ -14,13 +14,17 @@ use Rattle.head.specs.declared.state.Deadline.TheVariants.{At, Nothing}
 use Rattle.watched.specs.declared.nodes.WatchedNode.{WatchedNode}
 use Rattle.node.specs.Plain.{Plain}
 use Rattle.node.specs.Steps.{cycle_of, limit_of}
-use Rattle.node.specs.Tick.{one_more, last_soc, elapsed, next_deadline, soc_timeout, at_not_active, checks_heartbeats, late_ones, on_late_all, on_dll_errors}
+use Rattle.node.specs.Phases.{one_more}
+use Rattle.node.specs.Heartbeats.{checks_heartbeats, late_ones, on_late_all}
+use Rattle.node.specs.DllErrors.{on_dll_errors}
+use Rattle.node.specs.Deadline.{last_soc, elapsed, next_deadline, soc_timeout, at_not_active}
 use Rattle.node.specs.Refines.{plain}
 use Rattle.head.specs.Places as at
 use Rattle.head.specs.Words.{word, nmt_of, errors_of, soc_of, od_of, queue_of, history_of, head_of}
 use Rattle.head.specs.Written.{deadline_written, queue_written, history_written}
 use Rattle.node.specs.InPlace.{effect_words}
-use Rattle.heartbeats.specs.PartWords.{signal_words, event_words, finished_words, ends_by, on_late_all_words}
+use Rattle.phases.specs.PartWords.{signal_words, event_words, finished_words, ends_by}
+use Rattle.heartbeats.specs.Words.{on_late_all_words}
 
 -- counter 2 rises
 abbrev pub count2 : List ℕ → List ℕ

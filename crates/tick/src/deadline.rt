@@ -1,23 +1,24 @@
 //! The deadlines of the tick: what a passed one leads to, and the next one (RULES 7.5 to 7.8).
 ghost use Rattle.std.specs.Prelude.{◌≡◌, false, ◌≤◌, ◌<◌};
 ghost use Rattle.node.specs.Steps.{cycle_of};
-ghost use Rattle.node.specs.Tick.{with_deadline, next_deadline, rescheduled, within_limit, lost};
-ghost use Rattle.node.specs.Tick.{soc_check, at_not_active, sets_basic, times_out, by_deadline};
+ghost use Rattle.node.specs.Deadline.{with_deadline, next_deadline, rescheduled, within_limit};
+ghost use Rattle.node.specs.Deadline.{lost, soc_check, at_not_active, sets_basic, times_out};
+ghost use Rattle.node.specs.Deadline.{by_deadline};
 ghost use Rattle.node.specs.Refines.{plain};
 ghost use Rattle.head.specs.Words.{od_of, soc_of, head_of};
 ghost use Rattle.head.specs.Written.{deadline_written};
 ghost use Rattle.tick.specs.TickWords.{unlent, rescheduled_words, within_words, lost_words};
 ghost use Rattle.tick.specs.TickWords.{check_words, basic_words, timeout_words, deadline_words};
-ghost use Rattle.heartbeats.specs.PartsIn.{Turns, TicksIn};
+ghost use Rattle.phases.specs.PartsIn.{Turns, TicksIn};
 ghost use Rattle.tick.specs.TickIn.{LosesIn};
 
-use crate::soc::on_dll_errors;
+use crate::dll_errors::on_dll_errors;
 use entries::sizes::{HistoryBytes, QueueBytes};
 use head::dictionary::od_of;
 use head::machines::{dll_of, set_dll, state_at, timeout_of};
 use head::watch::{check_of, check_off, deadline_at, set_deadline, soc_of};
 use head::state::{Deadline, Head};
-use heartbeats::phase::{PhaseOutcome, timeout_in_tick};
+use phases::{PhaseOutcome, timeout_in_tick};
 use node::range::is_loss;
 use node::timing::{cycle, last_soc, limit, time_since, tolerance_us};
 use types::frame::cs_state_machine::DllCsEvent;

@@ -5,12 +5,13 @@
 ghost use Rattle.std.specs.Prelude.{◌≡◌, true};
 ghost use Rattle.types.specs.Pick.{all_of};
 ghost use Rattle.watched.specs.Watched.{well_formed, watched_of};
-ghost use Rattle.node.specs.Tick.{checks_heartbeats, tick_taken};
+ghost use Rattle.node.specs.Heartbeats.{checks_heartbeats};
+ghost use Rattle.node.specs.Tick.{tick_taken};
 ghost use Rattle.node.specs.Refines.{plain};
 ghost use Rattle.head.specs.Words.{nmt_of, head_of};
 ghost use Rattle.watched.specs.Nodes.{not_before, nodes_of};
 ghost use Rattle.tick.specs.TickWords.{tick_words};
-ghost use Rattle.heartbeats.specs.PartsIn.{TicksIn};
+ghost use Rattle.phases.specs.PartsIn.{TicksIn};
 ghost use Rattle.tick.specs.TickIn.{active_of, TickedIn, StillTicks};
 
 use crate::deadline::by_deadline;
@@ -18,7 +19,7 @@ use entries::sizes::{HistoryBytes, QueueBytes};
 use head::machines::state_at;
 use head::watch::set_earliest;
 use head::state::Head;
-use heartbeats::phase::PhaseOutcome;
+use phases::PhaseOutcome;
 use heartbeats::heartbeats::{on_late_all, refresh_all};
 use types::frame::error::types::DllErrors;
 use types::nmt::states::NmtState;

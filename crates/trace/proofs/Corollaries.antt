@@ -30,7 +30,9 @@ use Rattle.head.specs.Words.{head_of}
 use Rattle.watched.specs.Watched.{latest, in_time, heard_at, Run, watching, changing}
 use Rattle.node.specs.Plain.{Plain, Call, nmt_event, dll_event, error, cycle_complete, withdraw, heard, hand_out, load, arm, tick, range, margin, add, remove, next_due, Start, taken, range_answer, margin_answer, due_answer, Step}
 use Rattle.node.specs.Steps.{no_run, forgets, answers, declines, with_nmt, with_soc, nmt_step, dll_step, error_step, withdrawn, heard_tests, add_tests, remove_tests, added, removed, armed, cycle_of, earliest, fresh, started}
-use Rattle.node.specs.Tick.{tick_tests, tick_taken, tick_answered, refreshed_at, last_soc}
+use Rattle.node.specs.Heartbeats.{refreshed_at}
+use Rattle.node.specs.Deadline.{last_soc}
+use Rattle.node.specs.Tick.{tick_tests, tick_taken, tick_answered}
 use Rattle.node.specs.Range.{range_tests, margin_tests, verdict_of, margin_of}
 use Rattle.node.specs.Due.{due, due_tests}
 use Rattle.node.specs.Run.{step, step_all, Said}

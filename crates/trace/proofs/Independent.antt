@@ -17,7 +17,8 @@ use Rattle.watched.specs.Watched.{no_node, Run, watching, well_lent, changing}
 use Rattle.watched.proofs.Watching.{lent_inside}
 use Rattle.node.specs.Plain.{Plain, Call, tick_answer, Step}
 use Rattle.node.specs.Steps.{declines}
-use Rattle.node.specs.Tick.{checks_heartbeats, refreshed, refreshed_at, tick_tests, tick_taken, tick_answered}
+use Rattle.node.specs.Heartbeats.{checks_heartbeats, refreshed, refreshed_at}
+use Rattle.node.specs.Tick.{tick_tests, tick_taken, tick_answered}
 use Rattle.node.specs.Run.{step}
 use Rattle.node.specs.Refines.{plain}
 use Rattle.node.proofs.Fixed.{apart}

@@ -32,7 +32,9 @@ use Rattle.node.specs.declared.load.DictionaryUpdate.{DictionaryUpdate}
 use Rattle.watched.specs.Watched.{heard_at, Run, watching, changing}
 use Rattle.node.specs.Plain.{Plain, HistoryUpdate, Call, nmt_event, dll_event, error, cycle_complete, withdraw, heard, hand_out, load, arm, tick, range, margin, add, remove, next_due, Answer, taken, nmt_answer, hand_out_answer, range_answer, margin_answer, due_answer, made, Step}
 use Rattle.node.specs.Steps.{Test, tried, no_run, answers, declines, leaves, forgets, with_nmt, with_soc, nmt_step, dll_step, error_step, withdrawn, heard_tests, add_tests, remove_tests, added, removed, updated_counter, updated, arm_tests, armed}
-use Rattle.node.specs.Tick.{Ticked, tick_tests, tick_taken, tick_answered, refreshed_at}
+use Rattle.node.specs.Phases.{Ticked}
+use Rattle.node.specs.Heartbeats.{refreshed_at}
+use Rattle.node.specs.Tick.{tick_tests, tick_taken, tick_answered}
 use Rattle.node.specs.Range.{range_tests, margin_tests, verdict_of, margin_of}
 use Rattle.node.specs.Due.{due, due_tests}
 use Rattle.node.specs.Run.{step}

@@ -28,9 +28,13 @@ use Rattle.head.specs.declared.state.Deadline.TheVariants.{At, Nothing}
 use Rattle.watched.specs.declared.nodes.WatchedNode.{WatchedNode}
 use Rattle.node.specs.Plain.{Plain, EventMade, made, no_event}
 use Rattle.node.specs.Steps.{with_dll, with_errors, with_soc, cycle_of, limit_of}
-use Rattle.node.specs.Tick.{Ticked, goes_on, behind, checks_heartbeats, acts, one_more, signalled, check_off, finished, on_handled, on_late_by, timeout_of, on_late, on_late_all, late_ones, heartbeats, with_deadline, at_not_active, basic_timeout, event_in_tick, timed_out, counter1, kept, dropped_one, queued, on_dll_error_by, on_dll_error, on_dll_errors, last_soc, elapsed, next_deadline, rescheduled, within_limit, soc_timeout, lost, soc_check, used_up, by_deadline, tick_taken}
-use Rattle.heartbeats.specs.Parts.{is_quiet}
-use Rattle.heartbeats.proofs.PartLaws.{handled_quiet, quiet_crosses}
+use Rattle.node.specs.Phases.{Ticked, goes_on, behind, acts, one_more, signalled, check_off, finished, on_handled, event_in_tick}
+use Rattle.node.specs.Heartbeats.{checks_heartbeats, on_late_by, timeout_of, on_late, on_late_all, late_ones, heartbeats}
+use Rattle.node.specs.DllErrors.{counter1, kept, dropped_one, queued, on_dll_error_by, on_dll_error, on_dll_errors}
+use Rattle.node.specs.Deadline.{with_deadline, at_not_active, basic_timeout, timed_out, last_soc, elapsed, next_deadline, rescheduled, within_limit, soc_timeout, lost, soc_check, used_up, by_deadline}
+use Rattle.node.specs.Tick.{tick_taken}
+use Rattle.phases.specs.Parts.{is_quiet}
+use Rattle.phases.proofs.PartLaws.{handled_quiet, quiet_crosses}
 use Rattle.trace.specs.Tally.{Orders, orders_made}
 use Rattle.trace.proofs.Modes.{mode, mode_event}
 use Rattle.counters.proofs.Balance.{count_append}

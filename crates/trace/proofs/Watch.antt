@@ -13,7 +13,8 @@ use Rattle.watched.specs.Watched.{Run, watching}
 use Rattle.node.specs.declared.load.DictionaryUpdate.{DictionaryUpdate}
 use Rattle.node.specs.Plain.{Plain, Step, taken, tick_answer}
 use Rattle.node.specs.Steps.{no_run, declines, answers, with_soc, updated_object, updated, value_or, cycle_of, tolerance_of, arm_tests, armed}
-use Rattle.node.specs.Tick.{tick_tests, tick_taken, tick_answered, refreshed_at}
+use Rattle.node.specs.Heartbeats.{refreshed_at}
+use Rattle.node.specs.Tick.{tick_tests, tick_taken, tick_answered}
 use Rattle.node.specs.Refines.{plain}
 use Rattle.node.specs.Watch.{Watching, Sleeps, Raised, Moves}
 use Rattle.node.proofs.Fixed.{apart}

@@ -25,7 +25,10 @@ use Rattle.watched.specs.Watched.{well_formed, holding}
 use Rattle.node.specs.Examples.{watching_one}
 use Rattle.node.specs.Plain.{Plain, Call, nmt_event, dll_event, withdraw, heard, hand_out, arm, tick, add, remove, Start}
 use Rattle.node.specs.Steps.{earliest, fresh, started, armed}
-use Rattle.node.specs.Tick.{on_late, on_late_all, queued, on_dll_error, on_dll_errors, soc_check, tick_taken}
+use Rattle.node.specs.Heartbeats.{on_late, on_late_all}
+use Rattle.node.specs.DllErrors.{queued, on_dll_error, on_dll_errors}
+use Rattle.node.specs.Deadline.{soc_check}
+use Rattle.node.specs.Tick.{tick_taken}
 use Rattle.node.specs.Run.{step_all}
 use Rattle.trace.specs.Tally.{Orders, orders, Tally, tally}
 use Rattle.trace.specs.Earliest.{last_left, run_after}

@@ -3,7 +3,7 @@
 use Prim.Native.Nat.{ℕ}
 use mathlib.Core.Path.{subst}
 use mathlib.Core.List.{List}
-use Rattle.heartbeats.specs.PartsIn.{FinishesIn}
+use Rattle.phases.specs.PartsIn.{FinishesIn}
 use Rattle.heartbeats.proofs.LateWalk.{on_late_loud, on_late_quiet}
 use Rattle.heartbeats.proofs.heartbeats.on_late.Goals as goal
 use Rattle.heartbeats.proofs.heartbeats.on_late.Goals.{then-answer, else-answer}

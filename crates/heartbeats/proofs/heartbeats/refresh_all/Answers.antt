@@ -6,8 +6,7 @@ use Rattle.watched.specs.Scan.{sum_of, three_before}
 use Rattle.watched.specs.Watched.{heard_now}
 use Rattle.watched.specs.Nodes.{node_of, nodes_of, moment_of}
 use Rattle.watched.proofs.Watching.{few}
-use Rattle.heartbeats.specs.Parts.{refreshed_first}
-use Rattle.heartbeats.specs.PartWords.{refreshed_words}
+use Rattle.heartbeats.specs.Words.{refreshed_first, refreshed_words}
 use Rattle.heartbeats.proofs.LateWalk.{refresh_begin, refresh_words_lem, refresh_nodes, refresh_sooner, sooner_begins, sooner_joined, sooner_ends}
 use Rattle.heartbeats.proofs.heartbeats.refresh_all.Goals as goal
 

@@ -6,9 +6,8 @@ use Rattle.std.proofs.Common.{◌≡◌, ◌≤◌, map, take, drop}
 use Rattle.watched.specs.Watched.{watched_of}
 use Rattle.watched.specs.Scan.{sum_of}
 use Rattle.watched.specs.Nodes.{nodes_of, never, soonest}
-use Rattle.node.specs.Tick.{refreshed}
-use Rattle.heartbeats.specs.Parts.{refreshed_first}
-use Rattle.heartbeats.specs.PartWords.{refreshed_words}
+use Rattle.node.specs.Heartbeats.{refreshed}
+use Rattle.heartbeats.specs.Words.{refreshed_first, refreshed_words}
 use Rattle.heartbeats.proofs.heartbeats.refresh_all.Given as goal
 
 abbrev pub invariant-loop-i : goal.invariant-loop-i

@@ -1,7 +1,7 @@
--- `heartbeats::on_handled::finish` meets its contract: an action brings the event Error.
+-- `phases::finish` meets its contract: an action brings the event Error.
 -- Assumes nothing.
-use Rattle.heartbeats.proofs.Turns.{ends_on, ends_off}
-use Rattle.heartbeats.proofs.phase.finish.Goals as goal
+use Rattle.phases.proofs.Turns.{ends_on, ends_off}
+use Rattle.phases.proofs.finish.Goals as goal
 
 pub returns-then-ended : goal.returns-then-ended
 returns-then-ended c =

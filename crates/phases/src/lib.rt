@@ -1,10 +1,13 @@
 //! What the handling of an error in a tick leaves: a signal with the error register, and, where an
-//! action is asked for, the event that ends the tick (RULES 7.8, 7.9).
+//! action is asked for, the event that ends the tick (RULES 7.8, 7.9). The heartbeats and the SoC
+//! check use it alike.
+#![tactic(auto)]
+
 ghost use Rattle.std.specs.Prelude.{◌≡◌};
 ghost use Rattle.types.specs.declared.nmt.events.NmtEvent.TheVariants.{Timeout};
-ghost use Rattle.node.specs.Tick.{acts, signalled, event_in_tick};
-ghost use Rattle.heartbeats.specs.PartWords.{signal_words, event_words};
-ghost use Rattle.heartbeats.specs.PartsIn.{Turns, FinishesIn};
+ghost use Rattle.node.specs.Phases.{acts, signalled, event_in_tick};
+ghost use Rattle.phases.specs.PartWords.{signal_words, event_words};
+ghost use Rattle.phases.specs.PartsIn.{Turns, FinishesIn};
 
 use head::dictionary::{increment_counter, register_of, set_register};
 use head::machines::{nmt_of, set_nmt};

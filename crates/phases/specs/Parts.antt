@@ -1,6 +1,6 @@
 -- What the parts of the tick leave, against the plain tick.
 -- Assumes nothing.
-use Rattle.std.specs.Prelude.{◌≡◌, ℕ, Bool, true, false, List, map}
+use Rattle.std.specs.Prelude.{◌≡◌, ℕ, Bool, true, false, List}
 use Rattle.types.specs.Pick.{pick}
 use Rattle.types.specs.Errors.{reported}
 use Rattle.types.specs.declared.nmt.events.NmtEvent.TheVariants as event
@@ -8,9 +8,7 @@ use Rattle.types.specs.declared.frame.error.types.DllError.{DllError}
 use Rattle.types.specs.declared.frame.error.types.DllErrors.{DllErrors}
 use Rattle.counters.specs.Counters.{Effect, counts, loses_link, is_logged, nothing, effect}
 use Rattle.head.specs.Head.{Head}
-use Rattle.watched.specs.declared.nodes.WatchedNode.{WatchedNode}
-use Rattle.watched.specs.Watched.{first}
-use Rattle.node.specs.Tick.{Ticked, refreshed, event_in_tick}
+use Rattle.node.specs.Phases.{Ticked, event_in_tick}
 use Rattle.node.specs.Refines.{plain, SamePlaces, rings, joins_all}
 
 -- what a part of the tick leaves: the head, what was logged, and whether the tick has ended
@@ -44,7 +42,3 @@ quiet_effect nothing = true
 
 abbrev pub is_quiet : DllError → Bool
 is_quiet e = quiet_effect (effect e)
-
--- all places of the watched nodes: the look at the first so many; those behind are kept
-abbrev pub refreshed_first : ℕ → ℕ → List WatchedNode → List WatchedNode
-refreshed_first t = first (map (refreshed t))

@@ -1,12 +1,12 @@
--- `heartbeats::on_handled::event_in_tick` meets its contract: the machine by value decides, and its
+-- `phases::event_in_tick` meets its contract: the machine by value decides, and its
 -- words are written.
 -- Assumes nothing.
 use Rattle.std.proofs.Common.{ℕ, List, set, ap, ◌∙◌}
 use Rattle.nmt.specs.Nmt as Nmt
 use Rattle.nmt.specs.declared.cn_state_machine.CnNmtStateMachine.{CnNmtStateMachine}
 use Rattle.head.specs.Places as at
-use Rattle.heartbeats.proofs.Turns.{event_turns}
-use Rattle.heartbeats.proofs.phase.event_in_tick.Goals as goal
+use Rattle.phases.proofs.Turns.{event_turns}
+use Rattle.phases.proofs.event_in_tick.Goals as goal
 
 pub returns : goal.returns
 returns c =

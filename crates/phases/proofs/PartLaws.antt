@@ -20,9 +20,9 @@ use Rattle.entries.specs.Queue.{capacity_of, waiting}
 use Rattle.entries.specs.History.{history}
 use Rattle.head.specs.Head.{Head, of_parts}
 use Rattle.node.specs.Steps.{plain_of}
-use Rattle.node.specs.Tick.{Ticked, acts, check_off, event_in_tick}
+use Rattle.node.specs.Phases.{Ticked, acts, check_off, event_in_tick}
 use Rattle.node.specs.Refines.{plain, Becomes}
-use Rattle.heartbeats.specs.Parts.{Finishes, quiet_effect, is_quiet}
+use Rattle.phases.specs.Parts.{Finishes, quiet_effect, is_quiet}
 
 module _ (h : Head) where
   -- a head with these parts replaced stands for a plain head with them replaced

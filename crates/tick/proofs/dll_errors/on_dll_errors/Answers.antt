@@ -1,9 +1,9 @@
--- `tick::soc::on_dll_errors` meets its contract: an error that ends the tick ends the walk, or the next
+-- `tick::dll_errors::on_dll_errors` meets its contract: an error that ends the tick ends the walk, or the next
 -- one follows.
 -- Assumes nothing.
 use Rattle.types.specs.Errors.{reported}
 use Rattle.tick.proofs.DllErrorWalk.{walk_begins, walk_left, walk_on}
-use Rattle.tick.proofs.soc.on_dll_errors.Goals as goal
+use Rattle.tick.proofs.dll_errors.on_dll_errors.Goals as goal
 
 pub walk-init : goal.walk-init
 walk-init c =

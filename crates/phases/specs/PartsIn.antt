@@ -3,12 +3,12 @@
 use Rattle.std.specs.Prelude.{◌≡◌, ℕ, Bool, List}
 use Rattle.types.specs.declared.frame.error.types.DllErrors.{DllErrors}
 use Rattle.node.specs.Plain.{Plain}
-use Rattle.node.specs.Tick.{Ticked}
+use Rattle.node.specs.Phases.{Ticked}
 use Rattle.node.specs.Refines.{Becomes}
-use Rattle.heartbeats.specs.Parts.{PartLeft, Finishes, Ticks}
+use Rattle.phases.specs.Parts.{PartLeft, Finishes, Ticks}
 use Rattle.head.specs.Words.{head_of}
-use Rattle.heartbeats.specs.declared.phase.PhaseOutcome.{PhaseOutcome}
-use Rattle.heartbeats.specs.PartWords.{finished_words}
+use Rattle.phases.specs.declared.PhaseOutcome.{PhaseOutcome}
+use Rattle.phases.specs.PartWords.{finished_words}
 
 -- Of a step f of the tick: the head that the words stand for becomes what f makes of it, queue and
 -- history stand where they stood, and the words are all known.

@@ -1,4 +1,4 @@
--- `tick::soc::queue_entry` meets its contract: the entry joins queue and history, or no byte is
+-- `tick::dll_errors::queue_entry` meets its contract: the entry joins queue and history, or no byte is
 -- written.
 -- Assumes nothing.
 use mathlib.Core.Path.{ap, ap₂, ◌∙◌}
@@ -11,7 +11,7 @@ use Rattle.entries.specs.History.{joined, joined_bytes}
 use Rattle.entries.proofs.Entries.{crossing_fits}
 use Rattle.head.specs.Written.{queue_written, history_written}
 use Rattle.tick.proofs.DllErrorWalk.{enters, drops}
-use Rattle.tick.proofs.soc.queue_entry.Goals as goal
+use Rattle.tick.proofs.dll_errors.queue_entry.Goals as goal
 
 pub returns-then-push_back : goal.returns-then-push_back
 returns-then-push_back c =

@@ -1,9 +1,9 @@
--- `tick::soc::on_dll_errors` meets its contract. The invariant of the walk: what comes of the errors
+-- `tick::dll_errors::on_dll_errors` meets its contract. The invariant of the walk: what comes of the errors
 -- that are left comes of all.
 -- Assumes nothing.
 use Rattle.types.specs.Errors.{reported}
 use Rattle.tick.proofs.DllErrorWalk.{DllErrorWalkIn}
-use Rattle.tick.proofs.soc.on_dll_errors.Given as goal
+use Rattle.tick.proofs.dll_errors.on_dll_errors.Given as goal
 
 abbrev pub invariant-walk : goal.invariant-walk
 invariant-walk l =

@@ -3,19 +3,19 @@ ghost use Rattle.std.specs.Prelude.{◌≡◌, true};
 ghost use Rattle.types.specs.Pick.{all_of};
 ghost use Rattle.types.specs.Errors.{reported};
 ghost use Rattle.entries.specs.Entry.{crossing_entry};
-ghost use Rattle.node.specs.Tick.{queued, on_dll_error, on_dll_errors};
+ghost use Rattle.node.specs.DllErrors.{queued, on_dll_error, on_dll_errors};
 ghost use Rattle.node.specs.Refines.{plain, rings, joins};
-ghost use Rattle.heartbeats.specs.Parts.{is_quiet};
+ghost use Rattle.phases.specs.Parts.{is_quiet};
 ghost use Rattle.head.specs.Words.{head_of};
 ghost use Rattle.tick.specs.TickWords.{entry_words, on_dll_error_words, on_dll_errors_words};
-ghost use Rattle.heartbeats.specs.PartsIn.{TicksIn};
+ghost use Rattle.phases.specs.PartsIn.{TicksIn};
 
 use entries::sizes::{HistoryBytes, QueueBytes};
 use entries::status_response::ErrorEntry;
 use head::dictionary::increment_counter;
 use head::memory::{history_of, queue_of, set_history, set_queue};
 use head::state::{Head, Statistic};
-use heartbeats::phase::{PhaseOutcome, acts, finish, signal};
+use phases::{PhaseOutcome, acts, finish, signal};
 use node::calls::handled;
 use types::frame::error::types::{DllError, DllErrors};
 

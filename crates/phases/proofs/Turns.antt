@@ -10,17 +10,17 @@ use Rattle.nmt.specs.Nmt as Nmt
 use Rattle.nmt.specs.declared.cn_state_machine.NmtAnswer.{NmtAnswer}
 use Rattle.head.specs.Head.{Head, head_with_nmt, head_with_soc, head_with_values}
 use Rattle.node.specs.Plain.{Plain}
-use Rattle.node.specs.Tick.{is_even, changed, registered, signalled, check_off, event_in_tick, one_more}
+use Rattle.node.specs.Phases.{is_even, changed, registered, signalled, check_off, event_in_tick, one_more}
 use Rattle.node.specs.Refines.{Becomes}
-use Rattle.heartbeats.proofs.PartLaws.{event_becomes, finish_on, finish_off}
+use Rattle.phases.proofs.PartLaws.{event_becomes, finish_on, finish_off}
 use Rattle.head.specs.Places as at
 use Rattle.head.specs.Words.{word, yes, state_of, nmt_of, soc_of, head_of}
 use Rattle.head.specs.Written.{nmt_written}
 use Rattle.head.proofs.Whole.{whole}
 use Rattle.head.proofs.Laws.{yes_one, state_back, with_signal, signal_written, changed_written}
 use Rattle.node.proofs.Refining.{Keeps, processed_keeps}
-use Rattle.heartbeats.specs.PartWords.{signal_words, event_words, finished_words}
-use Rattle.heartbeats.specs.PartsIn.{Turns, FinishesIn}
+use Rattle.phases.specs.PartWords.{signal_words, event_words, finished_words}
+use Rattle.phases.specs.PartsIn.{Turns, FinishesIn}
 
 abbrev EventRead : ℕ → ℕ → ℕ → List ℕ → Type 0
 EventRead s e r ws =

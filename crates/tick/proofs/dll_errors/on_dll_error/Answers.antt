@@ -1,9 +1,9 @@
--- `tick::soc::on_dll_error` meets its contract: counted, and on a signal registered and queued.
+-- `tick::dll_errors::on_dll_error` meets its contract: counted, and on a signal registered and queued.
 -- Assumes nothing.
 use mathlib.Core.Path.{◌∙◌}
 use Rattle.tick.proofs.DllErrorWalk.{on_dll_error_loud, on_dll_error_quiet}
-use Rattle.tick.proofs.soc.on_dll_error.Goals as goal
-use Rattle.tick.proofs.soc.on_dll_error.Goals.{then-answer, else-answer}
+use Rattle.tick.proofs.dll_errors.on_dll_error.Goals as goal
+use Rattle.tick.proofs.dll_errors.on_dll_error.Goals.{then-answer, else-answer}
 
 pub returns : goal.returns
 returns c =

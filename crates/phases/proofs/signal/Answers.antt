@@ -1,9 +1,9 @@
--- `heartbeats::on_handled::signal` meets its contract: by whether the register is even.
+-- `phases::signal` meets its contract: by whether the register is even.
 -- Assumes nothing.
 use Rattle.std.proofs.Common.{ℕ, List, ◌+◌, ◌%◌, set, sym, ap, ap₂, ◌∙◌}
 use Rattle.head.specs.Places as at
-use Rattle.heartbeats.proofs.Turns.{signal_even, signal_odd}
-use Rattle.heartbeats.proofs.phase.signal.Goals as goal
+use Rattle.phases.proofs.Turns.{signal_even, signal_odd}
+use Rattle.phases.proofs.signal.Goals as goal
 
 pub returns-then-register-eq0 : goal.returns-then-register-eq0
 returns-then-register-eq0 c =

@@ -9,10 +9,10 @@ use Rattle.counters.specs.declared.counters.ErrorTaken.{ErrorTaken}
 use Rattle.head.specs.Head.{Head, head_with_errors}
 use Rattle.head.specs.Words.{errors_of, head_of}
 use Rattle.node.specs.InPlace.{effect_words}
-use Rattle.node.specs.Tick.{acts}
+use Rattle.node.specs.Phases.{acts}
 use Rattle.node.proofs.Refining.{effect_written}
-use Rattle.heartbeats.specs.Parts.{PartLeft, Finishes}
-use Rattle.heartbeats.specs.PartWords.{ends_by}
+use Rattle.phases.specs.Parts.{PartLeft, Finishes}
+use Rattle.phases.specs.PartWords.{ends_by}
 
 module _ (ws : List ℕ) (e : DllError) where
   abbrev R : HandledError
