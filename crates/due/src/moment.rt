@@ -10,8 +10,8 @@ ghost use Rattle.tick.specs.TickWords.{unlent};
 ghost use Rattle.due.specs.Walk.{over, walk_due, due_found};
 
 use head::machines::{state_at, timeout_of};
-use head::watch::deadline_at;
 use head::state::Head;
+use head::watch::deadline_at;
 use tick::deadline::at_not_active;
 use tick::tick::checks_heartbeats;
 use types::refusals::Refusal;

@@ -105,21 +105,28 @@ fn counter(occurrences: u32, crossings: u32, level: u32) -> ThresholdCounter
 
 /// A head at Operational, with so many errors and crossings and this level of LossOfSoc, and errors
 /// and level of HeartbeatTimeout.
-pub fn counting(head: &mut Head, socs: u32, crossings: u32, soc: u32, late_errors: u32, on_late: u32)
-    ensures { Stands head.new (counting (counters_of socs crossings soc late_errors on_late)) }
+pub fn counting(
+    head: &mut Head,
+    socs: u32,
+    crossings: u32,
+    soc: u32,
+    missed: u32,
+    missed_level: u32,
+)
+    ensures { Stands head.new (counting (counters_of socs crossings soc missed missed_level)) }
 {
     let od = values(0, 0, 0, 0, 0);
     write(head, OPERATIONAL, od);
     set_counter(head, CounterKind::LossOfSoc, counter(socs, crossings, soc));
-    set_counter(head, CounterKind::HeartbeatTimeout, counter(late_errors, 0, on_late));
+    set_counter(head, CounterKind::HeartbeatTimeout, counter(missed, 0, missed_level));
 }
 
 /// The same where a watched node would be late at a time, with errors and level of
 /// HeartbeatTimeout.
-pub fn awaiting(head: &mut Head, earliest: u64, late_errors: u32, on_late: u32)
-    ensures { Stands head.new (awaiting earliest (counters_of 0 0 0 late_errors on_late)) }
+pub fn awaiting(head: &mut Head, earliest: u64, missed: u32, missed_level: u32)
+    ensures { Stands head.new (awaiting earliest (counters_of 0 0 0 missed missed_level)) }
 {
-    counting(head, 0, 0, 0, late_errors, on_late);
+    counting(head, 0, 0, 0, missed, missed_level);
     set_earliest(head, Some(earliest));
 }
 

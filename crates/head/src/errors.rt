@@ -6,8 +6,8 @@ ghost use Rattle.head.specs.Words.{word, counter_at, errors_of};
 ghost use Rattle.head.specs.Written.{counter_written, each_written, levels_written};
 ghost use Rattle.head.specs.Written.{thresholds_written};
 
-use counters::counters::{ByKind, CnErrorCounters, CounterKind, ThresholdCounter};
 use crate::state::Head;
+use counters::counters::{ByKind, CnErrorCounters, CounterKind, ThresholdCounter};
 
 // The counters, four words each: cumulative count, level, threshold, count of crossings.
 const COLLISION: usize = 7;

@@ -27,7 +27,7 @@ const ENABLED: usize = 4;
 
 const READY: usize = 5;
 
-// The DLL machine.
+/// The word of the DLL machine.
 pub(crate) const DLL: usize = 6;
 
 // The NMT state in a word; GsOff where the number names none.

@@ -1,5 +1,5 @@
-//! The watch over the SoC, the deadline and the earliest moment of a head in words; and what a reset
-//! forgets.
+//! The watch over the SoC, the deadline and the earliest moment of a head in words, and what a
+//! reset forgets.
 ghost use Rattle.std.specs.Prelude.{◌≡◌, slice_set};
 ghost use Rattle.head.specs.Places as at;
 ghost use Rattle.head.specs.Words.{word, yes, soc_of, earliest_of};

@@ -5,7 +5,7 @@ ghost use Rattle.head.specs.Written.{time_written, moment_written, WritesThere};
 
 use crate::state::Head;
 
-// The lowest byte of a word.
+/// The lowest byte of a word.
 pub(crate) fn byte_at(head: &Head, place: usize) -> u8
     requires { place < 60 }
     ensures { result ≡ word head.now place % 256 }
@@ -13,7 +13,7 @@ pub(crate) fn byte_at(head: &Head, place: usize) -> u8
     (head[place] % 256) as u8
 }
 
-// The time in two words from a place on, the low one first.
+/// The time in two words from a place on, the low one first.
 pub(crate) fn time_at(head: &Head, place: usize) -> u64
     requires { place < 59 }
     ensures { result ≡ time_at head.now place }
@@ -21,7 +21,7 @@ pub(crate) fn time_at(head: &Head, place: usize) -> u64
     head[place] as u64 + 4294967296 * (head[place + 1] as u64)
 }
 
-// Writes a time into two words, the low one first.
+/// Writes a time into two words, the low one first.
 pub(crate) fn set_time(head: &mut Head, place: usize, time: u64)
     requires { place < 59 }
     ensures { head.new ≡ time_written head.old place time }
@@ -30,7 +30,7 @@ pub(crate) fn set_time(head: &mut Head, place: usize, time: u64)
     head[place + 1] = (time / 4294967296) as u32;
 }
 
-// A moment that may be missing: one word says whether it is there, two have its time.
+/// A moment that may be missing: one word says whether it is there, two have its time.
 pub(crate) fn moment_at(head: &Head, there: usize, place: usize) -> Option<u64>
     requires { (there < 60) × (place < 59) }
     ensures { result ≡ moment_there (yes (word head.now there)) (time_at head.now place) }
@@ -38,9 +38,14 @@ pub(crate) fn moment_at(head: &Head, there: usize, place: usize) -> Option<u64>
     (head[there] != 0).then_some(time_at(head, place))
 }
 
-// Writes whether there is a value, and by `write` what it is: where there is none, its words stay
-// as they were.
-pub(crate) fn set_option<T, F: FnOnce(&mut Head, T)>(head: &mut Head, there: usize, value: Option<T>, write: F)
+/// Writes whether there is a value, and by `write` what it is: where there is none, its words stay
+/// as they were.
+pub(crate) fn set_option<T, F: FnOnce(&mut Head, T)>(
+    head: &mut Head,
+    there: usize,
+    value: Option<T>,
+    write: F,
+)
     requires inside { there < 60 }
     requires callable { F.IsAlwaysCallable write }
     ensures { MatchOption value (head.new ≡ slice_set head.old there 0)
@@ -52,7 +57,7 @@ pub(crate) fn set_option<T, F: FnOnce(&mut Head, T)>(head: &mut Head, there: usi
     }
 }
 
-// Writes a moment that may be missing.
+/// Writes a moment that may be missing.
 pub(crate) fn set_moment(head: &mut Head, there: usize, place: usize, moment: Option<u64>)
     requires { (there < 60) × (place < 59) }
     ensures { head.new ≡ moment_written head.old there place moment }

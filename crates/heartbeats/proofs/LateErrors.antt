@@ -1,4 +1,4 @@
--- The heartbeats of the tick, over plain variables: the look at the watched nodes, and the walk
+-- The heartbeats of the tick, over plain variables: the check of the watched nodes, and the walk
 -- over the late ones.
 -- Assumes nothing.
 use Rattle.std.proofs.Common.{◌≡◌, ℕ, ◌+◌, ◌<◌, ◌≤◌, Bool, true, false, List, [], ◌∷◌, ◌++◌, length, get_or, take, drop, sym, refl, ap, ◌∙◌, ap₂}

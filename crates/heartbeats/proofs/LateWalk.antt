@@ -1,4 +1,4 @@
--- The heartbeats in words: the look at the nodes, and the walk over the late ones. What they make
+-- The heartbeats in words: the check of the nodes, and the walk over the late ones. What they make
 -- of the head is by the laws on a head by its parts; the words are beside it.
 -- Assumes nothing.
 use Rattle.std.proofs.Common.{◌≡◌, ℕ, suc, ◌+◌, ◌-◌, ◌*◌, ◌<◌, ◌≤◌, Bool, true, false, eqb, ltb, leb, List, [], ◌∷◌, ◌++◌, map, length, get_or, take, drop, set, sym, refl, ap, ◌∙◌, subst, ap₂, add-one, arith, take-append-drop, length-take-le, get_or-take, ltb-true, le-ltb, lt-ltb, ne_eqb, eqb-true, leb-true}
@@ -34,7 +34,7 @@ use Rattle.phases.specs.declared.PhaseOutcome.{PhaseOutcome}
 use Rattle.phases.specs.PartWords.{signal_words, finished_words, ends_by}
 use Rattle.phases.specs.PartsIn.{Turns, outcome_of, FinishesIn, TicksIn}
 
--- the look at one node
+-- the check of one node
 pub refreshed_by : (t : ℕ) (w : WatchedNode) → heard_now (refreshed_time t w.timeout w.last_heard) w ≡ refreshed t w
 refreshed_by t w = by (either (eqb w.last_heard 0) (is_late t w))
   where
@@ -59,7 +59,7 @@ pub refresh_begin : (t : ℕ) (ns : List ℕ) → ns ≡ refreshed_words t 0 ns
 unfolding refreshed_words
 refresh_begin t ns = refl
 
--- a turn of the look
+-- a turn of the check
 module _ (t : ℕ) (ns₀ ns : List ℕ) (i : ℕ) (inside : i < 32) (long : length ns ≡ 96) (r : WatchedNode) (is : r ≡ node_at ns i) (x : ℕ) (f : x ≡ refreshed_time t r.timeout r.last_heard) where
   e : x ≡ refreshed_time t (get_or ns (3 * i + 1) 0) (get_or ns (3 * i + 2) 0)
   e = f ∙ ap (λ (w : WatchedNode). refreshed_time t w.timeout w.last_heard) is
@@ -77,7 +77,7 @@ module _ (t : ℕ) (ns₀ ns : List ℕ) (i : ℕ) (inside : i < 32) (long : len
       ∙ each_turn (refreshed t) (nodes_of ns₀) (nodes_of ns) i no_node (rw (places ns₀) inside) b (heard_now x w)
       (ap (λ (x : ℕ). heard_now x w) v ∙ refreshed_by t w)
 
--- the nodes that the look has not reached, and the soonest moment
+-- the nodes that the check has not reached, and the soonest moment
 module _ (t : ℕ) (ns₀ ns : List ℕ) (k i : ℕ) (formed : well_formed (watched_of (nodes_of ns₀) k) ≡ true) (inside : i < k) (b : nodes_of ns ≡ refreshed_first t i (nodes_of ns₀)) where
   below : k ≤ 32
   below = few ns₀ k formed
@@ -89,7 +89,7 @@ module _ (t : ℕ) (ns₀ ns : List ℕ) (k i : ℕ) (formed : well_formed (watc
       ∙ node_at_lem ns₀ i (omega (arith, inside, below))
 
   module _ (r : WatchedNode) (is : r ≡ node_at ns i) (x : ℕ) (e : x ≡ refreshed_time t r.timeout r.last_heard) where
-    -- the node that was read as the look at it leaves it
+    -- the node that was read as the check of it leaves it
     abbrev seen : ℕ → WatchedNode
     seen x = heard_now x r
 
@@ -148,7 +148,7 @@ module _ (t : ℕ) (w : WatchedNode) where
           let p : 0 < o = omega arith in
           (rw (lt-ltb 0 l a, lt-ltb 0 o p, le-ltb o (t - l) d), λ h. omega arith)
 
--- nodes that all rest: none is before now, none is late, and the look leaves their words
+-- nodes that all rest: none is before now, none is late, and the check leaves their words
 module _ (t : ℕ) where
   pub rest_before : (vs : List WatchedNode) → all_of (rests t) vs ≡ true → all_of (not_before t) vs ≡ true
   rest_before [] h = refl

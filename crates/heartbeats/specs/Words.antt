@@ -11,11 +11,11 @@ use Rattle.head.specs.Words.{errors_of}
 use Rattle.node.specs.InPlace.{effect_words}
 use Rattle.phases.specs.PartWords.{signal_words, finished_words, ends_by}
 
--- the time that the look at one node leaves as its last-heard time
+-- the time that the check of one node leaves as its last-heard time
 abbrev pub refreshed_time : ℕ → ℕ → ℕ → ℕ
 refreshed_time t timeout last = pick (either (last == 0) (is_late t (watched_node 0 timeout last))) t last
 
--- the words after the look at the i-th node, and at the first so many
+-- the words after the check of the i-th node, and at the first so many
 abbrev pub refresh_words : ℕ → ℕ → List ℕ → List ℕ
 refresh_words t i ns = slice_set ns (3 * i + 2) (refreshed_time t (slice_index ns (3 * i + 1)) (slice_index ns (3 * i + 2)))
 
@@ -33,6 +33,6 @@ unfoldable pub on_late_all_words : List ℕ → List WatchedNode → List ℕ
 on_late_all_words ws [] = ws
 on_late_all_words ws (v ∷ vs) = pick (ends_by ws (timeout_of v)) (on_late_words ws v) (on_late_all_words (on_late_words ws v) vs)
 
--- all places of the watched nodes: the look at the first so many; those behind are kept
+-- all places of the watched nodes: the check of the first so many; those behind are kept
 abbrev pub refreshed_first : ℕ → ℕ → List WatchedNode → List WatchedNode
 refreshed_first t = first (map (refreshed t))

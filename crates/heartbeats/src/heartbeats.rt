@@ -1,4 +1,4 @@
-//! The heartbeats of a tick: the look at the watched nodes, and the errors of the late ones
+//! The heartbeats of a tick: the check of the watched nodes, and the errors of the late ones
 //! (RULES 7.3, 7.4).
 ghost use Rattle.std.specs.Prelude.{◌≡◌, ℕ, ◌≤◌, true, List, map};
 ghost use Rattle.watched.specs.declared.nodes.WatchedNode.{WatchedNode};
@@ -12,10 +12,10 @@ ghost use Rattle.heartbeats.specs.Words.{refreshed_time, refreshed_words, on_lat
 ghost use Rattle.heartbeats.specs.Words.{on_late_all_words};
 ghost use Rattle.phases.specs.PartsIn.{TicksIn};
 
-use phases::{PhaseOutcome, acts, finish, signal};
 use head::state::Head;
 use node::calls::handled;
 use node::timing::time_since;
+use phases::{PhaseOutcome, acts, finish, signal};
 use types::frame::error::types::DllError;
 use types::types::NodeId;
 use watched::nodes::{Formed, NEVER, NodeWords, moment, set_heard};
@@ -29,7 +29,7 @@ pub fn is_late(node: NodeRecord, time: u64) -> bool
     node.last_heard != 0 && node.timeout != 0 && node.timeout < time_since(time, node.last_heard)
 }
 
-/// When a node counts as heard behind the look at a time in µs: now, where it was never heard or is
+/// When a node counts as heard after a check at a time in µs: now, where it was never heard or is
 /// late.
 pub fn refreshed(node: NodeRecord, time: u64) -> u64
     ensures { result ≡ refreshed_time time node.timeout node.last_heard }

@@ -7,8 +7,8 @@ ghost use Rattle.partners.specs.Partners.{AddedOn, RemovedOn};
 ghost use Rattle.lent.specs.Arrivals.{carry_next, carried_all, moved_down, close_next, closed_all};
 
 use crate::run::{for_heard, inspect};
-use head::watch::set_earliest;
 use head::state::Head;
+use head::watch::set_earliest;
 use lentlaws::{scan, scan_back};
 use partners::{try_place, try_remove};
 use types::refusals::Refusal;

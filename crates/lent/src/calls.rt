@@ -3,9 +3,9 @@ ghost use Rattle.watched.specs.Watched.{run};
 ghost use Rattle.node.specs.Heard.{HeardOn};
 ghost use Rattle.start.specs.Started.{StartedOn};
 
-use crate::run::{Setting, for_heard, for_nodes, set_times, inspect};
-use head::watch::set_earliest;
+use crate::run::{Setting, for_heard, for_nodes, inspect, set_times};
 use head::state::Head;
+use head::watch::set_earliest;
 use node::heard::try_heard;
 use start::start::{Setup, begin};
 use types::refusals::Refusal;

@@ -2,8 +2,9 @@
 //! its places finds out, and what a walk sets.
 ghost use Rattle.std.specs.Prelude.{◌≡◌};
 ghost use Rattle.watched.specs.Nodes.{sooner_by};
-ghost use Rattle.lent.specs.Runs.{sought_from, asked_for, for_heard, for_tick, tried_by, count_late_by};
-ghost use Rattle.lent.specs.Runs.{found_by, found_all, inspected, times_set, setting_of, times_set_all};
+ghost use Rattle.lent.specs.Runs.{sought_from, asked_for, for_heard, for_tick, tried_by};
+ghost use Rattle.lent.specs.Runs.{count_late_by, found_by, found_all, inspected, times_set};
+ghost use Rattle.lent.specs.Runs.{setting_of, times_set_all};
 
 use counters::counters::{CounterKind, ThresholdCounter};
 use head::errors::counter_of;
@@ -33,7 +34,7 @@ pub enum Setting {
     Unheard,
     /// That of one node, to this time in µs.
     Heard(u8, u64),
-    /// Those that a look at this time in µs sets.
+    /// Those that a check at this time in µs sets.
     Refreshed(u64),
 }
 

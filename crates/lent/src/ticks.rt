@@ -12,13 +12,13 @@ ghost use Rattle.lent.specs.Runs.{late_errors_all};
 ghost use Rattle.tick.specs.TickIn.{TickedOn};
 ghost use Rattle.watched.specs.Watched.{run};
 
-use crate::run::{LateErrors, Setting, for_tick, set_times, inspect};
+use crate::run::{LateErrors, Setting, for_tick, inspect, set_times};
 use counters::counters::CounterKind;
 use entries::sizes::{HistoryBytes, QueueBytes};
 use head::errors::set_counter;
 use head::machines::state_at;
-use head::watch::set_earliest;
 use head::state::Head;
+use head::watch::set_earliest;
 use phases::{PhaseOutcome, finish, signal};
 use tick::deadline::by_deadline;
 use tick::tick::{checks_heartbeats, tick_still};
@@ -31,7 +31,8 @@ use watched::time::Time;
 // What the errors of the late nodes leave: the heartbeat counter, and, where one crossed, what a
 // crossing brings.
 fn count_late(head: &mut Head, late_errors: LateErrors) -> PhaseOutcome
-    ensures { (t : ℕ) (vs : List WatchedNode) → late_errors ≡ late_errors_all head.old t vs → (q m : List ℕ) →
+    ensures { (t : ℕ) (vs : List WatchedNode) → late_errors ≡ late_errors_all head.old t vs →
+        (q m : List ℕ) →
         TicksIn head.old q m (on_late_all (plain (head_of head.old) q m) (late_ones t vs))
         result head.new q m (on_late_all_words head.old (late_ones t vs)) }
 {

@@ -26,7 +26,7 @@ abbrev pub is_late : ℕ → WatchedNode → Bool
 is_late t w =
     both (ltb 0 w.last_heard) (both (ltb 0 w.timeout) (ltb w.timeout (t - w.last_heard)))
 
--- the look at a node: its last-heard time becomes now where it was never heard or is late
+-- the check of a node: its last-heard time becomes now where it was never heard or is late
 abbrev pub refreshed : ℕ → WatchedNode → WatchedNode
 refreshed t w = pick (either (eqb w.last_heard 0) (is_late t w)) (heard_now t w) w
 
@@ -53,7 +53,7 @@ unfoldable pub on_late_all : Plain → List WatchedNode → Ticked
 on_late_all p [] = goes_on p
 on_late_all p (w ∷ ws) = pick (on_late p w).ended (on_late p w) (behind (on_late p w) (on_late_all (on_late p w).head ws))
 
--- the heartbeats of a tick: what comes of the late nodes; and the run as the look leaves it. All
+-- the heartbeats of a tick: what comes of the late nodes; and the run as the check leaves it. All
 -- nodes are looked at before any error is counted.
 abbrev pub heartbeats : Plain → ℕ → List WatchedNode → Ticked
 heartbeats p t ws = pick (checks_heartbeats p.nmt.current_state) (on_late_all p (late_ones t ws)) (goes_on p)

@@ -9,8 +9,8 @@ ghost use Rattle.head.specs.Words.{head_of};
 
 use crate::timing::{last_soc, limit, time_since};
 use head::dictionary::od_of;
-use head::watch::soc_of;
 use head::state::Head;
+use head::watch::soc_of;
 use types::refusals::Refusal;
 use watched::time::Time;
 

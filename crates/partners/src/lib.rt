@@ -10,8 +10,8 @@ ghost use Rattle.watched.specs.Watched.{no_node, inserted, watched_places};
 ghost use Rattle.partners.specs.Walks.{place_before, closed};
 ghost use Rattle.partners.specs.Partners.{add_answer, remove_answer, Added, Removed};
 
-use head::watch::set_earliest;
 use head::state::Head;
+use head::watch::set_earliest;
 use types::refusals::Refusal;
 use types::types::NodeId;
 use watched::nodes::{NodeWords, WATCHED_PLACES, find, moment};
@@ -32,7 +32,8 @@ fn place_for(nodes: &NodeWords, count: usize, node: u64) -> usize
 // The places from one on are cleared.
 fn clear(nodes: &mut NodeWords, from: usize)
     requires { from ≤ watched_places }
-    ensures { nodes_of nodes.new ≡ take from (nodes_of nodes.old) ++ replicate (watched_places - from) no_node }
+    ensures { nodes_of nodes.new ≡
+        take from (nodes_of nodes.old) ++ replicate (watched_places - from) no_node }
 {
     nodes[3 * from..].fill(0);
 }

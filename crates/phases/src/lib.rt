@@ -11,8 +11,8 @@ ghost use Rattle.phases.specs.PartsIn.{Turns, FinishesIn};
 
 use head::dictionary::{increment_counter, register_of, set_register};
 use head::machines::{nmt_of, set_nmt};
-use head::watch::{check_off, set_changed};
 use head::state::{Head, Statistic};
+use head::watch::{check_off, set_changed};
 use types::frame::error::types::{DllErrors, NmtAction};
 use types::nmt::events::NmtEvent;
 

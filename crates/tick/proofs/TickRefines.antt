@@ -144,7 +144,7 @@ module _ (h : Head) (q m : List ℕ) (r : Run) (t : ℕ) where
     pub tick_before : pick checks (all_of (not_before t) (watching r)) true ≡ false → TickLeft (refused 6) h q m r
     tick_before d = tick_declined 6 (rw (a, b, d))
 
-    -- from the phases, and the look at the nodes
+    -- from the phases, and the check of the nodes
     pub tick_accepted :
         pick checks (all_of (not_before t) (watching r)) true ≡ true →
         (d : PartLeft) (q' m' : List ℕ) →

@@ -16,11 +16,11 @@ use crate::dll_errors::on_dll_errors;
 use entries::sizes::{HistoryBytes, QueueBytes};
 use head::dictionary::od_of;
 use head::machines::{dll_of, set_dll, state_at, timeout_of};
-use head::watch::{check_of, check_off, deadline_at, set_deadline, soc_of};
 use head::state::{Deadline, Head};
-use phases::{PhaseOutcome, timeout_in_tick};
+use head::watch::{check_of, check_off, deadline_at, set_deadline, soc_of};
 use node::range::is_loss;
 use node::timing::{cycle, last_soc, limit, time_since, tolerance_us};
+use phases::{PhaseOutcome, timeout_in_tick};
 use types::frame::cs_state_machine::DllCsEvent;
 use types::frame::error::types::DllErrors;
 use types::nmt::states::NmtState;
@@ -82,7 +82,12 @@ fn soc_timeout(head: &mut Head) -> DllErrors
 }
 
 // The errors of a lost SoC are dealt with; where none brings an action, the deadline is set anew.
-fn lose(head: &mut Head, queue: &mut QueueBytes, history: &mut HistoryBytes, time: Time) -> PhaseOutcome
+fn lose(
+    head: &mut Head,
+    queue: &mut QueueBytes,
+    history: &mut HistoryBytes,
+    time: Time,
+) -> PhaseOutcome
     ensures { TicksIn head.old queue.old history.old
         (lost (plain (head_of head.old) queue.old history.old) time.us)
         result head.new queue.new history.new
@@ -98,7 +103,12 @@ fn lose(head: &mut Head, queue: &mut QueueBytes, history: &mut HistoryBytes, tim
 }
 
 // The SoC check, where it is on.
-fn soc_check(head: &mut Head, queue: &mut QueueBytes, history: &mut HistoryBytes, time: Time) -> PhaseOutcome
+fn soc_check(
+    head: &mut Head,
+    queue: &mut QueueBytes,
+    history: &mut HistoryBytes,
+    time: Time,
+) -> PhaseOutcome
     ensures { TicksIn head.old queue.old history.old
         (soc_check (plain (head_of head.old) queue.old history.old) time.us)
         result head.new queue.new history.new

@@ -15,8 +15,8 @@ use entries::status_response::ErrorEntry;
 use head::dictionary::increment_counter;
 use head::memory::{history_of, queue_of, set_history, set_queue};
 use head::state::{Head, Statistic};
-use phases::{PhaseOutcome, acts, finish, signal};
 use node::calls::handled;
+use phases::{PhaseOutcome, acts, finish, signal};
 use types::frame::error::types::{DllError, DllErrors};
 
 // The entry of a crossing joins queue and history, with counter 2, or is dropped, with counter 3.

@@ -63,7 +63,7 @@ module _ (f : WatchedNode → WatchedNode) where
           ∙ sym (past r.number r.places j l h))
           (lt_or_ge j r.number)
 
--- the plain tick that is taken: its run passes number 3, and is left as the look leaves it
+-- the plain tick that is taken: its run passes number 3, and is left as the check leaves it
 module _ (p : Plain) (t : ℕ) (r : Run) (es : List DllError) (e : (step p (Call.tick t r)).answer ≡ tick_answer es) where
   abbrev taken : Step
   taken = tick_answered (tick_taken p t (watching r)) (refreshed_at p t r)

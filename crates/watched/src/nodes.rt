@@ -272,8 +272,8 @@ pub fn find(nodes: &NodeWords, count: usize, node: u64, time: u64) -> Option<(us
     all.have_numbers().then_some((front.place, soonest))
 }
 
-/// What a look at well formed nodes finds before a tick. A node rests that was heard, not after the
-/// tick's time where it has a timeout, and is not late.
+/// What a check of well formed nodes finds before a tick. A node rests that was heard, not after
+/// the tick's time where it has a timeout, and is not late.
 #[derive(Clone, Copy)]
 pub enum Seen {
     /// Some node does not rest, so that the tick has to go over all. True where the time is before
