@@ -14,7 +14,6 @@ import sys
 CRATES = """types nmt dll counters entries head watched bitmap node partners start phases heartbeats tick
 due lentlaws lent calling trace forms shift shiftreport reach positions readings transitions
 counting entry_bytes chart examples script telling replay""".split()
-GAPS = 'script telling replay'.split()  # their specs/ have definitions without a comment
 ROOT = pathlib.Path(__file__).resolve().parent.parent
 ITEM = re.compile(r'^ *pub(?:\(crate\))? (?:const |static |extern "C" )*(?:fn|struct|enum|trait|type|(?=[A-Z_]+:)) ?(\w+)')
 CONVERSION = re.compile(r'^ *impl\b.*\b(?:Try)?From<.* for (\w+)')
@@ -67,8 +66,7 @@ def files_of(folder, ending):
 
 
 def main():
-    specs = [file for file in files_of('specs', '*.antt') if file.relative_to(ROOT).parts[1] not in GAPS]
-    looked_at = [(wrong_in, files_of('src', '*.rt')), (wrong_in_specs, specs)]
+    looked_at = [(wrong_in, files_of('src', '*.rt')), (wrong_in_specs, files_of('specs', '*.antt'))]
     files = [file for _, some in looked_at for file in some]
     wrong = [f'{file.relative_to(ROOT)}:{number}: {what}'
              for look, some in looked_at for file in some for number, what in look(file)]
