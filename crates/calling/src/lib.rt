@@ -16,6 +16,7 @@ ghost use Rattle.calling.specs.Made.{Made, lent_after};
 
 use crate::nodes::{Nodes, Records};
 use counters::counters::ErrorTaken;
+use entries::sizes::{HistoryBytes, QueueBytes};
 use entries::status_response::ErrorEntry;
 use head::state::Head;
 use node::calls::{
@@ -136,8 +137,8 @@ pub enum Answer {
 /// (RULES 2).
 pub fn make<N: Nodes>(
     head: &mut Head,
-    queue: &mut [u8; 640],
-    history: &mut [u8; 5080],
+    queue: &mut QueueBytes,
+    history: &mut HistoryBytes,
     nodes: &mut N,
     number: &mut usize,
     call: Call<'_>,
@@ -183,8 +184,8 @@ pub fn make<N: Nodes>(
 /// `make` with the nodes in words, whose every word is known afterwards.
 pub fn make_over_words(
     head: &mut Head,
-    queue: &mut [u8; 640],
-    history: &mut [u8; 5080],
+    queue: &mut QueueBytes,
+    history: &mut HistoryBytes,
     nodes: &mut NodeWords,
     number: &mut usize,
     call: Call<'_>,
@@ -202,8 +203,8 @@ pub fn make_over_words(
 /// `make` with a run of records, of any length; the caller's run is then what the call left.
 pub fn make_over_records(
     head: &mut Head,
-    queue: &mut [u8; 640],
-    history: &mut [u8; 5080],
+    queue: &mut QueueBytes,
+    history: &mut HistoryBytes,
     nodes: &mut [WatchedNode],
     number: &mut usize,
     call: Call<'_>,

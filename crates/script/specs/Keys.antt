@@ -20,27 +20,30 @@ words_within (suc most) (c ∷ cs) = option_and_then (λ x. option_map (λ ws. x
 abbrev pub texts : List (Bor (List ℕ)) → List (List ℕ)
 texts ws = map (λ (w : Bor (List ℕ)). w.now) ws
 
--- what takes a value out of such words: the value, and the words that are left
+-- what takes a value out of words: the value, and the words that are left
 abbrev pub Takes : Type 0 → Type 0
 Takes A = List (List ℕ) → Option (A × List (List ℕ))
 
+-- a word that begins with a key, which ends in `=`
 abbrev pub has_key : List ℕ → List ℕ → Bool
 has_key key w = bytes_eq (take (length key) w) key
 
--- what stands behind a key in the first word that has it, and the words without that one
+-- what stands behind a key in the first word that has it
 unfoldable pub value_behind : List ℕ → List (List ℕ) → Option (List ℕ)
 value_behind key [] = None
 value_behind key (w ∷ ws) = if has_key key w then Some (drop (length key) w) else value_behind key ws
 
+-- the words without that one
 unfoldable pub without : List ℕ → List (List ℕ) → List (List ℕ)
 without key [] = []
 without key (w ∷ ws) = if has_key key w then ws else w ∷ without key ws
 
--- a key that no word has, and one that the word at a place is the first to have, with a value behind it
+-- no word has the key
 pub record Lacks (key : List ℕ) (ws : List (Bor (List ℕ))) : Type 0 where
   pub value : value_behind key (texts ws) ≡ None
   pub rest : without key (texts ws) ≡ texts ws
 
+-- the word at a place is the first that has the key, and a value stands behind it
 pub record Finds (key : List ℕ) (ws : List (Bor (List ℕ))) (place : ℕ) (value : List ℕ) : Type 0 where
   pub within : place < length ws
   pub found : value_behind key (texts ws) ≡ Some value
@@ -50,19 +53,23 @@ pub record Finds (key : List ℕ) (ws : List (Bor (List ℕ))) (place : ℕ) (va
 abbrev pub keyed : {A : Type 0} → List ℕ → (List ℕ → Option A) → Option A → Takes A
 keyed key read left_out ws = option_map (λ a. (a, without key ws)) (option_map_or read (value_behind key ws) left_out)
 
--- numbers, and a value that may be missing
+-- a number of 8 bits
 unfoldable pub keyed8 : List ℕ → Option ℕ → Takes ℕ
 keyed8 key left_out = keyed key (number_within 255) left_out
 
+-- a number of 32 bits
 unfoldable pub keyed32 : List ℕ → ℕ → Takes ℕ
 keyed32 key left_out = keyed key (number_within 4294967295) (Some left_out)
 
+-- a number of 64 bits
 unfoldable pub keyed64 : List ℕ → ℕ → Takes ℕ
 keyed64 key left_out = keyed key (number_within 18446744073709551615) (Some left_out)
 
+-- a value of 32 bits, or `-`, a missing one
 abbrev pub object_of : List ℕ → Option (Option ℕ)
 object_of w = if bytes_eq w (codes "-") then Some None else option_map Some (number_within 4294967295 w)
 
+-- such a value; it is missing where its key is left out
 unfoldable pub keyed_object : List ℕ → Takes (Option ℕ)
 keyed_object key = keyed key object_of (Some None)
 
@@ -106,12 +113,14 @@ abbrev pub no_words : List (List ℕ) → Option (Unit {0})
 no_words [] = Some tt
 no_words (w ∷ ws) = None
 
--- Each word is taken by its key, so one with another key is left, and so is the second of a key. There are 18 keys.
+-- A start by keys, of which there are 18. Each word is taken by its key, so one with another key is
+-- left, and so is the second of a key; then the line is unreadable.
 unfoldable pub setup_by_keys : Reads Setup
 setup_by_keys rest =
     option_and_then (λ x. option_map (λ u. (x.0, [])) (no_words x.1)) (option_and_then keyed_setup (words_within 18 rest))
 
--- whether the first word begins with a digit: then the words of a start stand at their places, and else behind keys
+-- whether the first word begins with a digit: then the values stand at their places, else behind
+-- keys
 abbrev pub by_place : List ℕ → Bool
 by_place (space ∷ c ∷ cs) = nat_le 48 c && nat_le c 57
 by_place other = false

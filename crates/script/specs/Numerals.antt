@@ -15,18 +15,23 @@ unfoldable pub number_named : {A : Type 0} → (A → List ℕ) → (A → ℕ) 
 number_named name number [] w = None
 number_named name number (x ∷ xs) w = if bytes_eq (name x) w then Some (number x) else number_named name number xs w
 
+-- the number of the NMT event of a name
 abbrev pub event_named : List ℕ → Option ℕ
 event_named = number_named event_name event_number events
 
+-- of a DLL event
 abbrev pub cs_event_named : List ℕ → Option ℕ
 cs_event_named = number_named cs_event_name cs_event_number cs_events
 
+-- of a kind of error
 abbrev pub kind_named : List ℕ → Option ℕ
 kind_named = number_named kind_name kind_place error_kinds
 
+-- of an NMT state
 abbrev pub state_named : List ℕ → Option ℕ
 state_named = number_named state_name state_number states
 
+-- of a state command
 abbrev pub command_named : List ℕ → Option ℕ
 command_named = number_named command_name command_number commands
 
@@ -34,7 +39,7 @@ command_named = number_named command_name command_number commands
 unfoldable pub numeral_of : (List ℕ → Option ℕ) → List ℕ → Option ℕ
 numeral_of named w = option_or (number_of w) (named w)
 
--- a number of 64 bits, or a name
+-- a word that is a number of 64 bits, or a name
 unfoldable pub numeral : (List ℕ → Option ℕ) → Reads ℕ
 numeral named = word >>= λ w. only (numeral_of named w)
 

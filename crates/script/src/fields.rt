@@ -24,11 +24,11 @@ fn carries_byte(kind: u64) -> bool
 }
 
 impl Words<'_> {
-    // A number that is a byte where it is looked at; any other is read as 0.
-    fn carried(&mut self, is_looked_at: bool) -> Option<u8>
-        ensures { gives result self.new.rest.now ≡ carried is_looked_at self.old.rest.now }
+    // A number that is a byte where it is read; any other counts as 0.
+    fn carried(&mut self, is_read: bool) -> Option<u8>
+        ensures { gives result self.new.rest.now ≡ carried is_read self.old.rest.now }
     {
-        if is_looked_at {
+        if is_read {
             self.bits8()
         } else {
             self.bits64().map(|_| 0)

@@ -1,4 +1,4 @@
-//! What `--trace` prints: how the NMT machine of a node was moved.
+//! What a trace prints: how the NMT machine of a node was moved.
 ghost use Rattle.std.specs.Prelude.{Some};
 ghost use Rattle.telling.specs.Moves.{cause_text, moved_text};
 
