@@ -32,6 +32,7 @@ use Rattle.script.specs.Grammar.{says, line_says}
 use Rattle.telling.specs.declared.answers.Told.{Told}
 use Rattle.telling.specs.declared.answers.Told.TheVariants as told
 use Rattle.telling.specs.declared.answers.Bitmap.{Bitmap}
+use Rattle.telling.specs.declared.styles.Style.{Style}
 use Rattle.telling.specs.Texts.{joined}
 use Rattle.telling.specs.Answers.{reply_text}
 use Rattle.telling.specs.Shows.{show_text}
@@ -224,20 +225,20 @@ abbrev pub Plays : Line → Station → Said → Station → Type 0
 Plays l x o y = MatchBool (takes l x) (Does l x o y) ((o ≡ said.Unreadable) × (y ≡ x))
 
 -- what `show` prints at a station
-abbrev pub station_text : Station → List ℕ
-station_text x = show_text x.head x.queue x.history (take x.places x.run) x.number x.desk.items
+abbrev pub station_text : Style → Station → List ℕ
+station_text y x = show_text y x.head x.queue x.history (take x.places x.run) x.number x.desk.items
 
 -- what `why` prints at a station
 abbrev pub standing_text : Station → List ℕ
 standing_text x = why_text (position_of (nmt_of x.head))
 
 -- what a line is answered, which is the n-th of the script, counted from 1, and left the station x
-abbrev pub said_text : Said → ℕ → Station → List ℕ
-said_text said.Nothing n x = []
-said_text said.Unreadable n x = joined (codes "(unreadable " ∷ decimal n ∷ codes ")\n" ∷ [])
-said_text (said.Reply r) n x = reply_text r.0
-said_text said.Show n x = station_text x
-said_text said.Why n x = standing_text x
+abbrev pub said_text : Style → Said → ℕ → Station → List ℕ
+said_text y said.Nothing n x = []
+said_text y said.Unreadable n x = joined (codes "(unreadable " ∷ decimal n ∷ codes ")\n" ∷ [])
+said_text y (said.Reply r) n x = reply_text y r.0
+said_text y said.Show n x = station_text y x
+said_text y said.Why n x = standing_text x
 
 -- where moves are traced, the machine that a line finds
 abbrev pub found_by : Bool → Station → Option CnNmtStateMachine
@@ -256,7 +257,7 @@ trace_text (Some m) = moved_text m
 
 -- what a line prints that is played from one station to the next
 abbrev pub line_text : Options → Line → Said → ℕ → Station → Station → List ℕ
-line_text how l o n x y = said_text o n y ++ trace_text (moved_from (found_by how.trace x) l y)
+line_text how l o n x y = said_text how.style o n y ++ trace_text (moved_from (found_by how.trace x) l y)
 
 -- whether a line could be read and played
 abbrev pub is_played : Said → Bool

@@ -12,8 +12,11 @@ use std::fs::File;
 use std::io::{BufRead, BufReader, BufWriter, Read, Write};
 use std::process::ExitCode;
 use std::{env, io};
+use telling::styles::Style;
 
 const ABOUT: &str = "Drives a head by a call script and prints what each call answers.";
+
+const NAMES: &str = "Print names in place of numbers: states, events, kinds, codes, refusals";
 
 const TRACE: &str = "Print each change of the NMT state behind the line that made it";
 
@@ -39,12 +42,14 @@ fn flag<'a>(alloc: Global, name: &'a str, help: &'a str) -> Arg<'a> {
 
 fn parsed<'a>(alloc: Global, words: &'a [String]) -> Result<ArgMatches<'a>, Error> {
     let script = Arg::new(alloc, "SCRIPT").help(SCRIPT);
+    let names = flag(alloc, "names", NAMES);
     let trace = flag(alloc, "trace", TRACE);
     Command::new(alloc, "replay")
         .version("0.1.0")
         .about(ABOUT)
         .after_help(AFTER)
         .arg(script)?
+        .arg(names)?
         .arg(trace)?
         .try_get_matches_from(words)
 }
@@ -92,6 +97,11 @@ fn run(rt: &HostRuntime) -> io::Result<ExitCode> {
         }
     };
     let options = Options {
+        style: if matches.get_flag("names") {
+            Style::Names
+        } else {
+            Style::Numbers
+        },
         trace: matches.get_flag("trace"),
     };
     match matches.get_str("SCRIPT") {

@@ -14,11 +14,15 @@ use std::alloc::Global;
 use std::fmt::Display;
 use std::io::{BufRead, BufReader, ErrorKind, Read, Write};
 use std::{fmt, io};
+use telling::answers::ReplyForm;
 use telling::moves::Moved;
+use telling::styles::Style;
 
 /// How a script is played.
 #[derive(Clone, Copy)]
 pub struct Options {
+    /// How states, events, kinds, codes and refusals are printed.
+    pub style: Style,
     /// Whether each change of the NMT state has a line behind what made it.
     pub trace: bool,
 }
@@ -26,20 +30,21 @@ pub struct Options {
 // What a line is answered at a place of the script, from 1, on the station that it left.
 #[derive(Clone, Copy)]
 struct Answered<'a> {
+    style: Style,
     said: Said,
     place: u64,
     station: &'a Station,
 }
 
 impl Display for Answered<'_> {
-    ghost output = { λ x. Some (said_text x.said x.place x.station.now) };
+    ghost output = { λ x. Some (said_text x.style x.said x.place x.station.now) };
 
     fn fmt<W: fmt::Write>(&self, f: &mut fmt::Formatter<W>) -> fmt::Result {
         match self.said {
             Said::Nothing => Ok(()),
             Said::Unreadable => writeln!(f, "(unreadable {})", self.place),
-            Said::Reply(reply) => write!(f, "{reply}"),
-            Said::Show => write!(f, "{}", self.station.shown()),
+            Said::Reply(reply) => write!(f, "{}", ReplyForm(self.style, reply)),
+            Said::Show => write!(f, "{}", self.station.shown(self.style)),
             Said::Why => write!(f, "{}", self.station.why()),
         }
     }
@@ -74,11 +79,7 @@ impl Options {
 }
 
 // How a line moved the machine that it found, from which one is told.
-fn moved_from(
-    before: Option<CnNmtStateMachine>,
-    line: Line<'_>,
-    station: &Station,
-) -> Option<Moved>
+fn moved_from(before: Option<CnNmtStateMachine>, line: Line<'_>, station: &Station) -> Option<Moved>
     ensures { result ≡ moved_from before line.entry station.now }
 {
     moved(line, before?, station.machine())
@@ -134,6 +135,7 @@ pub fn play<R: Read, W: Write>(
         all_played &= said.is_played();
         let traced = Traced(moved_from(before, read_line, &station));
         let answered = Answered {
+            style: options.style,
             said,
             place,
             station: &station,

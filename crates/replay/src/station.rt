@@ -19,6 +19,7 @@ use script::Line;
 use start::start::Setup;
 use telling::answers::{Bitmap, Reply, Told};
 use telling::shows::Shown;
+use telling::styles::Style;
 use telling::why::{Why, position_of};
 use types::frame::error::kinds::DllErrorKind;
 use types::nmt::events::NmtStateCommand;
@@ -284,10 +285,11 @@ impl Station {
     }
 
     /// What `show` prints.
-    pub fn shown(&self) -> Shown<'_>
-        ensures { shown_text result ≡ station_text self.now }
+    pub fn shown(&self, style: Style) -> Shown<'_>
+        ensures { shown_text result ≡ station_text style self.now }
     {
         Shown {
+            style,
             head: &self.head,
             queue: &self.queue,
             history: &self.history,

@@ -37,11 +37,7 @@ fn cause_of(line: Line<'_>, before: CnNmtStateMachine, after: CnNmtStateMachine)
 }
 
 /// How a line moved the machine of a node, where its state is another behind it.
-pub fn moved(
-    line: Line<'_>,
-    before: CnNmtStateMachine,
-    after: CnNmtStateMachine,
-) -> Option<Moved>
+pub fn moved(line: Line<'_>, before: CnNmtStateMachine, after: CnNmtStateMachine) -> Option<Moved>
     ensures { result ≡ moved line.entry before after }
 {
     if before.current_state.as_u8() == after.current_state.as_u8() {

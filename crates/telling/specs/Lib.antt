@@ -1,4 +1,5 @@
 pub mod Texts
+pub mod Styles
 pub mod Answers
 pub mod Heads
 pub mod Shows

@@ -6,5 +6,6 @@ pub mod answers;
 mod heads;
 pub mod moves;
 pub mod shows;
+pub mod styles;
 mod texts;
 pub mod why;

@@ -23,7 +23,7 @@ loop-place-preserved g c =
     omega (arith, c.in_ok-read_until.ensures.ok, c.clear.ensures.len, c.read_until.new.buf.ok.0, c.if-branch-eq0.false)
     in
     let how = ap
-    (λ (m : Option Moved). said_text c.play-said.result c.loop-place.place c.play-said.new.self ++ trace_text m)
+    (λ (m : Option Moved). said_text c.args.options.style c.play-said.result c.loop-place.place c.play-said.new.self ++ trace_text m)
     (c.moved_from.ensures ∙ ap (λ (m : Option CnNmtStateMachine). moved_from m c.read-read_line.result c.play-said.new.self) c.before-before.ensures)
     in
     next _ _ _ _ _ _ _ _ _ _ _ read c.read-read_line.result c.play-said.result _ _ c.is_played.ensures c.loop-place.invariant
