@@ -18,8 +18,8 @@ use Rattle.telling.specs.declared.moves.Cause.TheVariants as cause
 use Rattle.telling.specs.declared.moves.Moved.{Moved}
 use Rattle.telling.specs.Why.{left_by, position_of}
 
--- the event that moved a machine at a tick (RULES 7.5, 7.9): Timeout where the table leads it to the
--- state that it is in now, else Error
+-- the event that moved a machine at a tick (RULES 7.5, 7.9): Timeout where the table leads it to
+-- the state that it is in now, else Error
 abbrev pub event_of : CnNmtStateMachine → CnNmtStateMachine → NmtEvent
 event_of m m' = pick (same_state (left_by (position_of m) Timeout).position.state m'.current_state) Timeout Error
 

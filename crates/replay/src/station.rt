@@ -131,7 +131,8 @@ impl Station {
     ghost use Rattle.head.specs.Words.{nmt_of};
     ghost use Rattle.telling.specs.Shows.{shown_text};
     ghost use Rattle.telling.specs.Why.{why_text};
-    ghost use Rattle.replay.specs.Played.{station_text, standing_text, fresh, Called, Began, Bits, Wrote, Quiet};
+    ghost use Rattle.replay.specs.Played.{station_text, standing_text, fresh, Called, Began};
+    ghost use Rattle.replay.specs.Played.{Bits, Wrote, Quiet};
     ghost use Rattle.replay.specs.Played.{watched_in, unwatched, lending, laid, takes, Plays};
 
     /// Nothing has been started, lent or laid on the desk.

@@ -2,7 +2,8 @@
 ghost use Rattle.std.specs.Prelude.{◌≡◌};
 ghost use Rattle.script.specs.Reads.{gives, optional, bits8, bits32, object};
 ghost use Rattle.script.specs.Grammar.{carries_byte, carried, error, watched, dictionary};
-ghost use Rattle.script.specs.Grammar.{thresholds, setup_by_place, setup, update, entry_type, entry};
+ghost use Rattle.script.specs.Grammar.{thresholds, setup_by_place, setup, update, entry_type};
+ghost use Rattle.script.specs.Grammar.{entry};
 
 use crate::words::Words;
 use calling::Call;

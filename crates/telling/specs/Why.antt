@@ -1,5 +1,5 @@
--- What `why` prints: where the NMT machine stands, what it waits for, and where each event leads from
--- there. All of it is asked of the table of the rules (RULES 4.7).
+-- What `why` prints: where the NMT machine stands, what it waits for, and where each event leads
+-- from there. All of it is asked of the table of the rules (RULES 4.7).
 -- Assumes nothing.
 use Rattle.std.specs.Prelude.{ℕ, Bool, true, not, List, [], ◌∷◌, codes}
 use Rattle.std.specs.List.{flat_map}

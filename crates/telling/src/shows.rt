@@ -25,8 +25,8 @@ use std::fmt;
 use std::fmt::Display;
 use watched::nodes::WatchedNode;
 
-/// How it is printed, a head, the memory of its queue and its history, the run of watched nodes that is lent with its
-/// number, and the bytes on the desk.
+/// How it is printed, a head, the memory of its queue and its history, the run of watched nodes
+/// that is lent with its number, and the bytes on the desk.
 #[derive(Clone, Copy)]
 pub struct Shown<'a> {
     pub style: Style,
