@@ -49,9 +49,13 @@ pub(crate) fn number_named<T: Named>(name: &[u8]) -> Option<u64>
 
 // They are statics, which are read where they lie.
 static NMT_EVENTS: [NmtEvent; 19] = NmtEvent::ALL;
+
 static DLL_EVENTS: [DllCsEvent; 6] = DllCsEvent::ALL;
+
 static KINDS: [DllErrorKind; 22] = DllErrorKind::ALL;
+
 static STATES: [NmtState; 12] = NmtState::ALL;
+
 static COMMANDS: [NmtStateCommand; 8] = [
     NmtStateCommand::StartNode,
     NmtStateCommand::StopNode,

@@ -104,9 +104,7 @@ impl Display for AnswerForm {
         match answer {
             Answer::Taken => Ok(()),
             Answer::Nmt(taken) => write!(f, "{}", NmtForm(style, taken)),
-            Answer::Dll(errors) => {
-                write!(f, " (errors{})", Errors(style, Machine::Dll, errors))
-            }
+            Answer::Dll(errors) => { write!(f, " (errors{})", Errors(style, Machine::Dll, errors)) }
             Answer::Error(taken) => write!(f, "{}", ErrorTakenForm(style, taken)),
             Answer::Cycle(cleared) => write!(f, " (cleared {})", Flag(cleared)),
             Answer::HandedOut(Some(entry)) => write!(f, " (entry{})", EntryBytes(entry)),

@@ -60,7 +60,12 @@ impl Display for NmtLine {
 
     fn fmt<W: fmt::Write>(&self, f: &mut fmt::Formatter<W>) -> fmt::Result {
         let NmtLine(style, machine) = *self;
-        writeln!(f, "(nmt {} {})", Standing(style, machine), Identity(machine))
+        writeln!(
+            f,
+            "(nmt {} {})",
+            Standing(style, machine),
+            Identity(machine)
+        )
     }
 }
 

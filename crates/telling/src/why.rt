@@ -52,8 +52,16 @@ impl Display for Flags {
     ghost output = { λ x. Some (flags_text x.0) };
 
     fn fmt<W: fmt::Write>(&self, f: &mut fmt::Formatter<W>) -> fmt::Result {
-        f.write_str(if self.0.enabled { ", enabled" } else { ", not enabled" })?;
-        f.write_str(if self.0.ready { ", ready" } else { ", not ready" })
+        f.write_str(if self.0.enabled {
+            ", enabled"
+        } else {
+            ", not enabled"
+        })?;
+        f.write_str(if self.0.ready {
+            ", ready"
+        } else {
+            ", not ready"
+        })
     }
 }
 
