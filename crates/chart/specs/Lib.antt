@@ -1,0 +1,2 @@
+pub mod Transitions
+pub mod Positions

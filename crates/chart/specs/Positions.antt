@@ -1,0 +1,50 @@
+-- The positions that a head can come to, and the steps between them, as the page prints them.
+-- Assumes nothing.
+use Rattle.std.specs.Prelude.{ℕ, Bool, false, List, [], ◌++◌, codes}
+use Rattle.std.specs.Fmt.{decimal}
+use Rattle.types.specs.Pick.{pick}
+use Rattle.types.specs.Names.{state_name, event_name}
+use Rattle.types.specs.States.{same_state}
+use Rattle.types.specs.declared.nmt.states.NmtState.TheVariants.{NmtReadyToOperate}
+use Rattle.nmt.specs.Table.{ruled}
+use Rattle.nmt.specs.declared.cn_state_machine.Position.{Position}
+use Rattle.head.specs.Words.{nmt_of}
+use Rattle.reach.specs.declared.Line.{Line}
+use Rattle.chart.specs.Transitions.{same_position}
+use Rattle.chart.specs.declared.positions.Step.{Step}
+use Rattle.chart.specs.declared.positions.Step.TheVariants as step
+
+-- the position of a head, by its words
+abbrev pub position_of : List ℕ → Position
+position_of ws =
+    record { state = (nmt_of ws).current_state; enabled = (nmt_of ws).ready_to_operate_enabled; ready = (nmt_of ws).app_ready }
+
+-- the position after a step: an event by the table's entry, a withdrawal where it is not refused
+abbrev pub stepped : Position → Step → Position
+stepped p (step.Event e) = (ruled p.state e p.enabled p.ready).position
+stepped p step.Withdrawal =
+    record { state = p.state; enabled = p.enabled; ready = pick (same_state p.state NmtReadyToOperate) p.ready false }
+
+abbrev pub step_text : Step → List ℕ
+step_text (step.Event e) = event_name e
+step_text step.Withdrawal = codes "withdrawal"
+
+-- a flag's text, where it is on
+abbrev pub where_on : Bool → List ℕ → List ℕ
+where_on b text = pick b text []
+
+-- a position's key in the picture
+abbrev pub key_text : Position → List ℕ
+key_text p = state_name p.state ++ (where_on p.enabled (codes "_E") ++ where_on p.ready (codes "_R"))
+
+-- a position with its least number of steps, and its key
+unfoldable pub place_text : Line → List ℕ
+place_text l =
+    codes "    state \"" ++ (decimal l.steps ++ (codes ": " ++ (state_name l.position.state ++ (where_on l.position.enabled (codes ", enabled") ++ (where_on l.position.ready (codes ", ready") ++ (codes "\" as " ++ (key_text l.position ++ codes "\n")))))))
+
+-- an arrow of the picture; a step that leads back to where it starts has none
+unfoldable pub arrow_text : Position → Step → List ℕ
+arrow_text p x =
+    let q = stepped p x in
+    pick (same_position q p) []
+    (codes "    " ++ (key_text p ++ (codes " --> " ++ (key_text q ++ (codes " : " ++ (step_text x ++ codes "\n"))))))
