@@ -1,19 +1,17 @@
 -- What the node's own calls make of a head's position.
 -- Assumes nothing.
-use Rattle.std.proofs.Common.{◌≡◌, ℕ, Bool, true, false, List, [], refl, sym, ap, ◌∙◌}
-use Rattle.types.specs.Pick.{pick}
+use Rattle.std.proofs.Common.{◌≡◌, ℕ, Bool, true, false, List, [], refl, ap, ◌∙◌}
 use Rattle.types.specs.States.{same_state}
 use Rattle.types.specs.Events.{event_number}
 use Rattle.types.specs.declared.nmt.events.NmtEvent.{NmtEvent}
 use Rattle.types.specs.declared.nmt.states.NmtState.TheVariants.{NmtReadyToOperate}
-use Rattle.nmt.specs.declared.cn_state_machine.Position.{Position}
 use Rattle.head.specs.Words.{head_of}
-use Rattle.node.specs.Plain.{Plain, Call, Answer, nmt_event, withdraw}
+use Rattle.node.specs.Plain.{Plain, Answer, nmt_event, withdraw}
 use Rattle.node.specs.Run.{step}
 use Rattle.node.specs.Refines.{plain}
 use Rattle.node.specs.InPlace.{InPlace}
-use Rattle.reach.specs.Positions.{position, position_at}
-use Rattle.reach.proofs.Reaching.{moved, number_moves}
+use Rattle.reach.specs.Positions.{position}
+use Rattle.reach.proofs.Reaching.{number_moves}
 use Rattle.chart.specs.Positions.{position_of, stepped}
 use Rattle.chart.specs.declared.positions.Step.TheVariants as by
 

@@ -1,6 +1,6 @@
 -- The positions that a head can come to, and the steps between them, as the page prints them.
 -- Assumes nothing.
-use Rattle.std.specs.Prelude.{ℕ, Bool, false, List, [], ◌++◌, codes}
+use Rattle.std.specs.Prelude.{ℕ, false, List, [], ◌∷◌, codes}
 use Rattle.std.specs.Fmt.{decimal}
 use Rattle.types.specs.Pick.{pick}
 use Rattle.types.specs.Names.{state_name, event_name}
@@ -10,6 +10,7 @@ use Rattle.nmt.specs.Table.{ruled}
 use Rattle.nmt.specs.declared.cn_state_machine.Position.{Position}
 use Rattle.head.specs.Words.{nmt_of}
 use Rattle.reach.specs.declared.Line.{Line}
+use Rattle.chart.specs.Texts.{joined, text_if}
 use Rattle.chart.specs.Transitions.{same_position}
 use Rattle.chart.specs.declared.positions.Step.{Step}
 use Rattle.chart.specs.declared.positions.Step.TheVariants as step
@@ -29,22 +30,31 @@ abbrev pub step_text : Step → List ℕ
 step_text (step.Event e) = event_name e
 step_text step.Withdrawal = codes "withdrawal"
 
--- a flag's text, where it is on
-abbrev pub where_on : Bool → List ℕ → List ℕ
-where_on b text = pick b text []
-
 -- a position's key in the picture
 abbrev pub key_text : Position → List ℕ
-key_text p = state_name p.state ++ (where_on p.enabled (codes "_E") ++ where_on p.ready (codes "_R"))
+key_text p = joined (state_name p.state ∷ text_if p.enabled (codes "_E") ∷ text_if p.ready (codes "_R") ∷ [])
 
 -- a position with its least number of steps, and its key
-unfoldable pub place_text : Line → List ℕ
-place_text l =
-    codes "    state \"" ++ (decimal l.steps ++ (codes ": " ++ (state_name l.position.state ++ (where_on l.position.enabled (codes ", enabled") ++ (where_on l.position.ready (codes ", ready") ++ (codes "\" as " ++ (key_text l.position ++ codes "\n")))))))
+unfoldable pub position_line : Line → List ℕ
+position_line l =
+    joined
+    (codes "    state \"" ∷
+    decimal l.steps ∷
+    codes ": " ∷
+    state_name l.position.state ∷
+    text_if l.position.enabled (codes ", enabled") ∷
+    text_if l.position.ready (codes ", ready") ∷
+    codes "\" as " ∷
+    key_text l.position ∷
+    codes "\n" ∷
+    [])
 
--- an arrow of the picture; a step that leads back to where it starts has none
-unfoldable pub arrow_text : Position → Step → List ℕ
-arrow_text p x =
-    let q = stepped p x in
+-- an arrow of the picture from the position p to the position q; a step that leads back to where it
+-- starts has none
+abbrev pub arrow_to : Position → Step → Position → List ℕ
+arrow_to p x q =
     pick (same_position q p) []
-    (codes "    " ++ (key_text p ++ (codes " --> " ++ (key_text q ++ (codes " : " ++ (step_text x ++ codes "\n"))))))
+    (joined (codes "    " ∷ key_text p ∷ codes " --> " ∷ key_text q ∷ codes " : " ∷ step_text x ∷ codes "\n" ∷ []))
+
+unfoldable pub arrow_text : Position → Step → List ℕ
+arrow_text p x = arrow_to p x (stepped p x)

@@ -1,7 +1,8 @@
 //! The positions that a head can come to, and the steps between them, as a picture.
 ghost use Rattle.std.specs.Prelude.{◌≡◌, Some};
-ghost use Rattle.chart.specs.Positions.{step_text, key_text, place_text, stepped};
-ghost use Rattle.chart.specs.Positions.{arrow_text, where_on, position_of};
+ghost use Rattle.chart.specs.Positions.{step_text, key_text, position_line, stepped};
+ghost use Rattle.chart.specs.Positions.{arrow_text, position_of};
+ghost use Rattle.chart.specs.Texts.{text_if};
 ghost use Rattle.chart.specs.declared.positions.Step.TheVariants as step;
 
 use forms::output::Output;
@@ -36,8 +37,8 @@ impl Display for Step {
 }
 
 // A text, where a flag is on.
-fn where_on(flag: bool, text: &str) -> &str
-    ensures { result.now ≡ where_on flag text.now }
+fn text_if(flag: bool, text: &str) -> &str
+    ensures { result.now ≡ text_if flag text.now }
 {
     if flag { text } else { "" }
 }
@@ -50,24 +51,24 @@ impl Display for Key {
     ghost output = { λ x. Some (key_text x.0) };
 
     fn fmt<W: fmt::Write>(&self, f: &mut fmt::Formatter<W>) -> fmt::Result {
-        let enabled = where_on(self.0.enabled, "_E");
-        let ready = where_on(self.0.ready, "_R");
+        let enabled = text_if(self.0.enabled, "_E");
+        let ready = text_if(self.0.ready, "_R");
         write!(f, "{}{enabled}{ready}", self.0.state)
     }
 }
 
 // A position of the picture, with its least number of steps.
 #[derive(Clone, Copy)]
-struct Place(Line);
+struct PositionLine(Line);
 
-#[tactic(auto, unfolding(crate::specs::Positions::place_text))]
-impl Display for Place {
-    ghost output = { λ x. Some (place_text x.0) };
+#[tactic(auto, unfolding(crate::specs::Positions::position_line))]
+impl Display for PositionLine {
+    ghost output = { λ x. Some (position_line x.0) };
 
     fn fmt<W: fmt::Write>(&self, f: &mut fmt::Formatter<W>) -> fmt::Result {
         let Line { position, steps } = self.0;
-        let enabled = where_on(position.enabled, ", enabled");
-        let ready = where_on(position.ready, ", ready");
+        let enabled = text_if(position.enabled, ", enabled");
+        let ready = text_if(position.ready, ", ready");
         writeln!(
             f,
             "    state \"{steps}: {}{enabled}{ready}\" as {}",
@@ -129,7 +130,7 @@ fn after_step(from: Position, step: Step) -> Position
 #[derive(Clone, Copy)]
 struct Arrow(Position, Step);
 
-#[tactic(auto, using(crate::proofs::Flags::same_flag_lem), unfolding(crate::specs::Positions::arrow_text))]
+#[tactic(auto, using(crate::proofs::SameFlag::same_flag_lem), unfolding(crate::specs::Positions::arrow_text))]
 impl Display for Arrow {
     ghost output = { λ x. Some (arrow_text x.0 x.1) };
 
@@ -168,7 +169,7 @@ pub(crate) fn print_positions(out: &mut Output) {
         "\n```mermaid\nstateDiagram-v2\n    state \"every position\" as Every\n"
     );
     for line in reach::lines() {
-        write!(out, "{}", Place(line));
+        write!(out, "{}", PositionLine(line));
     }
     write!(
         out,

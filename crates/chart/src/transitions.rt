@@ -1,14 +1,16 @@
-//! The NMT transitions by state, from the table (RULES 4.7): a picture of the moves, the states that
-//! each reset event enters, and a chart for each state.
+//! The NMT transitions by state, from the table (RULES 4.7): a picture of the moves, the states
+//! that each reset event enters, and a chart for each state.
 ghost use Rattle.std.specs.Prelude.{◌≡◌, Some};
 ghost use Rattle.types.specs.Events.{events};
 ghost use Rattle.nmt.specs.Table.{ruled};
-ghost use Rattle.chart.specs.Transitions.{has_row, same_at, same_row, agrees, resets_agree};
-ghost use Rattle.chart.specs.Transitions.{lacks_own_row, others_lack_rows, only_resets};
-ghost use Rattle.chart.specs.Transitions.{transition_of, transition_text, goal_text, change_text};
-ghost use Rattle.chart.specs.Transitions.{cell_text, cells_text, resets_row, event_row};
-ghost use Rattle.chart.specs.Transitions.{event_rows, absent_event, absent_events, state_text};
-ghost use Rattle.chart.specs.Transitions.{chart_text, lone_row, entered_text, sequence_row};
+ghost use Rattle.chart.specs.Transitions.{has_row, same_at, same_row, agrees_with_reset};
+ghost use Rattle.chart.specs.Transitions.{resets_agree, is_reset_or_unexpected};
+ghost use Rattle.chart.specs.Transitions.{only_resets_expected, has_only_reset_row};
+ghost use Rattle.chart.specs.Transitions.{transition_of, transition_text, change_text};
+ghost use Rattle.chart.specs.Transitions.{target_text, cell_text, entries_text};
+ghost use Rattle.chart.specs.Transitions.{shared_reset_row, event_row, event_rows};
+ghost use Rattle.chart.specs.Transitions.{unexpected_event, unexpected_events, state_title};
+ghost use Rattle.chart.specs.Transitions.{chart_text, state_row, entered_text, sequence_row};
 ghost use Rattle.chart.specs.Transitions.{led_to, moves, arrow_text, move_text};
 
 use forms::hex::HexByte;
@@ -30,7 +32,7 @@ fn has_row(state: NmtState, event: NmtEvent) -> bool
 }
 
 // Whether two events do the same in a state at one pair of enabled and ready.
-#[tactic(auto, using(crate::proofs::Flags::same_flag_lem), unfolding(crate::specs::Transitions::same_entry))]
+#[tactic(auto, using(crate::proofs::SameFlag::same_flag_lem), unfolding(crate::specs::Transitions::same_entry))]
 fn same_at(state: NmtState, event: NmtEvent, other: NmtEvent, enabled: bool, ready: bool) -> bool
     ensures { result ≡ same_at state event other enabled ready }
 {
@@ -49,9 +51,9 @@ fn same_row(state: NmtState, event: NmtEvent, other: NmtEvent) -> bool
 }
 
 // Whether the event is no reset event, or has a row and does what Reset does.
-#[tactic(auto, unfolding(crate::specs::Transitions::agrees))]
-fn agrees(state: NmtState, event: NmtEvent) -> bool
-    ensures { result ≡ agrees state event }
+#[tactic(auto, unfolding(crate::specs::Transitions::agrees_with_reset))]
+fn agrees_with_reset(state: NmtState, event: NmtEvent) -> bool
+    ensures { result ≡ agrees_with_reset state event }
 {
     !is_reset(event) || has_row(state, event) && same_row(state, event, NmtEvent::Reset)
 }
@@ -61,31 +63,35 @@ fn agrees(state: NmtState, event: NmtEvent) -> bool
 fn resets_agree(state: NmtState) -> bool
     ensures { result ≡ resets_agree state }
 {
-    NmtEvent::ALL.iter().all(|event| agrees(state, *event))
+    NmtEvent::ALL
+        .iter()
+        .all(|event| agrees_with_reset(state, *event))
 }
 
 // Whether the event has no row but that of the reset events.
-#[tactic(auto, unfolding(crate::specs::Transitions::lacks_own_row))]
-fn lacks_own_row(state: NmtState, event: NmtEvent) -> bool
-    ensures { result ≡ lacks_own_row state event }
+#[tactic(auto, unfolding(crate::specs::Transitions::is_reset_or_unexpected))]
+fn is_reset_or_unexpected(state: NmtState, event: NmtEvent) -> bool
+    ensures { result ≡ is_reset_or_unexpected state event }
 {
     is_reset(event) || !has_row(state, event)
 }
 
 // Whether no event has a row but the reset events.
-#[tactic(auto, unfolding(crate::specs::Transitions::others_lack_rows))]
-fn others_lack_rows(state: NmtState) -> bool
-    ensures { result ≡ others_lack_rows state }
+#[tactic(auto, unfolding(crate::specs::Transitions::only_resets_expected))]
+fn only_resets_expected(state: NmtState) -> bool
+    ensures { result ≡ only_resets_expected state }
 {
-    NmtEvent::ALL.iter().all(|event| lacks_own_row(state, *event))
+    NmtEvent::ALL
+        .iter()
+        .all(|event| is_reset_or_unexpected(state, *event))
 }
 
 // Whether the one row of the reset events is the state's only row.
-#[tactic(auto, unfolding(crate::specs::Transitions::only_resets))]
-fn only_resets(state: NmtState) -> bool
-    ensures { result ≡ only_resets state }
+#[tactic(auto, unfolding(crate::specs::Transitions::has_only_reset_row))]
+fn has_only_reset_row(state: NmtState) -> bool
+    ensures { result ≡ has_only_reset_row state }
 {
-    resets_agree(state) && others_lack_rows(state)
+    resets_agree(state) && only_resets_expected(state)
 }
 
 // A row's transition by its number in NMT_CT; `None` where DS 301 has none.
@@ -136,13 +142,13 @@ impl Display for Transition {
 
 // What becomes of a flag, where it changes.
 #[derive(Clone, Copy)]
-struct Change {
+struct FlagChange {
     flag: &'static str,
     before: bool,
     after: bool,
 }
 
-impl Display for Change {
+impl Display for FlagChange {
     ghost output = { λ x. Some (change_text x.flag.now x.before x.after) };
 
     fn fmt<W: fmt::Write>(&self, f: &mut fmt::Formatter<W>) -> fmt::Result {
@@ -155,8 +161,8 @@ impl Display for Change {
 }
 
 // Where an event leads. A reset enters NotActive in NotActive too.
-fn goal(from: NmtState, event: NmtEvent, to: NmtState) -> &'static str
-    ensures { result.now ≡ goal_text from event to }
+fn target(from: NmtState, event: NmtEvent, to: NmtState) -> &'static str
+    ensures { result.now ≡ target_text from event to }
 {
     if to == from && !is_reset(event) {
         return "stays";
@@ -177,27 +183,31 @@ impl Display for Cell {
     fn fmt<W: fmt::Write>(&self, f: &mut fmt::Formatter<W>) -> fmt::Result {
         let Cell { from, event } = *self;
         let to = chosen(from.state, event, from.enabled, from.ready).position;
-        let enabled = Change {
+        let enabled = FlagChange {
             flag: "enabled",
             before: from.enabled,
             after: to.enabled,
         };
-        let ready = Change {
+        let ready = FlagChange {
             flag: "ready",
             before: from.ready,
             after: to.ready,
         };
-        write!(f, "{}{enabled}{ready}", goal(from.state, event, to.state))
+        write!(f, "{}{enabled}{ready}", target(from.state, event, to.state))
     }
 }
 
 // A row but for its first column.
 #[derive(Clone, Copy)]
-struct Cells(NmtState, NmtEvent);
+struct Entries(NmtState, NmtEvent);
 
-impl Cells {
-    fn cell(self, enabled: bool, ready: bool) -> Cell
-        ensures { result ≡ record { from = record { state = self.0; enabled = enabled; ready = ready }; event = self.1 } }
+impl Entries {
+    // The entry at one pair of enabled and ready.
+    fn entry(self, enabled: bool, ready: bool) -> Cell
+        ensures { result ≡ record {
+          from = record { state = self.0; enabled = enabled; ready = ready };
+          event = self.1;
+        } }
     {
         let from = Position {
             state: self.0,
@@ -211,18 +221,18 @@ impl Cells {
     }
 }
 
-#[tactic(auto, unfolding(crate::specs::Transitions::cells_text))]
-impl Display for Cells {
-    ghost output = { λ x. Some (cells_text x.0 x.1) };
+#[tactic(auto, unfolding(crate::specs::Transitions::entries_text))]
+impl Display for Entries {
+    ghost output = { λ x. Some (entries_text x.0 x.1) };
 
     fn fmt<W: fmt::Write>(&self, f: &mut fmt::Formatter<W>) -> fmt::Result {
         writeln!(
             f,
             "{} | {} | {} | {} | {} |",
-            self.cell(false, false),
-            self.cell(false, true),
-            self.cell(true, false),
-            self.cell(true, true),
+            self.entry(false, false),
+            self.entry(false, true),
+            self.entry(true, false),
+            self.entry(true, true),
             Transition(transition_of(self.0, self.1))
         )
     }
@@ -230,20 +240,20 @@ impl Display for Cells {
 
 // The one row of the reset events, where they agree.
 #[derive(Clone, Copy)]
-struct ResetsRow(NmtState);
+struct SharedResetRow(NmtState);
 
-impl Display for ResetsRow {
-    ghost output = { λ x. Some (resets_row x.0) };
+impl Display for SharedResetRow {
+    ghost output = { λ x. Some (shared_reset_row x.0) };
 
     fn fmt<W: fmt::Write>(&self, f: &mut fmt::Formatter<W>) -> fmt::Result {
         if !resets_agree(self.0) {
             return Ok(());
         }
-        write!(f, "| a reset event | {}", Cells(self.0, NmtEvent::Reset))
+        write!(f, "| a reset event | {}", Entries(self.0, NmtEvent::Reset))
     }
 }
 
-// An event's own row, where it has one.
+// An event's own row: none where it has no row, or shares that of the reset events.
 #[derive(Clone, Copy)]
 struct EventRow(NmtState, NmtEvent);
 
@@ -255,7 +265,7 @@ impl Display for EventRow {
         if !has_row(state, event) || is_reset(event) && resets_agree(state) {
             return Ok(());
         }
-        write!(f, "| {event} | {}", Cells(state, event))
+        write!(f, "| {event} | {}", Entries(state, event))
     }
 }
 
@@ -276,10 +286,10 @@ impl Display for EventRows<'_> {
 
 // An event that has no row.
 #[derive(Clone, Copy)]
-struct AbsentEvent(NmtState, NmtEvent);
+struct UnexpectedEvent(NmtState, NmtEvent);
 
-impl Display for AbsentEvent {
-    ghost output = { λ x. Some (absent_event x.0 x.1) };
+impl Display for UnexpectedEvent {
+    ghost output = { λ x. Some (unexpected_event x.0 x.1) };
 
     fn fmt<W: fmt::Write>(&self, f: &mut fmt::Formatter<W>) -> fmt::Result {
         if has_row(self.0, self.1) {
@@ -291,14 +301,14 @@ impl Display for AbsentEvent {
 
 // Those of some events that have no row.
 #[derive(Clone, Copy)]
-struct AbsentEvents<'a>(NmtState, &'a [NmtEvent]);
+struct UnexpectedEvents<'a>(NmtState, &'a [NmtEvent]);
 
-impl Display for AbsentEvents<'_> {
-    ghost output = { λ x. Some (absent_events x.0 x.1.now) };
+impl Display for UnexpectedEvents<'_> {
+    ghost output = { λ x. Some (unexpected_events x.0 x.1.now) };
 
     fn fmt<W: fmt::Write>(&self, f: &mut fmt::Formatter<W>) -> fmt::Result {
         for event in self.1 {
-            write!(f, "{}", AbsentEvent(self.0, *event))?;
+            write!(f, "{}", UnexpectedEvent(self.0, *event))?;
         }
         Ok(())
     }
@@ -306,10 +316,10 @@ impl Display for AbsentEvents<'_> {
 
 // A state with its number.
 #[derive(Clone, Copy)]
-struct Numbered(NmtState);
+struct StateTitle(NmtState);
 
-impl Display for Numbered {
-    ghost output = { λ x. Some (state_text x.0) };
+impl Display for StateTitle {
+    ghost output = { λ x. Some (state_title x.0) };
 
     fn fmt<W: fmt::Write>(&self, f: &mut fmt::Formatter<W>) -> fmt::Result {
         write!(f, "{}, {}", self.0, HexByte(self.0.as_u8()))
@@ -326,36 +336,36 @@ impl Display for Chart {
 
     fn fmt<W: fmt::Write>(&self, f: &mut fmt::Formatter<W>) -> fmt::Result {
         let Chart(state) = *self;
-        if only_resets(state) {
+        if has_only_reset_row(state) {
             return Ok(());
         }
         writeln!(
             f,
             "\n## {}\n\n| event | neither | ready | enabled | enabled and ready | transition |\n|---|---|---|---|---|---|\n{}{}\nNo row:{} and no other.",
-            Numbered(state),
-            ResetsRow(state),
+            StateTitle(state),
+            SharedResetRow(state),
             EventRows(state, &NmtEvent::ALL),
-            AbsentEvents(state, &NmtEvent::ALL)
+            UnexpectedEvents(state, &NmtEvent::ALL)
         )
     }
 }
 
 // The row of a state in which only the reset events have one.
 #[derive(Clone, Copy)]
-struct LoneRow(NmtState);
+struct StateRow(NmtState);
 
-impl Display for LoneRow {
-    ghost output = { λ x. Some (lone_row x.0) };
+impl Display for StateRow {
+    ghost output = { λ x. Some (state_row x.0) };
 
     fn fmt<W: fmt::Write>(&self, f: &mut fmt::Formatter<W>) -> fmt::Result {
-        if !only_resets(self.0) {
+        if !has_only_reset_row(self.0) {
             return Ok(());
         }
         write!(
             f,
             "| {} | {}",
-            Numbered(self.0),
-            Cells(self.0, NmtEvent::Reset)
+            StateTitle(self.0),
+            Entries(self.0, NmtEvent::Reset)
         )
     }
 }
@@ -379,12 +389,12 @@ impl Display for Entered<'_> {
     }
 }
 
-// The states that a reset event enters.
+// The row of a reset event: the states that it enters.
 #[derive(Clone, Copy)]
-struct Sequence(NmtEvent);
+struct SequenceRow(NmtEvent);
 
 #[tactic(auto, unfolding(nmt::specs::Resets::reset_sequence))]
-impl Display for Sequence {
+impl Display for SequenceRow {
     ghost output = { λ x. Some (sequence_row x.0) };
 
     fn fmt<W: fmt::Write>(&self, f: &mut fmt::Formatter<W>) -> fmt::Result {
@@ -444,6 +454,7 @@ impl Move {
         self.to(enabled, ready) != self.0
     }
 
+    // The arrow at one pair of enabled and ready.
     fn arrow(self, enabled: bool, ready: bool, condition: &'static str) -> Arrow
         ensures { (result.from ≡ self.0) × ((result.event ≡ self.1) ×
             ((result.to ≡ led_to self.0 self.1 enabled ready) ×
@@ -502,10 +513,11 @@ fn print_places(out: &mut Output) {
     }
 }
 
+// What the charts show, and how the table packs it.
 fn print_legend(out: &mut Output) {
     write!(
         out,
-        "\n## The charts\n\nA chart has four columns for enabled and ready; a cell says where the event leads and what it sets or clears. *A reset event* is each of Reset, SwReset, ResetNode, ResetCommunication and ResetConfiguration.\n"
+        "\n## The charts\n\nA chart has four columns for enabled and ready; a cell says where the event leads and what it sets or clears. Where the reset events do the same in a state, *a reset event* stands for them all.\n"
     );
     write!(
         out,
@@ -529,7 +541,7 @@ pub(crate) fn print_charts(out: &mut Output) {
         "\n## Resets\n\nA reset event enters these states one after the other, the last by NMT_CT1.\n\n| event | states |\n|---|---|\n"
     );
     for event in NmtEvent::ALL {
-        write!(out, "{}", Sequence(event));
+        write!(out, "{}", SequenceRow(event));
     }
     print_legend(out);
     write!(
@@ -537,7 +549,7 @@ pub(crate) fn print_charts(out: &mut Output) {
         "\n## States in which only a reset event has a row\n\nNo machine stands in GsOff and in the three reset states after a whole event; they have entries by the same rule.\n\n| state | neither | ready | enabled | enabled and ready | transition |\n|---|---|---|---|---|---|\n"
     );
     for state in NmtState::ALL {
-        write!(out, "{}", LoneRow(state));
+        write!(out, "{}", StateRow(state));
     }
     for state in NmtState::ALL {
         write!(out, "{}", Chart(state));

@@ -1,5 +1,5 @@
 -- What is read of a machine that was written is that machine.
-use Rattle.std.proofs.Common.{◌≡◌, ap, ◌∙◌}
+use Rattle.std.proofs.Common.{ap, ◌∙◌}
 use Rattle.nmt.specs.declared.cn_state_machine.CnNmtStateMachine.{CnNmtStateMachine}
 use Rattle.nmt.specs.declared.cn_state_machine.Position.{Position}
 use Rattle.head.proofs.Laws.{state_back, yes_one}
