@@ -26,6 +26,7 @@ stepped p (step.Event e) = (ruled p.state e p.enabled p.ready).position
 stepped p step.Withdrawal =
     record { state = p.state; enabled = p.enabled; ready = pick (same_state p.state NmtReadyToOperate) p.ready false }
 
+-- a step by its name
 abbrev pub step_text : Step → List ℕ
 step_text (step.Event e) = event_name e
 step_text step.Withdrawal = codes "withdrawal"
@@ -49,12 +50,13 @@ position_line l =
     codes "\n" ∷
     [])
 
--- an arrow of the picture from the position p to the position q; a step that leads back to where it
--- starts has none
+-- an arrow of the picture for the step x from the position p to the position q; none where the step
+-- leads back to p
 abbrev pub arrow_to : Position → Step → Position → List ℕ
 arrow_to p x q =
     pick (same_position q p) []
     (joined (codes "    " ∷ key_text p ∷ codes " --> " ∷ key_text q ∷ codes " : " ∷ step_text x ∷ codes "\n" ∷ []))
 
+-- the arrow of a step from the position p
 unfoldable pub arrow_text : Position → Step → List ℕ
 arrow_text p x = arrow_to p x (stepped p x)
