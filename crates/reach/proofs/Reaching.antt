@@ -78,7 +78,7 @@ same_is : (x y : Position) → x ≡ y → same_position x y ≡ true
 same_is x y e = subst (λ (y : Position). same_position x y ≡ true) e (rw (eq-eqb (state_number x.state) (state_number x.state) refl, eq-eqb (one x.enabled) (one x.enabled) refl, eq-eqb (one x.ready) (one x.ready) refl))
 
 -- what an event makes of a position, and what a withdrawal does
-abbrev moved : Position → NmtEvent → Position
+abbrev pub moved : Position → NmtEvent → Position
 moved x e = (ruled x.state e x.enabled x.ready).position
 
 abbrev taken_back : Position → Position
@@ -96,7 +96,7 @@ event_moves : (p : Plain) (e : NmtEvent) → position (nmt_taken p e (processed 
 event_moves p e =
     forgets_there (is_reset e) (with_nmt p (processed p.nmt e).machine) ∙ ap (λ (o : Outcome). position_in o.machine) (sym (ruled_read p.nmt e))
 
-number_moves : (p : Plain) (e : NmtEvent) → position (step p (nmt_event (event_number e))).head ≡ moved (position p) e
+pub number_moves : (p : Plain) (e : NmtEvent) → position (step p (nmt_event (event_number e))).head ≡ moved (position p) e
 number_moves p e = ap (λ (r : Result NmtEvent Refusal). position (nmt_step p r).head) (events_faithful.back e) ∙ event_moves p e
 
 -- and so does whether it takes a withdrawal

@@ -1,0 +1,2 @@
+pub mod SameFlag
+pub mod Steps
