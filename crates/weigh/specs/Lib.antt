@@ -1,0 +1,5 @@
+pub mod Parts
+pub mod Plain
+pub mod Held
+pub mod Values
+pub mod Made
