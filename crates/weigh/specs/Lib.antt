@@ -3,3 +3,4 @@ pub mod Plain
 pub mod Held
 pub mod Values
 pub mod Made
+pub mod Played

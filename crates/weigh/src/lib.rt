@@ -4,6 +4,8 @@
 //! is told by the node's answer.
 #![tactic(auto)]
 
+pub mod play;
+
 ghost use Rattle.std.specs.Prelude.{◌≡◌};
 ghost use Rattle.watched.specs.Watched.{run};
 ghost use Rattle.head.specs.Words.{head_of};
