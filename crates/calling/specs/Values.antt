@@ -53,7 +53,7 @@ abbrev pub said : Reply → plain.Answer
 said = answered says
 
 -- an answer that names states which were entered tells of a reset (RULES 4.4)
-abbrev enters_some : List NmtState → Bool
+abbrev pub enters_some : List NmtState → Bool
 enters_some [] = false
 enters_some (s ∷ ss) = true
 

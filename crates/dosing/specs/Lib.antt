@@ -1,0 +1,3 @@
+pub mod Driven
+pub mod Loaded
+pub mod Claim
