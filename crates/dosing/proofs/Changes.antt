@@ -1,7 +1,7 @@
 -- What a call makes of the places: a reset empties them, a load that is taken fills them, and every
 -- other call leaves them.
 -- Assumes nothing.
-use Rattle.std.proofs.Common.{◌≡◌, refl, sym, ap, subst, ◌∙◌, ℕ, Bool, true, false, ◌||◌, List, [], ◌∷◌, true≢false}
+use Rattle.std.proofs.Common.{◌≡◌, refl, sym, ap, ◌∙◌, Bool, true, false, ◌||◌, List, [], ◌∷◌, true≢false}
 use Rattle.std.specs.List.{list_any}
 use Rattle.types.specs.Pick.{pick}
 use Rattle.types.specs.States.{same_state}
@@ -47,7 +47,6 @@ node_changes w c = by (resets (node.step w.node c).event) refl
 ready_rests : (p : plain.Plain) → resets (node.step p ready_word).event ≡ false
 unfolding nmt.is_reset read_event
 ready_rests p = refl
-
 
 load_changes : (w : Weigh) (r : List Component) → Changes w (load_recipe r) (step w (load_recipe r)).head.places
 load_changes w r = by (is_recipe r) (same_state w.node.nmt.current_state NmtPreOperational2) refl refl

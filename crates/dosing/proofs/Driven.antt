@@ -1,7 +1,7 @@
 -- THE CLAIM HOLDS of any list of calls behind a start, from the contracts of the two, and from the
 -- claim over the calls on the node.
 -- Assumes nothing.
-use Rattle.std.proofs.Common.{◌≡◌, refl, sym, ap, ap₂, subst, ◌∙◌, ℕ, List, [], ◌∷◌, ◌++◌, length}
+use Rattle.std.proofs.Common.{◌≡◌, refl, sym, ap, ap₂, subst, ◌∙◌, ℕ, List, ◌∷◌, ◌++◌, length}
 use Rattle.std.specs.List.{slice_get}
 use Rattle.std.specs.declared.result.Result.TheVariants.{Ok}
 use Rattle.std.specs.declared.option.Option.TheVariants.{Some}
@@ -9,26 +9,24 @@ use Rattle.head.specs.Words.{head_of}
 use Rattle.watched.specs.Watched.{Run}
 use Rattle.node.specs.Plain as plain
 use Rattle.node.specs.Plain.{Start}
-use Rattle.types.specs.declared.refusals.Refusal.TheVariants.{NoWeight}
 use Rattle.start.specs.declared.start.Setup.{Setup}
-use Rattle.start.specs.Started.{start_of, StartedOn}
+use Rattle.start.specs.Started.{start_of}
 use Rattle.calling.specs.Held as node
 use Rattle.calling.specs.Chain as played
 use Rattle.trace.specs.Driven as trace
 use Rattle.trace.specs.Claim as node_claim
 use Rattle.trace.proofs.Driven as node_driven_proofs
 use Rattle.trace.proofs.Follows.{begins_fresh}
-use Rattle.recipes.specs.Recipe.{no_places}
 use Rattle.weigh.specs.Parts.{Parts}
-use Rattle.weigh.specs.Plain.{Weigh, weigh, Call, weight, Answer, refused, step}
-use Rattle.weigh.specs.Held.{Held, held, held_with, plain_at, relent}
+use Rattle.weigh.specs.Plain.{Weigh, weigh, Call, weight, Answer, step}
+use Rattle.weigh.specs.Held.{Held, held, plain_at, relent}
 use Rattle.weigh.specs.Values.{Reply}
 use Rattle.weigh.specs.Made.{Asked, none, one, step_of, Started}
 use Rattle.weigh.specs.Played.{Played}
 use Rattle.weigh.specs.declared.play.WeighAction.{WeighAction}
 use Rattle.weigh.specs.declared.play.WeighAction.TheVariants as action
 use Rattle.dosing.specs.Driven.{Driven, stop, call, lend, calls_of, answers_of, asked_then, node_driven}
-use Rattle.dosing.specs.Loaded.{step_all, said_all, asked_all, Weighed, Forgotten}
+use Rattle.dosing.specs.Loaded.{step_all, said_all, asked_all, Weighed}
 use Rattle.dosing.specs.Claim.{fresh, Stands, Claim}
 use Rattle.dosing.proofs.Lists.{said_there}
 use Rattle.dosing.proofs.Weights.{weighed, forgotten}
@@ -81,10 +79,10 @@ module _ {s : Setup} {v : Parts} {r r' : Run} (b : Started r s (Ok v) r') where
     there before c o h =
         let w = fresh (start_of s r) in
         let z : Some (step (step_all w before) c).answer ≡ Some o =
-            sym (said_there w before c h.after)
-            ∙ ap (λ (cs : List Call). slice_get (said_all w cs) (length before)) (sym h.call)
-            ∙ ap (λ (os : List Answer). slice_get os (length before)) (sym answered)
-            ∙ h.answer
+        sym (said_there w before c h.after)
+        ∙ ap (λ (cs : List Call). slice_get (said_all w cs) (length before)) (sym h.call)
+        ∙ ap (λ (os : List Answer). slice_get os (length before)) (sym answered)
+        ∙ h.answer
         in
         cc
 

@@ -1,10 +1,9 @@
 -- Lists of calls: one behind another, and one call more.
 -- Assumes nothing.
-use Rattle.std.proofs.Common.{◌≡◌, refl, ap, ◌∙◌, false, List, [], ◌∷◌, ◌++◌, length}
+use Rattle.std.proofs.Common.{◌≡◌, refl, ap, false, List, [], ◌∷◌, ◌++◌, length}
 use Rattle.std.specs.List.{slice_get}
 use Rattle.std.specs.declared.option.Option.TheVariants.{Some}
-use Rattle.node.specs.Plain as plain
-use Rattle.weigh.specs.Plain.{Weigh, Call, Answer, step}
+use Rattle.weigh.specs.Plain.{Weigh, Call, step}
 use Rattle.dosing.specs.Loaded.{step_all, said_all, loads, is_reset, NoneLoaded, NoReset}
 
 pub again : (xs ys zs : List Call) → (xs ++ ys) ++ zs ≡ xs ++ (ys ++ zs)

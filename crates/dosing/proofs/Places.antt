@@ -1,15 +1,14 @@
 -- What stands in the places of a recipe, and of none.
 -- Assumes nothing.
-use Rattle.std.proofs.Common.{◌≡◌, refl, sym, ap, ◌∙◌, ℕ, zero, suc, ◌-◌, Bool, true, false, ◌&&◌, eqb, leb, List, [], ◌∷◌, ◌++◌, length, replicate, arith}
+use Rattle.std.proofs.Common.{◌≡◌, refl, ap, ◌∙◌, ℕ, zero, suc, ◌-◌, Bool, true, false, ◌&&◌, eqb, leb, List, [], ◌∷◌, ◌++◌, length, replicate, arith}
 use borrow.Author.Tests.{eqb-true, leb-true}
 use Rattle.std.specs.List.{slice_get, list_all}
-use Rattle.std.specs.declared.option.Option.{Option}
 use Rattle.std.specs.declared.option.Option.TheVariants.{Some, None}
 use Rattle.types.specs.Pick.{pick}
 use Rattle.types.specs.declared.refusals.Refusal.TheVariants.{NoWeight}
 use Rattle.recipes.specs.declared.Component.{Component}
 use Rattle.recipes.specs.Recipe.{is_component, is_recipe, no_bin_twice, no_component, no_places, places_of}
-use Rattle.weigh.specs.Plain.{Answer, weight_answer, refused, weight_in}
+use Rattle.weigh.specs.Plain.{weight_answer, refused, weight_in}
 
 pub and_first : (a b : Bool) → (a && b) ≡ true → a ≡ true
 and_first true b h = refl

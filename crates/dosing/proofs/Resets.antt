@@ -1,6 +1,6 @@
 -- The node's answer tells of a reset exactly where the event that the call made is one.
 -- Assumes nothing.
-use mathlib.Core.Path.{◌≡◌, refl, sym, ap, ◌∙◌}
+use mathlib.Core.Path.{◌≡◌, refl, ◌∙◌}
 use mathlib.Core.Bool.{Bool, true, false, not}
 use Rattle.types.specs.Pick.{pick}
 use Rattle.types.specs.States.{same_state}

@@ -11,7 +11,6 @@ use Rattle.types.specs.declared.nmt.states.NmtState.TheVariants.{NmtOperational}
 use Rattle.types.specs.declared.refusals.Refusal.TheVariants.{NoWeight}
 use Rattle.head.proofs.Laws.{state_is}
 use Rattle.trace.specs.Visits.{nmt_state}
-use Rattle.trace.proofs.Visits.{is_state}
 use Rattle.recipes.specs.declared.Component.{Component}
 use Rattle.recipes.specs.Recipe.{is_recipe, places_of, no_places}
 use Rattle.weigh.specs.Plain.{Weigh, Call, load_recipe, weight, Answer, weight_answer, refused, weight_in, weight_told, step}

@@ -1,6 +1,6 @@
 -- A call on a weigh head, as it was made, from the calls that it made on its node.
 -- Assumes nothing.
-use Rattle.std.proofs.Common.{◌≡◌, refl, sym, ap, subst, ◌∙◌, ℕ, Bool, true, false, List, [], ◌∷◌}
+use Rattle.std.proofs.Common.{◌≡◌, refl, sym, ap, subst, ◌∙◌, ℕ, Bool, true, false, List}
 use Rattle.std.specs.declared.result.Result.{Result}
 use Rattle.std.specs.declared.result.Result.TheVariants.{Ok, Err}
 use Rattle.types.specs.Pick.{pick}
@@ -28,9 +28,9 @@ use Rattle.weigh.specs.declared.WeighCall.TheVariants as call
 use Rattle.weigh.specs.declared.WeighAnswer.TheVariants as answer
 use Rattle.weigh.specs.Parts.{Parts}
 use Rattle.weigh.specs.Plain.{Weigh, weigh, node_answer, refused, Step, answers, load_tests, load_taken, weight_told, load_recipe, step}
-use Rattle.weigh.specs.Held.{Held, held, held_with, plain_at}
+use Rattle.weigh.specs.Held.{held, held_with, plain_at}
 use Rattle.weigh.specs.Values.{call_of, Reply, said}
-use Rattle.weigh.specs.Made.{Asked, none, one, Made, step_of}
+use Rattle.weigh.specs.Made.{Asked, none, one, Made}
 
 -- a call on the node
 module _ {v w : Parts} {q m : List ℕ} {r : Run} (e : w ≡ v) where

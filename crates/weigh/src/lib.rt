@@ -74,11 +74,7 @@ impl WeighHead {
     /// A weigh head with a fresh node (RULES 1.9) and no recipe; each watched node counts as never
     /// heard. Refused by NodeNumber, QueueCapacity, WatchedNodes or ThresholdLimit, in this order;
     /// then nothing changes.
-    pub fn start<N: Nodes>(
-        nodes: &mut N,
-        number: usize,
-        setup: Setup,
-    ) -> Result<WeighHead, Refusal>
+    pub fn start<N: Nodes>(nodes: &mut N, number: usize, setup: Setup) -> Result<WeighHead, Refusal>
         ensures started { Started (run (N.places nodes.old) number) setup result
             (run (N.places nodes.new) number) }
         ensures same_reference { N.name nodes.new ≡ N.name nodes.old }
