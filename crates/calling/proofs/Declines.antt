@@ -25,7 +25,8 @@ use Rattle.types.proofs.Reading.{reads_holds}
 use Rattle.watched.specs.Watched.{in_time, heard_at, unheard, Run, watching, changing}
 use Rattle.node.specs.Plain.{Plain, Call, nmt_event, dll_event, error, cycle_complete, withdraw, heard, hand_out, load, arm, tick, range, margin, add, remove, next_due, refused, taken, range_answer, margin_answer, due_answer, Step, Start, Begun, begins, declined, FirstStep}
 use Rattle.node.specs.Steps.{Test, tried, no_run, answers, declines, leaves, with_nmt, with_soc, nmt_step, dll_step, error_step, withdrawn, withdraw_tests, heard_tests, add_tests, remove_tests, added, removed, arm_tests, armed, fresh, start_tests, started}
-use Rattle.node.specs.Tick.{tick_tests, tick_taken, tick_answered, looked_at}
+use Rattle.node.specs.Heartbeats.{refreshed_at}
+use Rattle.node.specs.Tick.{tick_tests, tick_taken, tick_answered}
 use Rattle.node.specs.Range.{range_tests, margin_tests, verdict_of, margin_of}
 use Rattle.node.specs.Due.{due, due_tests}
 use Rattle.node.specs.Run.{step}
@@ -145,7 +146,7 @@ plain_declines p (load v u) r h = apart (sym h) refl refl
 plain_declines p (arm t) r h =
     tried_declines (5 ∷ []) p no_run (arm_tests t) (answers (with_soc p (armed p.soc p.od t)) taken no_run) (refl, tt) refl r h
 plain_declines p (tick t l) r h =
-    tried_declines (3 ∷ 5 ∷ 6 ∷ []) p l (tick_tests p t l) (tick_answered (tick_taken p t (watching l)) (looked_at p t l)) (refl, (refl, (refl, tt))) refl r h
+    tried_declines (3 ∷ 5 ∷ 6 ∷ []) p l (tick_tests p t l) (tick_answered (tick_taken p t (watching l)) (refreshed_at p t l)) (refl, (refl, (refl, tt))) refl r h
 plain_declines p (range a b) r h =
     tried_declines (5 ∷ 21 ∷ []) p no_run (range_tests a b) (answers p (range_answer (verdict_of p a b)) no_run) (refl, (refl, (refl, tt))) refl r h
 plain_declines p (margin t) r h =

@@ -21,10 +21,11 @@ abbrev pub Acted : Held → Action → Reply → Held → Type 0
 Acted x (Call c) o x' = Made x c o x'
 Acted x (Lend i v k) o x' = (o ≡ Ok Taken) × (x' ≡ relent x (run (set x.lent.places i v) k))
 
--- The actions, what each answered, and what they left; and with their answers in `out`.
+-- The actions, what each answered, and what they left.
 abbrev pub Played : Held → List Action → List Reply → Held → Type 0
 Played = Chain Acted
 
+-- A list that was played, and its answers in `out`.
 abbrev pub PlayedInto : Held → List Action → List Reply → Held → List Reply → Type 0
 PlayedInto = ChainInto Acted
 
@@ -41,7 +42,7 @@ pub record StartedThen
   pub started : StartedOn x.head x.lent s (Ok tt) head lent
   pub played : PlayedInto (held head x.queue x.history lent) acts out x' out'
 
--- And of a start that was refused: all is as it was.
+-- A start that was taken, with a list from there; or one that was refused: all is as it was.
 abbrev pub StartedInto :
     Setup → List Action → Result (Unit {0}) Refusal → Held → List Reply → Held → List Reply → Type 0
 StartedInto s acts (Ok _) x out x' out' = StartedThen s acts x out x' out'

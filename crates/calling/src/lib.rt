@@ -17,6 +17,7 @@ ghost use Rattle.calling.specs.Made.{Made, lent_after};
 
 use crate::nodes::{Nodes, Records};
 use counters::counters::ErrorTaken;
+use entries::sizes::{HistoryBytes, QueueBytes};
 use entries::status_response::ErrorEntry;
 use head::state::Head;
 use nmt::state_machine::ResetSequence;
@@ -158,8 +159,8 @@ impl Answer {
 /// (RULES 2).
 pub fn make<N: Nodes>(
     head: &mut Head,
-    queue: &mut [u8; 640],
-    history: &mut [u8; 5080],
+    queue: &mut QueueBytes,
+    history: &mut HistoryBytes,
     nodes: &mut N,
     number: &mut usize,
     call: Call<'_>,
@@ -205,8 +206,8 @@ pub fn make<N: Nodes>(
 /// `make` with the nodes in words, whose every word is known afterwards.
 pub fn make_over_words(
     head: &mut Head,
-    queue: &mut [u8; 640],
-    history: &mut [u8; 5080],
+    queue: &mut QueueBytes,
+    history: &mut HistoryBytes,
     nodes: &mut NodeWords,
     number: &mut usize,
     call: Call<'_>,
@@ -224,8 +225,8 @@ pub fn make_over_words(
 /// `make` with a run of records, of any length; the caller's run is then what the call left.
 pub fn make_over_records(
     head: &mut Head,
-    queue: &mut [u8; 640],
-    history: &mut [u8; 5080],
+    queue: &mut QueueBytes,
+    history: &mut HistoryBytes,
     nodes: &mut [WatchedNode],
     number: &mut usize,
     call: Call<'_>,

@@ -11,6 +11,7 @@ ghost use Rattle.start.specs.Started.{StartedOn};
 ghost use Rattle.due.specs.Moment.{next_due};
 
 use due::{run as records, words};
+use entries::sizes::{HistoryBytes, QueueBytes};
 use head::state::Head;
 use lent::{arrivals, calls, ticks};
 use node::heard::heard;
@@ -19,7 +20,7 @@ use start::start::{Setup, start};
 use tick::tick::process_tick;
 use types::frame::error::types::DllErrors;
 use types::refusals::Refusal;
-use watched::nodes::{NodeWords, WatchedNode};
+use watched::nodes::{NodeWords, WATCHED_PLACES, WatchedNode};
 use watched::record::NodeRecord;
 
 /// Watched nodes that can be lent with a call. Their places are read from the first on; how many
@@ -55,8 +56,8 @@ pub trait Nodes {
     fn tick(
         &mut self,
         head: &mut Head,
-        queue: &mut [u8; 640],
-        history: &mut [u8; 5080],
+        queue: &mut QueueBytes,
+        history: &mut HistoryBytes,
         number: usize,
         time: u64,
     ) -> Result<DllErrors, Refusal>
@@ -94,7 +95,7 @@ impl Nodes for NodeWords {
 
     #[tactic(auto, using(crate::proofs::Places::past_none))]
     fn set(&mut self, place: usize, node: WatchedNode) {
-        if place < 32 {
+        if place < WATCHED_PLACES {
             NodeRecord::from(node).put(self, place);
         }
     }
@@ -116,8 +117,8 @@ impl Nodes for NodeWords {
     fn tick(
         &mut self,
         head: &mut Head,
-        queue: &mut [u8; 640],
-        history: &mut [u8; 5080],
+        queue: &mut QueueBytes,
+        history: &mut HistoryBytes,
         number: usize,
         time: u64,
     ) -> Result<DllErrors, Refusal> {
@@ -179,8 +180,8 @@ impl Nodes for Records<'_> {
     fn tick(
         &mut self,
         head: &mut Head,
-        queue: &mut [u8; 640],
-        history: &mut [u8; 5080],
+        queue: &mut QueueBytes,
+        history: &mut HistoryBytes,
         number: usize,
         time: u64,
     ) -> Result<DllErrors, Refusal> {

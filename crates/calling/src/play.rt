@@ -6,6 +6,7 @@ ghost use Rattle.calling.specs.Played.{Acted, PlayedInto, StartedInto};
 
 use crate::nodes::Nodes;
 use crate::{Answer, Call, make};
+use entries::sizes::{HistoryBytes, QueueBytes};
 use head::state::Head;
 use start::start::Setup;
 use types::refusals::Refusal;
@@ -29,8 +30,8 @@ pub enum Action<'a> {
 /// Takes one action. A change of what is lent is never refused and answers `Taken`.
 pub fn act<N: Nodes>(
     head: &mut Head,
-    queue: &mut [u8; 640],
-    history: &mut [u8; 5080],
+    queue: &mut QueueBytes,
+    history: &mut HistoryBytes,
     nodes: &mut N,
     number: &mut usize,
     action: Action<'_>,
@@ -68,8 +69,8 @@ pub fn put<T: Copy + Drop>(out: &mut [T], place: usize, answer: T)
 /// reaches; what `out` has beyond them stays.
 pub fn play<N: Nodes>(
     head: &mut Head,
-    queue: &mut [u8; 640],
-    history: &mut [u8; 5080],
+    queue: &mut QueueBytes,
+    history: &mut HistoryBytes,
     nodes: &mut N,
     number: &mut usize,
     actions: &[Action<'_>],
@@ -92,8 +93,8 @@ pub fn play<N: Nodes>(
 /// action is taken.
 pub fn start_and_play<N: Nodes>(
     head: &mut Head,
-    queue: &mut [u8; 640],
-    history: &mut [u8; 5080],
+    queue: &mut QueueBytes,
+    history: &mut HistoryBytes,
     nodes: &mut N,
     number: &mut usize,
     setup: Setup,

@@ -6,7 +6,7 @@ ghost use Rattle.std.specs.Prelude.{◌≡◌, true, false};
 ghost use Rattle.nmt.specs.Table.{standing, ruled};
 
 use forms::output::Output;
-use head::parts::{nmt_of, set_nmt};
+use head::machines::{nmt_of, set_nmt};
 use nmt::cn_state_machine::{CnNmtStateMachine, Position};
 use nmt::state_machine::{is_reset, reset_sequence};
 use nmt::table::chosen;

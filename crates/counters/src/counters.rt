@@ -11,6 +11,9 @@ ghost use Rattle.counters.specs.Counters.{lowered, any_active, completed};
 
 use types::frame::error::types::{DllError, DllErrors, NmtAction};
 
+/// What an error adds to the level of its counter.
+pub const ERROR_WEIGHT: u32 = 8;
+
 /// A threshold counter: an error raises its level by 8, a completed cycle lowers it by 1.
 #[derive(Clone, Copy, PartialEq, Eq)]
 pub struct ThresholdCounter {
@@ -42,7 +45,7 @@ impl ThresholdCounter {
         ensures { self.new ≡ incremented self.old }
     {
         self.cumulative_cnt = self.cumulative_cnt.saturating_add(1);
-        self.threshold_cnt = self.threshold_cnt.saturating_add(8);
+        self.threshold_cnt = self.threshold_cnt.saturating_add(ERROR_WEIGHT);
     }
 
     /// A completed cycle: takes 1 from a level above 0.

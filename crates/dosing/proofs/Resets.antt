@@ -21,7 +21,8 @@ use Rattle.nmt.specs.declared.cn_state_machine.CnNmtStateMachine.{CnNmtStateMach
 use Rattle.watched.specs.Watched.{heard_at, watching, changing}
 use Rattle.node.specs.Plain.{Plain, Call, nmt_event, dll_event, error, cycle_complete, withdraw, heard, hand_out, load, arm, tick, range, margin, add, remove, next_due, taken, range_answer, margin_answer, due_answer, EventMade, Step}
 use Rattle.node.specs.Steps.{no_run, answers, declines, leaves, with_nmt, with_soc, nmt_step, dll_step, error_step, withdrawn, heard_tests, add_tests, remove_tests, added, removed, arm_tests, armed}
-use Rattle.node.specs.Tick.{tick_tests, tick_taken, tick_answered, looked_at}
+use Rattle.node.specs.Heartbeats.{refreshed_at}
+use Rattle.node.specs.Tick.{tick_tests, tick_taken, tick_answered}
 use Rattle.node.specs.Range.{range_tests, margin_tests, verdict_of, margin_of}
 use Rattle.node.specs.Due.{due, due_tests}
 use Rattle.node.specs.Run.{step}
@@ -93,7 +94,7 @@ answer_tells p (load v h) = refl
 answer_tells p (arm t) =
     tried_by_lem Tells (arm_tests t) (declines p no_run) (answers (with_soc p (armed p.soc p.od t)) taken no_run) (λ n. refl) refl
 answer_tells p (tick t r) =
-    tried_by_lem Tells (tick_tests p t r) (declines p r) (tick_answered (tick_taken p t (watching r)) (looked_at p t r)) (λ n. refl)
+    tried_by_lem Tells (tick_tests p t r) (declines p r) (tick_answered (tick_taken p t (watching r)) (refreshed_at p t r)) (λ n. refl)
     (tick_resets (tick_part p t (watching r)).moves)
 answer_tells p (range a b) =
     tried_by_lem Tells (range_tests a b) (declines p no_run) (answers p (range_answer (verdict_of p a b)) no_run) (λ n. refl) refl

@@ -18,7 +18,7 @@ use Rattle.watched.specs.declared.nodes.WatchedNode.{WatchedNode}
 use Rattle.watched.specs.Watched.{Run, watching, well_lent}
 use Rattle.node.specs.Plain.{Plain, Call, due_answer}
 use Rattle.node.specs.Steps.{smaller, answers, declines}
-use Rattle.node.specs.Tick.{checks_heartbeats}
+use Rattle.node.specs.Heartbeats.{checks_heartbeats}
 use Rattle.node.specs.Due.{deadline_due, nodes_due, due}
 use Rattle.node.specs.Run.{step}
 use Rattle.node.specs.InPlace.{answered}

@@ -33,14 +33,18 @@ use Rattle.node.specs.Plain.{Plain, Call, tick_answer, Step}
 use Rattle.node.specs.Steps.{declines, up_to_date, with_dll, cycle_of, tolerance_of, limit_of, late_from, smaller, earliest}
 use lib.ListN.{set}
 use Rattle.head.specs.Places as at
-use Rattle.node.specs.Tick.{Ticked, used_up, with_deadline, rescheduled, within_limit, last_soc, soc_timeout, lost, is_loss, soc_check, deal_all, goes_on, behind, checks_heartbeats, is_late, looked, late_ones, beat_all, heartbeats, at_not_active, basic_timeout, by_deadline, tick_taken, tick_answered, looked_at}
+use Rattle.node.specs.Phases.{Ticked, goes_on, behind}
+use Rattle.node.specs.Heartbeats.{checks_heartbeats, is_late, refreshed, late_ones, on_late_all, heartbeats, refreshed_at}
+use Rattle.node.specs.DllErrors.{on_dll_errors}
+use Rattle.node.specs.Deadline.{used_up, with_deadline, rescheduled, within_limit, last_soc, soc_timeout, lost, is_loss, soc_check, at_not_active, basic_timeout, by_deadline}
+use Rattle.node.specs.Tick.{tick_taken, tick_answered}
 use Rattle.node.specs.Run.{step}
 use Rattle.node.specs.Refines.{plain, Rings, rings, joins_all}
 use Rattle.node.specs.Due.{deadline_due, was_heard, nodes_due, due, IsBefore}
-use Rattle.node.proofs.Watch.{tested, next_later, deal_all_deadline}
+use Rattle.node.proofs.Watch.{tested, next_later, on_dll_errors_deadline}
 use Rattle.node.proofs.Fixed.{apart, errors_of_lem}
-use Rattle.heartbeats.specs.PartWords.{beat_all_words, looked_words}
-use Rattle.heartbeats.proofs.Beatings.{rest_late, rest_run, rest_words_lem}
+use Rattle.heartbeats.specs.Words.{on_late_all_words, refreshed_words}
+use Rattle.heartbeats.proofs.LateWalk.{rest_late, rest_run, rest_words_lem}
 use Rattle.tick.specs.TickIn.{is_still, TickedOn, TickedIn}
 use Rattle.tick.specs.TickWords.{unlent, passed_words, rest_words, tick_words, deadline_words, basic_words}
 use Rattle.due.specs.Moment.{next_due}
@@ -91,22 +95,22 @@ module _ (p : Plain) (t : ℕ) (ws : List WatchedNode) where
   abbrev C : Bool
   C = checks_heartbeats p.nmt.current_state
 
-  beats_idle : is_still C t ws ≡ true → heartbeats p t ws ≡ goes_on p
-  unfolding beat_all
-  beats_idle h = by C h
+  late_errors_idle : is_still C t ws ≡ true → heartbeats p t ws ≡ goes_on p
+  unfolding on_late_all
+  late_errors_idle h = by C h
     where
-      by : (c : Bool) → is_still c t ws ≡ true → pick c (beat_all p (late_ones t ws)) (goes_on p) ≡ goes_on p
-      by true h = ap (beat_all p) (rest_late t ws h)
+      by : (c : Bool) → is_still c t ws ≡ true → pick c (on_late_all p (late_ones t ws)) (goes_on p) ≡ goes_on p
+      by true h = ap (on_late_all p) (rest_late t ws h)
       by false h = refl
 
   still_tick : is_still C t ws ≡ true → tick_taken p t ws ≡ by_deadline p t p.soc.next_tick_us
   unfolding tick_taken
-  still_tick h = ap (λ (b : Ticked). pick b.ended b (behind b (by_deadline b.head t b.head.soc.next_tick_us))) (beats_idle h)
+  still_tick h = ap (λ (b : Ticked). pick b.ended b (behind b (by_deadline b.head t b.head.soc.next_tick_us))) (late_errors_idle h)
 
-  looked_idle : (r : Run) → ws ≡ watching r → r.number ≤ length r.places → is_still C t ws ≡ true → looked_at p t r ≡ r
-  looked_idle r e few h = by C h
+  refreshed_idle : (r : Run) → ws ≡ watching r → r.number ≤ length r.places → is_still C t ws ≡ true → refreshed_at p t r ≡ r
+  refreshed_idle r e few h = by C h
     where
-      by : (c : Bool) → is_still c t ws ≡ true → pick c (changing (map (looked t)) r) r ≡ r
+      by : (c : Bool) → is_still c t ws ≡ true → pick c (changing (map (refreshed t)) r) r ≡ r
       by true h = rest_run t r few (sym (ap (all_of (rests t)) e) ∙ h)
       by false h = refl
 
@@ -128,20 +132,20 @@ deadline_words_idle ws q m t Nothing h = no_deadline t (at_not_active (unlent ws
 still_words :
     (ws q m : List ℕ) (t : ℕ) (vs : List WatchedNode) → is_still (checks_heartbeats (nmt_of ws).current_state) t vs ≡ true →
     tick_words ws q m t vs ≡ rest_words ws q m t
-unfolding tick_words beat_all beat_all_words
+unfolding tick_words on_late_all on_late_all_words
 still_words ws q m t vs h = by (checks_heartbeats (nmt_of ws).current_state) h
   where
     by :
         (c : Bool) → is_still c t vs ≡ true →
-        pick c (pick (beat_all (plain (head_of ws) q m) (late_ones t vs)).ended (beat_all_words ws (late_ones t vs)) (rest_words (beat_all_words ws (late_ones t vs)) q m t))
+        pick c (pick (on_late_all (plain (head_of ws) q m) (late_ones t vs)).ended (on_late_all_words ws (late_ones t vs)) (rest_words (on_late_all_words ws (late_ones t vs)) q m t))
         (rest_words ws q m t) ≡ rest_words ws q m t
     by true h =
-        ap (λ (l : List WatchedNode). pick (beat_all (plain (head_of ws) q m) l).ended (beat_all_words ws l) (rest_words (beat_all_words ws l) q m t)) (rest_late t vs h)
+        ap (λ (l : List WatchedNode). pick (on_late_all (plain (head_of ws) q m) l).ended (on_late_all_words ws l) (rest_words (on_late_all_words ws l) q m t)) (rest_late t vs h)
     by false h = refl
 
 -- a node that a tick above 0 leaves as it is was heard, and is not late yet
 module _ (t : ℕ) (up : 0 < t) where
-  node_left : (w : WatchedNode) → looked t w ≡ w → (was_heard w ≡ true) × IsBefore t (late_from w)
+  node_left : (w : WatchedNode) → refreshed t w ≡ w → (was_heard w ≡ true) × IsBefore t (late_from w)
   node_left w e = by (eqb w.last_heard 0) (is_late t w) refl refl e
     where
       heard : heard_now t w ≡ w → t ≡ w.last_heard
@@ -162,12 +166,12 @@ module _ (t : ℕ) (up : 0 < t) where
           absurd (omega (arith, l, heard e))
       by false false f g e = (ap not f, waits (ltb 0 w.timeout) refl f g)
 
-  nodes_left : (ws : List WatchedNode) → map (looked t) ws ≡ ws → (all_of was_heard ws ≡ true) × IsBefore t (earliest ws)
+  nodes_left : (ws : List WatchedNode) → map (refreshed t) ws ≡ ws → (all_of was_heard ws ≡ true) × IsBefore t (earliest ws)
   unfolding earliest
   nodes_left [] e = (refl, tt)
   nodes_left (w ∷ ws) e =
-      let h : looked t w ≡ w = cc in
-      let g : map (looked t) ws ≡ ws = cc in
+      let h : refreshed t w ≡ w = cc in
+      let g : map (refreshed t) ws ≡ ws = cc in
       let x = node_left w h in
       let y = nodes_left ws g in
       (ap₂ both x.0 y.0, before_sooner t (late_from w) (earliest ws) x.1 y.1)
@@ -195,8 +199,8 @@ module _ (t : ℕ) where
   lost_later : (p : Plain) → p.soc.next_tick_us ≡ Nothing → Later t (lost p t).head
   lost_later p n =
       let g : Plain = with_dll p (soc_timeout p).state in
-      let k : Ticked = deal_all t g (soc_timeout p).errors in
-      let none : k.head.soc.next_tick_us ≡ Nothing = deal_all_deadline t g (soc_timeout p).errors ∙ n in
+      let k : Ticked = on_dll_errors t g (soc_timeout p).errors in
+      let none : k.head.soc.next_tick_us ≡ Nothing = on_dll_errors_deadline t g (soc_timeout p).errors ∙ n in
       tested (λ (k : Ticked). Later t k.head) k.ended (λ c. none_later k.head none) (λ c. rescheduled_later k.head none)
 
   check_later : (p : Plain) → p.soc.next_tick_us ≡ Nothing → Later t (soc_check p t).head
@@ -235,14 +239,14 @@ module _ (t : ℕ) where
 record Taken (p : Plain) (t : ℕ) (r : Run) : Type 0 where
   well : well_lent r ≡ true
   after : pick (checks_heartbeats p.nmt.current_state) (all_of (not_before t) (watching r)) true ≡ true
-  steps : step p (Call.tick t r) ≡ tick_answered (tick_taken p t (watching r)) (looked_at p t r)
+  steps : step p (Call.tick t r) ≡ tick_answered (tick_taken p t (watching r)) (refreshed_at p t r)
 
 taken : (p : Plain) (t : ℕ) (r : Run) (es : List DllError) → tick_answer es ≡ (step p (Call.tick t r)).answer → Taken p t r
 taken p t r es e = let x = by (well_lent r) (in_time t) (pick (checks_heartbeats p.nmt.current_state) (all_of (not_before t) (watching r)) true) e in
     record { well = x.0; after = x.1; steps = x.2 }
   where
     k : Step
-    k = tick_answered (tick_taken p t (watching r)) (looked_at p t r)
+    k = tick_answered (tick_taken p t (watching r)) (refreshed_at p t r)
 
     no : Step
     no = declines p r 3
@@ -309,7 +313,7 @@ module _ (ws q m : List ℕ) (r : Run) (t : ℕ) (es : DllErrors) (ws' q' m' : L
 
     stays : r' ≡ r
     unfolding head_of
-    stays = f.refines.lent ∙ ap (λ (x : Step). x.lent) k.steps ∙ looked_idle p t vs r refl (lent_inside r k.well) still
+    stays = f.refines.lent ∙ ap (λ (x : Step). x.lent) k.steps ∙ refreshed_idle p t vs r refl (lent_inside r k.well) still
 
     no_crossing : (step p (Call.tick t r)).crossings ≡ []
     no_crossing = ap (λ (x : Step). x.crossings) k.steps ∙ ap (λ (x : Ticked). x.crossings) nothing_taken
@@ -335,24 +339,24 @@ module _ (ws q m : List ℕ) (r : Run) (t : ℕ) (es : DllErrors) (ws' q' m' : L
     idle_waits : next_due ws' r' ≡ Ok d
     unfolding due head_of
     idle_waits =
-        let same : plain (head_of ws') q' m' ≡ up_to_date p (looked_at p t r) =
-        f.refines.head ∙ ap (λ (x : Step). x.head) k.steps ∙ ap (λ (x : Ticked). up_to_date x.head (looked_at p t r)) nothing_taken in
+        let same : plain (head_of ws') q' m' ≡ up_to_date p (refreshed_at p t r) =
+        f.refines.head ∙ ap (λ (x : Step). x.head) k.steps ∙ ap (λ (x : Ticked). up_to_date x.head (refreshed_at p t r)) nothing_taken in
         ap (next_due ws') stays
         ∙ ap (λ (b : Bool). pick b (Ok (due (unlent ws') vs)) (Err WatchedNodes)) k.well
         ∙ ap Ok (due_same ws' q' m' vs ∙ ap (λ (p : Plain). due p vs) same ∙ sym (due_same ws q m vs) ∙ sym (told ws r d e k.well))
 
   -- at a time above 0, one that leaves the deadline and the run is before its moment
   module _ (up : 0 < t) (u : SameDeadlineAndRun ws r ws' r') where
-    run_same : looked_at p t r ≡ r
+    run_same : refreshed_at p t r ≡ r
     run_same = sym (f.refines.lent ∙ ap (λ (x : Step). x.lent) k.steps) ∙ u.run
 
     -- where heartbeats are checked, each node is as it was
-    nodes_before : (c : Bool) → pick c (changing (map (looked t)) r) r ≡ r → IsBefore t (pick c (nodes_due vs) None)
+    nodes_before : (c : Bool) → pick c (changing (map (refreshed t)) r) r ≡ r → IsBefore t (pick c (nodes_due vs) None)
     nodes_before false g = tt
     nodes_before true g =
         let long : length r.places ≡ 32 = eqb-true (length r.places) 32 (both_first (eqb (length r.places) 32) _ k.well) in
-        let same : map (looked t) vs ≡ vs =
-        sym (each_nodes r.places r.number long (few r.places r.number true (sym (both_second (eqb (length r.places) 32) _ k.well)) refl) (looked t)) ∙ ap watching g in
+        let same : map (refreshed t) vs ≡ vs =
+        sym (each_nodes r.places r.number long (few r.places r.number true (sym (both_second (eqb (length r.places) 32) _ k.well)) refl) (refreshed t)) ∙ ap watching g in
         let x = nodes_left t up vs same in
         subst (λ (b : Bool). IsBefore t (pick b (earliest vs) (Some 0))) (sym x.0) x.1
 
@@ -389,7 +393,7 @@ module _ (ws q m ns : List ℕ) (k t : ℕ) (es : DllErrors) (ws' q' m' ns' : Li
       few (nodes_of ns) k true
       (sym (both_second (eqb (length (nodes_of ns)) 32) _ (taken (plain (head_of ws) q m) t lent_run (reported es) f.on.refines.answer).well)) refl
 
-  words_stay : (c : Bool) → is_still c t (watching lent_run) ≡ true → pick c (looked_words t k ns) ns ≡ ns
+  words_stay : (c : Bool) → is_still c t (watching lent_run) ≡ true → pick c (refreshed_words t k ns) ns ≡ ns
   words_stay true h = rest_words_lem t ns k below h
   words_stay false h = refl
 

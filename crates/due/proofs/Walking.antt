@@ -25,7 +25,7 @@ use Rattle.watched.proofs.Lists.{tests_begin, too_many, whole}
 use Rattle.watched.proofs.Watching.{tried_unformed, tried_formed}
 use Rattle.node.proofs.Moments.{moment_of_lem, all_fit}
 use Rattle.node.specs.Steps.{smaller}
-use Rattle.node.specs.Tick.{checks_heartbeats}
+use Rattle.node.specs.Heartbeats.{checks_heartbeats}
 use Rattle.node.specs.Due.{deadline_due, was_heard, due}
 use Rattle.tick.specs.TickWords.{unlent}
 use Rattle.due.specs.declared.moment.Walk.{Walk}

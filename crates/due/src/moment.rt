@@ -9,8 +9,9 @@ ghost use Rattle.node.specs.Due.{deadline_due};
 ghost use Rattle.tick.specs.TickWords.{unlent};
 ghost use Rattle.due.specs.Walk.{over, walk_due, due_found};
 
-use head::parts::{deadline_at, state_at, timeout_of};
+use head::machines::{state_at, timeout_of};
 use head::state::Head;
+use head::watch::deadline_at;
 use tick::deadline::at_not_active;
 use tick::tick::checks_heartbeats;
 use types::refusals::Refusal;

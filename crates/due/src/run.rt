@@ -7,14 +7,14 @@ ghost use Rattle.due.specs.Moment.{next_due};
 use crate::moment::{Walk, due_by};
 use head::state::Head;
 use types::refusals::Refusal;
-use watched::nodes::WatchedNode;
+use watched::nodes::{WATCHED_PLACES, WatchedNode};
 use watched::record::NodeRecord;
 
 // Walks over the watched places, in order; none where the run is not well formed.
 fn walk(nodes: &[WatchedNode], number: usize) -> Option<Walk>
     ensures { result ≡ walked_run (run nodes.now number) }
 {
-    if nodes.len() != 32 || 32 < number {
+    if nodes.len() != WATCHED_PLACES || WATCHED_PLACES < number {
         return None;
     }
     let mut walk = Walk::START;

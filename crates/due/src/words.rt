@@ -8,14 +8,14 @@ ghost use Rattle.due.specs.Moment.{next_due};
 use crate::moment::{Walk, due_by};
 use head::state::Head;
 use types::refusals::Refusal;
-use watched::nodes::NodeWords;
+use watched::nodes::{NodeWords, WATCHED_PLACES};
 use watched::record::NodeRecord;
 
 // Walks over the watched places, in order; none where the run is not well formed.
 fn walk(nodes: &NodeWords, count: usize) -> Option<Walk>
     ensures { result ≡ walked_run (run (nodes_of nodes.now) count) }
 {
-    if 32 < count {
+    if WATCHED_PLACES < count {
         return None;
     }
     let mut walk = Walk::START;

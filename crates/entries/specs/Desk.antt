@@ -4,6 +4,7 @@
 use Rattle.std.specs.Prelude.{ℕ, ◌+◌, Bool, List, leb, length, drop}
 use Rattle.types.specs.Pick.{pick}
 use Rattle.types.specs.Refusals.{refusal_number}
+use Rattle.entries.specs.Sizes.{entry_size}
 use Rattle.entries.specs.Entry.{entry_bytes, entry_in}
 use Rattle.entries.specs.Ring.{written}
 use Rattle.entries.specs.declared.status_response.ErrorEntry.{ErrorEntry}
@@ -16,18 +17,19 @@ pub data Reply (A : Type 0) : Type 0 where
   turned_away : ℕ → Reply A
   gives : A → Reply A
 
--- the answer of a write, and that of a read
+-- the answer of a write, from what the function returned
 abbrev pub write_said : Result (Unit {0}) Refusal → Reply Unit
 write_said (Ok _) = Reply.gives tt
 write_said (Err r) = Reply.turned_away (refusal_number r)
 
+-- the answer of a read, from what the function returned
 abbrev pub read_said : Result ErrorEntry Refusal → Reply ErrorEntry
 read_said (Ok e) = Reply.gives e
 read_said (Err r) = Reply.turned_away (refusal_number r)
 
 -- s has 20 bytes from a place on, and the place is not past the end
 abbrev pub room_at : List ℕ → ℕ → Bool
-room_at s at = leb (at + 20) (length s)
+room_at s at = leb (at + entry_size) (length s)
 
 -- what a write answers: turned away by 11, BufferTooShort, where there is no room, or else by 12,
 -- ProfileLimit, where the profile is above 4095

@@ -3,3 +3,4 @@ pub mod Ring
 pub mod Queue
 pub mod History
 pub mod Desk
+pub mod Sizes

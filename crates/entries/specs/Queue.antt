@@ -3,6 +3,7 @@
 -- Assumes nothing.
 use Rattle.std.specs.Prelude.{ℕ, ◌+◌, ◌-◌, ◌%◌, min, Bool, true, false, List, ltb}
 use Rattle.types.specs.Pick.{pick}
+use Rattle.entries.specs.Sizes.{queue_places}
 use Rattle.entries.specs.Ring.{entry_at, put_at, ring}
 use Rattle.entries.specs.declared.status_response.ErrorEntry.{ErrorEntry}
 use Rattle.std.specs.declared.option.Option.{Option}
@@ -13,16 +14,17 @@ use Rattle.entries.specs.declared.emergency_queue.EmergencyQueue.{EmergencyQueue
 abbrev pub queue : ℕ → ℕ → ℕ → EmergencyQueue
 queue o l c = record { oldest = o; length = l; capacity = c }
 
--- how many wait, and how many may: at most the 32 places
+-- how many entries wait, at most the 32 places
 abbrev pub length_of : EmergencyQueue → ℕ
-length_of q = min q.length 32
+length_of q = min q.length queue_places
 
+-- how many entries may wait, at most the 32 places
 abbrev pub capacity_of : EmergencyQueue → ℕ
-capacity_of q = min q.capacity 32
+capacity_of q = min q.capacity queue_places
 
 -- what waits in the memory m, oldest first
 unfoldable pub waiting : List ℕ → EmergencyQueue → List ErrorEntry
-waiting m q = ring 32 m q.oldest (length_of q)
+waiting m q = ring queue_places m q.oldest (length_of q)
 
 -- the queue is not full: fewer wait than may
 abbrev pub has_room : EmergencyQueue → Bool
@@ -47,14 +49,14 @@ pushed q =
 
 -- the memory after a push
 unfoldable pub pushed_bytes : List ℕ → EmergencyQueue → ErrorEntry → List ℕ
-pushed_bytes m q e = pick (has_room q) (put_at m ((q.oldest + length_of q) % 32) e) m
+pushed_bytes m q e = pick (has_room q) (put_at m ((q.oldest + length_of q) % queue_places) e) m
 
 -- a hand-out: the oldest leaves and is the answer, or none where none waits; the memory stays
 unfoldable pub handed_out : List ℕ → EmergencyQueue → HandedOut
 handed_out m q =
     pick (ltb 0 (length_of q))
     (record {
-      queue = queue ((q.oldest + 1) % 32) (length_of q - 1) q.capacity;
-      entry = Some (entry_at m (q.oldest % 32));
+      queue = queue ((q.oldest + 1) % queue_places) (length_of q - 1) q.capacity;
+      entry = Some (entry_at m (q.oldest % queue_places));
     })
     (record { queue = q; entry = None })

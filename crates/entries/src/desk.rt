@@ -5,6 +5,7 @@ ghost use Rattle.std.specs.Prelude.{◌≡◌, ◌+◌, leb};
 ghost use Rattle.entries.specs.Desk.{write_said, write_reply, desk_after, read_said, read_reply};
 
 use crate::place;
+use crate::sizes::ENTRY_BYTES;
 use crate::status_response::ErrorEntry;
 use types::refusals::Refusal;
 
@@ -13,7 +14,7 @@ fn has_room(length: usize, place: u64) -> bool
     ensures { result ≡ leb (place + 20) length }
 {
     place
-        .checked_add(20)
+        .checked_add(ENTRY_BYTES as u64)
         .is_some_and(|end| end <= length as u64)
 }
 

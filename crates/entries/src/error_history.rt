@@ -6,6 +6,7 @@ ghost use Rattle.entries.specs.History.{error_history, history};
 ghost use Rattle.entries.specs.History.{joined, joined_bytes, loaded, loaded_bytes};
 
 use crate::place::{self, Ring};
+use crate::sizes::{ENTRY_BYTES, HISTORY_PLACES, HistoryBytes};
 use crate::status_response::ErrorEntry;
 
 /// Where the entries stand in the lent memory. Any two bytes are a history: a place is read modulo
@@ -32,12 +33,12 @@ impl ErrorHistory {
     /// Loads a history from the bytes of entries, newest first. Of more than 254 entries the newest
     /// 254 are kept; bytes behind the last whole entry are no entry.
     #[tactic(auto, unfolding(crate::specs::History::loaded, crate::specs::History::loaded_bytes))]
-    pub fn load(memory: &mut [u8; 5080], entries: &[u8]) -> Self
+    pub fn load(memory: &mut HistoryBytes, entries: &[u8]) -> Self
         ensures { (result ≡ loaded entries.now) ×
             (memory.new ≡ loaded_bytes memory.old entries.now) }
     {
-        let count = (entries.len() / 20).min(254);
-        let taken = 20 * count;
+        let count = (entries.len() / ENTRY_BYTES).min(HISTORY_PLACES);
+        let taken = ENTRY_BYTES * count;
         memory[..taken].copy_from_slice(&entries[..taken]);
         Self {
             newest: 0,
@@ -46,7 +47,7 @@ impl ErrorHistory {
     }
 
     // Its ring of places.
-    fn ring(self) -> Ring<254>
+    fn ring(self) -> Ring<HISTORY_PLACES>
         ensures { (result.first ≡ self.newest) × (result.count ≡ self.count) }
     {
         Ring {
@@ -57,7 +58,7 @@ impl ErrorHistory {
 
     /// The entry at an index, the newest at 0.
     #[tactic(auto, unfolding(crate::specs::History::history))]
-    pub fn get(self, memory: &[u8; 5080], index: usize) -> Option<ErrorEntry>
+    pub fn get(self, memory: &HistoryBytes, index: usize) -> Option<ErrorEntry>
         ensures { result ≡ nth (history memory.now self) index }
     {
         self.ring().get(memory, index)
@@ -66,14 +67,14 @@ impl ErrorHistory {
     /// Puts an entry at the place before the newest; no other entry moves. In a full history that
     /// is the oldest's place.
     #[tactic(auto, unfolding(crate::specs::History::joined, crate::specs::History::joined_bytes))]
-    pub fn write_error_to_history(&mut self, memory: &mut [u8; 5080], entry: ErrorEntry)
+    pub fn write_error_to_history(&mut self, memory: &mut HistoryBytes, entry: ErrorEntry)
         ensures history { self.new ≡ joined self.old }
         ensures bytes { memory.new ≡ joined_bytes memory.old self.old entry }
     {
-        // 253 places on from the newest in a ring of 254.
-        let newest = self.ring().place(253);
-        place::put_entry(memory, 20 * newest, entry);
-        let count = (self.count as usize + 1).min(254);
+        // One place back is all but one on.
+        let newest = self.ring().place(HISTORY_PLACES - 1);
+        place::put_entry(memory, ENTRY_BYTES * newest, entry);
+        let count = (self.count as usize + 1).min(HISTORY_PLACES);
         self.newest = newest as u8;
         self.count = count as u8;
     }

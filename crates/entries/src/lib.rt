@@ -8,4 +8,5 @@ pub mod desk;
 pub mod emergency_queue;
 pub mod error_history;
 mod place;
+pub mod sizes;
 pub mod status_response;

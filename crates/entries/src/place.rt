@@ -4,6 +4,7 @@ ghost use Rattle.std.specs.Prelude.{min, length, take, drop};
 ghost use Rattle.entries.specs.Entry.{entry_bytes, entry_in};
 ghost use Rattle.entries.specs.Ring.{written, ring, nth};
 
+use crate::sizes::ENTRY_BYTES;
 use crate::status_response::{EntryType, ErrorEntry};
 use types::common::NetTime;
 
@@ -100,7 +101,7 @@ impl<const PLACES: usize> Ring<PLACES> {
             nth (ring PLACES memory.now self.entry.first (min self.entry.count PLACES)) index }
     {
         if index < self.len() {
-            Some(read_entry(memory, 20 * self.place(index)))
+            Some(read_entry(memory, ENTRY_BYTES * self.place(index)))
         } else {
             None
         }

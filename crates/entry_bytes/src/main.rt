@@ -8,6 +8,7 @@ ghost use Rattle.entry_bytes.specs.Patterns.{last, filled, numbered};
 
 use entries::desk;
 use entries::error_history::ErrorHistory;
+use entries::sizes::HistoryBytes;
 use entries::status_response::{EntryType, ErrorEntry};
 use forms::generator::Generator;
 use forms::output::Output;
@@ -112,7 +113,7 @@ fn numbered_entry(number: u16) -> ErrorEntry
 }
 
 // How many entries the history has, and the codes of its newest and its oldest.
-fn print_history(out: &mut Output, memory: &[u8; 5080], history: ErrorHistory) {
+fn print_history(out: &mut Output, memory: &HistoryBytes, history: ErrorHistory) {
     let count = usize::from(history.count);
     write!(out, "(history {count}");
     if 0 < count {

@@ -1,4 +1,5 @@
 //! What an example of ticks runs on.
+use entries::sizes::{HistoryBytes, QueueBytes};
 use head::state::Head;
 use watched::nodes::NodeWords;
 
@@ -6,7 +7,7 @@ use watched::nodes::NodeWords;
 #[derive(Drop)]
 pub struct Bench {
     pub head: Head,
-    pub queue: [u8; 640],
-    pub history: [u8; 5080],
+    pub queue: QueueBytes,
+    pub history: HistoryBytes,
     pub nodes: NodeWords,
 }

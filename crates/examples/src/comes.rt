@@ -18,7 +18,7 @@ use crate::answers::{error_says, is_taken, nmt_says, says};
 use crate::bench::Bench;
 use crate::same::same_head;
 use counters::counters::CounterKind;
-use head::parts::counter_of;
+use head::errors::counter_of;
 use head::state::Head;
 use nmt::state_machine::ResetSequence;
 use node::calls::{dll_event, handle_error, nmt_event, on_cycle_complete, withdraw};

@@ -18,10 +18,12 @@ use counters::counters::{CnErrorCounters, CounterKind, ThresholdCounter, Thresho
 use dll::cs_state_machine::{DllCsState, DllCsStateMachine};
 use entries::emergency_queue::EmergencyQueue;
 use entries::error_history::ErrorHistory;
-use head::parts::{
-    clear, set_capacity, set_counter, set_dll, set_earliest, set_history, set_identity, set_nmt,
-    set_od, set_queue, set_soc, set_thresholds,
-};
+use head::dictionary::set_od;
+use head::errors::{set_counter, set_thresholds};
+use head::machines::{set_dll, set_identity, set_nmt};
+use head::memory::{set_capacity, set_history, set_queue};
+use head::watch::{set_earliest, set_soc};
+use head::words::clear;
 use head::state::{Deadline, Dictionary, Head, SocWatch};
 use nmt::cn_state_machine::{CnNmtStateMachine, Position};
 use types::nmt::flags::FeatureFlags;
@@ -103,21 +105,28 @@ fn counter(occurrences: u32, crossings: u32, level: u32) -> ThresholdCounter
 
 /// A head at Operational, with so many errors and crossings and this level of LossOfSoc, and errors
 /// and level of HeartbeatTimeout.
-pub fn counting(head: &mut Head, socs: u32, crossings: u32, soc: u32, beats: u32, beat: u32)
-    ensures { Stands head.new (counting (counters_of socs crossings soc beats beat)) }
+pub fn counting(
+    head: &mut Head,
+    socs: u32,
+    crossings: u32,
+    soc: u32,
+    missed: u32,
+    missed_level: u32,
+)
+    ensures { Stands head.new (counting (counters_of socs crossings soc missed missed_level)) }
 {
     let od = values(0, 0, 0, 0, 0);
     write(head, OPERATIONAL, od);
     set_counter(head, CounterKind::LossOfSoc, counter(socs, crossings, soc));
-    set_counter(head, CounterKind::HeartbeatTimeout, counter(beats, 0, beat));
+    set_counter(head, CounterKind::HeartbeatTimeout, counter(missed, 0, missed_level));
 }
 
 /// The same where a watched node would be late at a time, with errors and level of
 /// HeartbeatTimeout.
-pub fn awaiting(head: &mut Head, earliest: u64, beats: u32, beat: u32)
-    ensures { Stands head.new (awaiting earliest (counters_of 0 0 0 beats beat)) }
+pub fn awaiting(head: &mut Head, earliest: u64, missed: u32, missed_level: u32)
+    ensures { Stands head.new (awaiting earliest (counters_of 0 0 0 missed missed_level)) }
 {
-    counting(head, 0, 0, 0, beats, beat);
+    counting(head, 0, 0, 0, missed, missed_level);
     set_earliest(head, Some(earliest));
 }
 

@@ -5,15 +5,16 @@ ghost use Rattle.entries.specs.History.{history};
 ghost use Rattle.head.specs.Words.{queue_of, history_of};
 ghost use Rattle.examples.specs.Same.{Exactly};
 
+use entries::sizes::{HistoryBytes, QueueBytes};
 use entries::status_response::ErrorEntry;
-use head::parts::{history_of, queue_of};
+use head::memory::{history_of, queue_of};
 use head::state::Head;
 
 // Two functions of one shape: the two rings are different types, and a trait for both would be
 // longer.
 
 /// Whether this entry alone waits in the queue.
-pub fn waits(head: &Head, queue: &[u8; 640], stated: ErrorEntry) -> bool
+pub fn waits(head: &Head, queue: &QueueBytes, stated: ErrorEntry) -> bool
     ensures { Exactly result (waiting queue.now (queue_of head.now) ≡ stated ∷ []) }
 {
     let places = queue_of(head);
@@ -21,7 +22,7 @@ pub fn waits(head: &Head, queue: &[u8; 640], stated: ErrorEntry) -> bool
 }
 
 /// Whether the history has this entry alone.
-pub fn is_recorded(head: &Head, memory: &[u8; 5080], stated: ErrorEntry) -> bool
+pub fn is_recorded(head: &Head, memory: &HistoryBytes, stated: ErrorEntry) -> bool
     ensures { Exactly result (history memory.now (history_of head.now) ≡ stated ∷ []) }
 {
     let places = history_of(head);

@@ -3,7 +3,11 @@ ghost use Rattle.std.specs.Prelude.{◌≡◌};
 ghost use Rattle.head.specs.Words.{head_of};
 ghost use Rattle.examples.specs.Same.{Exactly};
 
-use head::parts::{dll_of, earliest_of, errors_of, history_of, nmt_of, od_of, queue_of, soc_of};
+use head::dictionary::od_of;
+use head::errors::errors_of;
+use head::machines::{dll_of, nmt_of};
+use head::memory::{history_of, queue_of};
+use head::watch::{earliest_of, soc_of};
 use head::state::Head;
 
 /// Whether two heads are the same, part by part.

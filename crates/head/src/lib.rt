@@ -3,5 +3,10 @@
 //! part by part.
 #![tactic(auto)]
 
-pub mod parts;
+pub mod dictionary;
+pub mod errors;
+pub mod machines;
+pub mod memory;
 pub mod state;
+pub mod watch;
+pub mod words;

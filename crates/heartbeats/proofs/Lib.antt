@@ -1,5 +1,2 @@
-pub mod PartLaws
-pub mod Turns
-pub mod Beats
-pub mod Handled
-pub mod Beatings
+pub mod LateErrors
+pub mod LateWalk

@@ -1,3 +1,1 @@
-pub mod Parts
-pub mod PartWords
-pub mod PartsIn
+pub mod Words

@@ -1,6 +1,5 @@
-//! The heartbeats of a tick: the look at the watched nodes, and the errors of the late ones; and
-//! what the handling of an error in a tick leaves, whichever phase it comes from.
+//! The heartbeats of a tick (RULES 7.2 to 7.4): the check of the watched nodes, and the errors of
+//! the late ones.
 #![tactic(auto)]
 
-pub mod dealt;
 pub mod heartbeats;

@@ -40,9 +40,9 @@ use Rattle.lent.specs.declared.run.Setting.{Setting}
 use Rattle.lent.specs.declared.run.Setting.TheVariants.{Heard}
 use Rattle.lent.specs.declared.arrivals.Carrying.{Carrying}
 use Rattle.lent.specs.declared.arrivals.Closing.{Closing}
-use Rattle.lent.specs.Runs.{for_heard, surveyed}
+use Rattle.lent.specs.Runs.{for_heard, inspected}
 use Rattle.lent.specs.Arrivals.{carrying_of, carried_all, closing_of, moved_down, close_next, closed_all}
-use Rattle.lent.proofs.SeenLaws.{Seen, seen, seen_lent, settled_heard}
+use Rattle.lent.proofs.SeenLaws.{Seen, seen, seen_lent, times_set_heard}
 
 -- the walk that adds
 pub carry_on : (k : ℕ) (v : WatchedNode) (vs : List WatchedNode) → carried_all (carrying_of k v) vs ≡ carried k v vs
@@ -182,9 +182,9 @@ module _ (k n : ℕ) (x : WatchedNode) where
           ∙ ap (λ (j : ℕ). w ∷ (take p ws ++ closed j (drop p ws))) y
 
 -- the calls, by what was found of the run and what their tests say
-module _ (ws : List ℕ) (vs : List WatchedNode) (k n : ℕ) (f : Findings) (asks : f ≡ for_heard n 0) (o : Option Findings) (sees : o ≡ surveyed k f vs) where
-  z : o ≡ surveyed k (for_heard n 0) vs
-  z = sees ∙ ap (λ (f : Findings). surveyed k f vs) asks
+module _ (ws : List ℕ) (vs : List WatchedNode) (k n : ℕ) (f : Findings) (asks : f ≡ for_heard n 0) (o : Option Findings) (sees : o ≡ inspected k f vs) where
+  z : o ≡ inspected k (for_heard n 0) vs
+  z = sees ∙ ap (λ (f : Findings). inspected k f vs) asks
 
   abbrev y : Setting
   y = Heard n 0
@@ -214,7 +214,7 @@ module _ (ws : List ℕ) (vs : List WatchedNode) (k n : ℕ) (f : Findings) (ask
     moment : moment_of s.soonest ≡ moment_of (soonest never (heard_at n 0 (watched_of vs k)))
     moment =
         let g : all_of fits (heard_at n 0 (watched_of vs k)) ≡ true = heard_fits n 0 (watched_of vs k) refl (all_fit (watched_of vs k) saw.formed) in
-        saw.moment (heard_at n 0 (watched_of vs k)) (settled_heard n 0 (watched_of vs k) saw.formed) g
+        saw.moment (heard_at n 0 (watched_of vs k)) (times_set_heard n 0 (watched_of vs k) saw.formed) g
         ∙ sym (moment_of_lem (heard_at n 0 (watched_of vs k)) g)
 
     -- its place, where it is watched

@@ -19,12 +19,12 @@ use Rattle.watched.proofs.Watching.{lent_inside}
 use Rattle.bitmap.specs.Bitmap.{bytes_of}
 use Rattle.lent.specs.declared.run.Findings.{Findings}
 use Rattle.lent.specs.declared.run.Setting.TheVariants.{Nothing}
-use Rattle.lent.specs.Runs.{asked_for, surveyed}
+use Rattle.lent.specs.Runs.{asked_for, inspected}
 use Rattle.lent.proofs.SeenLaws.{seen_lent}
 
-module _ (vs : List WatchedNode) (k : ℕ) (f : Findings) (asks : f ≡ asked_for Nothing) (o : Option Findings) (sees : o ≡ surveyed k f vs) where
+module _ (vs : List WatchedNode) (k : ℕ) (f : Findings) (asks : f ≡ asked_for Nothing) (o : Option Findings) (sees : o ≡ inspected k f vs) where
   lent : is_some o ≡ well_lent (run vs k)
-  lent = seen_lent k 0 0 Nothing (new_counter 0) vs o (sees ∙ ap (λ (f : Findings). surveyed k f vs) asks)
+  lent = seen_lent k 0 0 Nothing (new_counter 0) vs o (sees ∙ ap (λ (f : Findings). inspected k f vs) asks)
 
   pub declined : o ≡ None → well_lent (run vs k) ≡ false
   declined n = sym lent ∙ ap (λ (o : Option Findings). is_some o) n

@@ -1,6 +1,6 @@
 pub mod SeenLaws
-pub mod SettleLaws
-pub mod BeatLaws
+pub mod SetTimesLaws
+pub mod LateErrorLaws
 pub mod BitLaws
-pub mod JudgedLaws
+pub mod Found
 pub mod ArrivalLaws

@@ -27,7 +27,7 @@ use Rattle.lent.specs.declared.run.Setting.{Setting}
 use Rattle.lent.specs.declared.run.Setting.TheVariants.{Nothing, Heard}
 use Rattle.std.specs.declared.option.Option.{Option}
 use Rattle.std.specs.declared.option.Option.TheVariants.{Some, None}
-use Rattle.lent.specs.Runs.{tried_by, found_by, found_all, formed_of, surveyed, sought_from, settled, Settling, set_next, settled_all}
+use Rattle.lent.specs.Runs.{tried_by, found_by, found_all, formed_of, inspected, sought_from, times_set, TimesSetting, set_next, times_set_all}
 
 both_again : (a b c : Bool) → both (both a b) c ≡ both a (both b c)
 both_again true b c = refl
@@ -73,7 +73,7 @@ unfolding folded
 after_all s [] = sym (both_true s.after)
 after_all s (w ∷ ws) = after_all (found_by s w) ws ∙ both_again s.after (not_before s.time w) (all_of (not_before s.time) ws)
 
-pub soonest_all : (s : Findings) (ws : List WatchedNode) → (found_all s ws).soonest ≡ soonest s.soonest (map (settled s.setting) ws)
+pub soonest_all : (s : Findings) (ws : List WatchedNode) → (found_all s ws).soonest ≡ soonest s.soonest (map (times_set s.setting) ws)
 unfolding folded
 soonest_all s [] = refl
 soonest_all s (w ∷ ws) = soonest_all (found_by s w) ws
@@ -110,10 +110,10 @@ pub record Seen (k n t : ℕ) (y : Setting) (c : ThresholdCounter) (vs : List Wa
   pub found : s ≡ found_all (sought_from n t y c) (watched_of vs k)
   pub watched : s.watched ≡ is_watched n (watched_of vs k)
   pub after : s.after ≡ all_of (not_before t) (watched_of vs k)
-  pub moment : (l : List WatchedNode) → map (settled y) (watched_of vs k) ≡ l → all_of fits l ≡ true → moment_of s.soonest ≡ earliest l
+  pub moment : (l : List WatchedNode) → map (times_set y) (watched_of vs k) ≡ l → all_of fits l ≡ true → moment_of s.soonest ≡ earliest l
 
 -- from what was seen to what the run is
-module _ (k n t : ℕ) (y : Setting) (c : ThresholdCounter) (vs : List WatchedNode) (o : Option Findings) (e : o ≡ surveyed k (sought_from n t y c) vs) where
+module _ (k n t : ℕ) (y : Setting) (c : ThresholdCounter) (vs : List WatchedNode) (o : Option Findings) (e : o ≡ inspected k (sought_from n t y c) vs) where
   abbrev places : Bool
   places = eqb (length vs) 32
 
@@ -183,48 +183,48 @@ module _ (k n t : ℕ) (y : Setting) (c : ThresholdCounter) (vs : List WatchedNo
         }
 
 -- the places as a walk sets them: the first so many
-set_idle : (a : Settling) (ws : List WatchedNode) → a.left ≡ 0 → settled_all a ws ≡ ws
+set_idle : (a : TimesSetting) (ws : List WatchedNode) → a.left ≡ 0 → times_set_all a ws ≡ ws
 unfolding scanned
 set_idle a [] e = refl
 set_idle a (w ∷ ws) e =
     let z : a.left - 1 ≡ 0 = omega (arith, e) in
-    ap₂ (λ (b : Bool) (l : List WatchedNode). pick b (settled a.setting w) w ∷ l) (le-ltb 0 a.left (omega (arith, e)))
+    ap₂ (λ (b : Bool) (l : List WatchedNode). pick b (times_set a.setting w) w ∷ l) (le-ltb 0 a.left (omega (arith, e)))
     (set_idle (set_next a w).1 ws z)
 
-pub set_first : (k : ℕ) (y : Setting) (a : Settling) (ws : List WatchedNode) → a.left ≡ k → a.setting ≡ y → settled_all a ws ≡ first (map (settled y)) k ws
+pub set_first : (k : ℕ) (y : Setting) (a : TimesSetting) (ws : List WatchedNode) → a.left ≡ k → a.setting ≡ y → times_set_all a ws ≡ first (map (times_set y)) k ws
 unfolding scanned
 set_first zero y a ws e f = set_idle a ws e
 set_first (suc k) y a [] e f = refl
 set_first (suc k) y a (w ∷ ws) e f =
     let z : a.left - 1 ≡ k = omega (arith, e) in
-    (λ i. pick (lt-ltb 0 a.left (omega (arith, e)) i) (settled (f i) w) w ∷ settled_all (set_next a w).1 ws)
-    ∙ ap (λ (l : List WatchedNode). settled y w ∷ l) (set_first k y (set_next a w).1 ws z f)
+    (λ i. pick (lt-ltb 0 a.left (omega (arith, e)) i) (times_set (f i) w) w ∷ times_set_all (set_next a w).1 ws)
+    ∙ ap (λ (l : List WatchedNode). times_set y w ∷ l) (set_first k y (set_next a w).1 ws z f)
 
 -- the nodes as a setting leaves them
-pub settled_none : (ws : List WatchedNode) → map (settled Nothing) ws ≡ ws
-settled_none [] = refl
-settled_none (w ∷ ws) = ap (λ (l : List WatchedNode). w ∷ l) (settled_none ws)
+pub times_set_none : (ws : List WatchedNode) → map (times_set Nothing) ws ≡ ws
+times_set_none [] = refl
+times_set_none (w ∷ ws) = ap (λ (l : List WatchedNode). w ∷ l) (times_set_none ws)
 
 module _ (n t : ℕ) where
   -- past a node, ascending numbers are not its own
-  others : (l : ℕ) (ws : List WatchedNode) → n ≤ l → rising l ws ≡ true → map (settled (Heard n t)) ws ≡ ws
+  others : (l : ℕ) (ws : List WatchedNode) → n ≤ l → rising l ws ≡ true → map (times_set (Heard n t)) ws ≡ ws
   others l [] h r = refl
   others l (w ∷ ws) h r =
       let a : l < w.node = ltb-true l w.node (both_first (ltb l w.node) (fits w) (both_first (both (ltb l w.node) (fits w)) (rising w.node ws) r)) in
       ap₂ (λ (b : Bool) (vs : List WatchedNode). pick b (heard_now t w) w ∷ vs) (ne_eqb w.node n (λ e. omega arith))
       (others w.node ws (omega arith) (both_second (both (ltb l w.node) (fits w)) (rising w.node ws) r))
 
-  heard_rising : (l : ℕ) (ws : List WatchedNode) → rising l ws ≡ true → map (settled (Heard n t)) ws ≡ heard_at n t ws
+  heard_rising : (l : ℕ) (ws : List WatchedNode) → rising l ws ≡ true → map (times_set (Heard n t)) ws ≡ heard_at n t ws
   heard_rising l [] r = refl
   heard_rising l (w ∷ ws) r = by (eqb w.node n) refl (heard_rising w.node ws on)
     where
       on : rising w.node ws ≡ true
       on = both_second (both (ltb l w.node) (fits w)) (rising w.node ws) r
 
-      by : (b : Bool) → eqb w.node n ≡ b → map (settled (Heard n t)) ws ≡ heard_at n t ws → pick b (heard_now t w) w ∷ map (settled (Heard n t)) ws ≡ pick b (heard_now t w ∷ ws) (w ∷ heard_at n t ws)
+      by : (b : Bool) → eqb w.node n ≡ b → map (times_set (Heard n t)) ws ≡ heard_at n t ws → pick b (heard_now t w) w ∷ map (times_set (Heard n t)) ws ≡ pick b (heard_now t w ∷ ws) (w ∷ heard_at n t ws)
       by true e more = let k : w.node ≡ n = eqb-true w.node n e in ap (λ (l : List WatchedNode). heard_now t w ∷ l) (others w.node ws (omega arith) on)
       by false e more = ap (λ (l : List WatchedNode). w ∷ l) more
 
-  pub settled_heard : (ws : List WatchedNode) → well_formed ws ≡ true → map (settled (Heard n t)) ws ≡ heard_at n t ws
+  pub times_set_heard : (ws : List WatchedNode) → well_formed ws ≡ true → map (times_set (Heard n t)) ws ≡ heard_at n t ws
   unfolding well_formed
-  settled_heard ws f = heard_rising 0 ws (rising_all ws ∙ both_second (leb (length ws) 32) _ f)
+  times_set_heard ws f = heard_rising 0 ws (rising_all ws ∙ both_second (leb (length ws) 32) _ f)

@@ -10,15 +10,15 @@ use Rattle.counters.specs.declared.counters.ThresholdCounter.{ThresholdCounter}
 use Rattle.head.specs.Places as at
 use Rattle.head.specs.Words.{nmt_of, counter_at}
 use Rattle.watched.specs.declared.nodes.WatchedNode.{WatchedNode}
-use Rattle.watched.specs.Watched.{fits, heard_now}
+use Rattle.watched.specs.Watched.{fits, heard_now, watched_places}
 use Rattle.watched.specs.Nodes.{not_before, never, sooner_by}
-use Rattle.node.specs.Tick.{checks_heartbeats, is_late, looked}
+use Rattle.node.specs.Heartbeats.{checks_heartbeats, is_late, refreshed}
 use Rattle.lentlaws.specs.Fold.{folded}
 use Rattle.lentlaws.specs.Scan.{scanned}
-use Rattle.lent.specs.declared.run.Beats.{Beats}
+use Rattle.lent.specs.declared.run.LateErrors.{LateErrors}
 use Rattle.lent.specs.declared.run.Findings.{Findings}
 use Rattle.lent.specs.declared.run.Setting.{Setting}
-use Rattle.lent.specs.declared.run.Setting.TheVariants.{Nothing, Unheard, Heard, Looked}
+use Rattle.lent.specs.declared.run.Setting.TheVariants.{Nothing, Unheard, Heard, Refreshed}
 
 -- the test of WatchedNodes at one node: above the one before, and within its limits
 abbrev pub tried_by : Option ℕ → WatchedNode → Option ℕ
@@ -26,22 +26,22 @@ tried_by None w = None
 tried_by (Some l) w = pick (both (ltb l w.node) (fits w)) (Some w.node) None
 
 -- the error of a late node, given to the heartbeat counter
-abbrev pub erred : Beats → WatchedNode → Beats
+abbrev pub erred : LateErrors → WatchedNode → LateErrors
 erred s w = record { counter = (after_error s.counter).counter; crossed = pick (after_error s.counter).reached (Some w.node) None }
 
 -- the errors behind one more node: it adds none where it is not late, and the first crossing ends
 -- them
-abbrev pub beaten_by : ℕ → Beats → WatchedNode → Beats
-beaten_by t s w = pick (is_some s.crossed) s (pick (is_late t w) (erred s w) s)
+abbrev pub count_late_by : ℕ → LateErrors → WatchedNode → LateErrors
+count_late_by t s w = pick (is_some s.crossed) s (pick (is_late t w) (erred s w) s)
 
 -- a node after a setting
-abbrev pub settled : Setting → WatchedNode → WatchedNode
-settled Nothing w = w
-settled Unheard w = heard_now 0 w
-settled (Heard n t) w = pick (eqb w.node n) (heard_now t w) w
-settled (Looked t) w = looked t w
+abbrev pub times_set : Setting → WatchedNode → WatchedNode
+times_set Nothing w = w
+times_set Unheard w = heard_now 0 w
+times_set (Heard n t) w = pick (eqb w.node n) (heard_now t w) w
+times_set (Refreshed t) w = refreshed t w
 
--- what is found behind one more node, and behind many
+-- what is found behind one more node
 abbrev pub found_by : Findings → WatchedNode → Findings
 found_by s w =
     record {
@@ -51,23 +51,26 @@ found_by s w =
       tried = tried_by s.tried w;
       watched = either s.watched (eqb w.node s.node);
       after = both s.after (not_before s.time w);
-      beats = beaten_by s.time s.beats w;
-      soonest = sooner_by s.soonest (settled s.setting w);
+      late_errors = count_late_by s.time s.late_errors w;
+      soonest = sooner_by s.soonest (times_set s.setting w);
     }
 
+-- what is found behind some nodes, in order
 abbrev pub found_all : Findings → List WatchedNode → Findings
 found_all s vs = folded found_by s vs
+
+-- what was found, where the nodes are well formed; else none
+abbrev pub formed_of : Findings → Option Findings
+formed_of f = pick (is_some f.tried) (Some f) None
 
 -- What is found of a run of which k places are watched; none where it is not well formed: other
 -- than 32 places, a number above them, or nodes that do not ascend or are not within their limits.
 -- The places past the number are not tried.
-abbrev pub formed_of : Findings → Option Findings
-formed_of f = pick (is_some f.tried) (Some f) None
+abbrev pub inspected : ℕ → Findings → List WatchedNode → Option Findings
+inspected k s vs = pick (both (eqb (length vs) watched_places) (leb k watched_places)) (formed_of (found_all s (take k vs))) None
 
-abbrev pub surveyed : ℕ → Findings → List WatchedNode → Option Findings
-surveyed k s vs = pick (both (eqb (length vs) 32) (leb k 32)) (formed_of (found_all s (take k vs))) None
-
--- what is found before the first node: what a call asks for
+-- what is found before the first node: what a call asks for, of the node n and the time t, with the
+-- setting y and a head's heartbeat counter c
 abbrev pub sought_from : ℕ → ℕ → Setting → ThresholdCounter → Findings
 sought_from n t y c =
     record {
@@ -77,43 +80,48 @@ sought_from n t y c =
       tried = Some 0;
       watched = false;
       after = true;
-      beats = record { counter = c; crossed = None };
+      late_errors = record { counter = c; crossed = None };
       soonest = never;
     }
 
--- of the nodes alone; of a node n that is heard at t; and of a time t, with a head's heartbeat
--- counter
+-- what is asked for of the nodes alone, with a setting
 abbrev pub asked_for : Setting → Findings
 asked_for y = sought_from 0 0 y (new_counter 0)
 
+-- what heard asks for: the node n, which is heard at t
 abbrev pub for_heard : ℕ → ℕ → Findings
 for_heard n t = sought_from n 0 (Heard n t) (new_counter 0)
 
--- a head's heartbeat counter, and what a tick at t sets
-abbrev pub beats_at : List ℕ → ThresholdCounter
-beats_at ws = counter_at ws (at.counter HeartbeatTimeout)
+-- a head's heartbeat counter
+abbrev pub late_errors_at : List ℕ → ThresholdCounter
+late_errors_at ws = counter_at ws (at.counter HeartbeatTimeout)
 
+-- what a tick at t sets: where heartbeats are checked, the last-heard times of its check; else
+-- nothing
 abbrev pub tick_sets : List ℕ → ℕ → Setting
-tick_sets ws t = pick (checks_heartbeats (nmt_of ws).current_state) (Looked t) Nothing
+tick_sets ws t = pick (checks_heartbeats (nmt_of ws).current_state) (Refreshed t) Nothing
 
+-- what a tick at t asks for, with the head's heartbeat counter
 abbrev pub for_tick : List ℕ → ℕ → Findings
-for_tick ws t = sought_from 0 t (tick_sets ws t) (beats_at ws)
+for_tick ws t = sought_from 0 t (tick_sets ws t) (late_errors_at ws)
 
 -- what a walk sets: so many places, and how
-pub record Settling : Type 0 where
+pub record TimesSetting : Type 0 where
   pub left : ℕ
   pub setting : Setting
 
-abbrev pub settling_of : ℕ → Setting → Settling
-settling_of k y = record { left = k; setting = y }
+-- the setting y at the first k places
+abbrev pub setting_of : ℕ → Setting → TimesSetting
+setting_of k y = record { left = k; setting = y }
 
--- what a walk sets at one place, and at all
-abbrev pub set_next : Settling → WatchedNode → WatchedNode × Settling
-set_next a w = (pick (ltb 0 a.left) (settled a.setting w) w, settling_of (a.left - 1) a.setting)
+-- what a walk makes of one place, and what it sets from the next one on
+abbrev pub set_next : TimesSetting → WatchedNode → WatchedNode × TimesSetting
+set_next a w = (pick (ltb 0 a.left) (times_set a.setting w) w, setting_of (a.left - 1) a.setting)
 
-abbrev pub settled_all : Settling → List WatchedNode → List WatchedNode
-settled_all a vs = scanned (λ c x. (set_next c x).0) (λ c x. (set_next c x).1) a vs
+-- all places after a walk
+abbrev pub times_set_all : TimesSetting → List WatchedNode → List WatchedNode
+times_set_all a vs = scanned (λ c x. (set_next c x).0) (λ c x. (set_next c x).1) a vs
 
 -- what the errors of the late nodes come to, on the words of a head
-abbrev pub beats_all : List ℕ → ℕ → List WatchedNode → Beats
-beats_all ws t vs = (found_all (for_tick ws t) vs).beats
+abbrev pub late_errors_all : List ℕ → ℕ → List WatchedNode → LateErrors
+late_errors_all ws t vs = (found_all (for_tick ws t) vs).late_errors

@@ -6,14 +6,14 @@ ghost use Rattle.watched.specs.Watched.{run};
 ghost use Rattle.partners.specs.Partners.{AddedOn, RemovedOn};
 ghost use Rattle.lent.specs.Arrivals.{carry_next, carried_all, moved_down, close_next, closed_all};
 
-use crate::run::{for_heard, survey};
-use head::parts::set_earliest;
+use crate::run::{for_heard, inspect};
 use head::state::Head;
+use head::watch::set_earliest;
 use lentlaws::{scan, scan_back};
 use partners::{try_place, try_remove};
 use types::refusals::Refusal;
 use types::types::NodeId;
-use watched::nodes::{WatchedNode, moment};
+use watched::nodes::{WATCHED_PLACES, WatchedNode, moment};
 
 /// An add at one place: what is carried there.
 #[derive(Clone, Copy)]
@@ -117,7 +117,7 @@ pub fn add(
 {
     let count = *number;
     NodeId::try_from(node)?;
-    let found = survey(nodes, count, for_heard(node, 0)).ok_or(Refusal::WatchedNodes)?;
+    let found = inspect(nodes, count, for_heard(node, 0)).ok_or(Refusal::WatchedNodes)?;
     try_place(Some(found.watched), timeout, count)?;
     let added = WatchedNode {
         node,
@@ -146,10 +146,10 @@ pub fn remove(
         result head.new (run nodes.new number.new) }
 {
     // The soonest moment with the node not heard is that of the others.
-    let found = survey(nodes, *number, for_heard(node, 0)).ok_or(Refusal::WatchedNodes)?;
+    let found = inspect(nodes, *number, for_heard(node, 0)).ok_or(Refusal::WatchedNodes)?;
     try_remove(Some(found.watched))?;
     let closing = Closing {
-        left: 32,
+        left: WATCHED_PLACES,
         number: *number,
         node,
         next: WatchedNode::NONE,

@@ -3,9 +3,9 @@ ghost use Rattle.watched.specs.Watched.{run};
 ghost use Rattle.node.specs.Heard.{HeardOn};
 ghost use Rattle.start.specs.Started.{StartedOn};
 
-use crate::run::{Setting, for_heard, for_nodes, settle, survey};
-use head::parts::set_earliest;
+use crate::run::{Setting, for_heard, for_nodes, inspect, set_times};
 use head::state::Head;
+use head::watch::set_earliest;
 use node::heard::try_heard;
 use start::start::{Setup, begin};
 use types::refusals::Refusal;
@@ -24,9 +24,9 @@ pub fn heard(
     ensures { HeardOn head.old (run nodes.old number) node time
         result head.new (run nodes.new number) }
 {
-    let found = survey(nodes, number, for_heard(node, time)).ok_or(Refusal::WatchedNodes)?;
+    let found = inspect(nodes, number, for_heard(node, time)).ok_or(Refusal::WatchedNodes)?;
     try_heard(Some(found.watched), time)?;
-    settle(nodes, number, Setting::Heard(node, time));
+    set_times(nodes, number, Setting::Heard(node, time));
     set_earliest(head, moment(found.soonest));
     Ok(())
 }
@@ -44,8 +44,8 @@ pub fn start(
         result head.new (run nodes.new number) }
 {
     let setting = Setting::Unheard;
-    let formed = survey(nodes, number, for_nodes(setting)).is_some();
+    let formed = inspect(nodes, number, for_nodes(setting)).is_some();
     begin(head, setup, formed)?;
-    settle(nodes, number, setting);
+    set_times(nodes, number, setting);
     Ok(())
 }

@@ -2,21 +2,23 @@
 //! its places finds out, and what a walk sets.
 ghost use Rattle.std.specs.Prelude.{◌≡◌};
 ghost use Rattle.watched.specs.Nodes.{sooner_by};
-ghost use Rattle.lent.specs.Runs.{sought_from, asked_for, for_heard, for_tick, tried_by, beaten_by};
-ghost use Rattle.lent.specs.Runs.{found_by, found_all, surveyed, settled, settling_of, settled_all};
+ghost use Rattle.lent.specs.Runs.{sought_from, asked_for, for_heard, for_tick, tried_by};
+ghost use Rattle.lent.specs.Runs.{count_late_by, found_by, found_all, inspected, times_set};
+ghost use Rattle.lent.specs.Runs.{setting_of, times_set_all};
 
 use counters::counters::{CounterKind, ThresholdCounter};
-use head::parts::{counter_of, state_at};
+use head::errors::counter_of;
+use head::machines::state_at;
 use head::state::Head;
-use heartbeats::heartbeats::{is_late, looked};
+use heartbeats::heartbeats::{is_late, refreshed};
 use lentlaws::fold;
 use tick::tick::checks_heartbeats;
-use watched::nodes::{NEVER, WatchedNode};
+use watched::nodes::{NEVER, WATCHED_PLACES, WatchedNode};
 use watched::record::NodeRecord;
 
 /// The errors of the late nodes, ascending: the first that crosses ends them.
 #[derive(Clone, Copy)]
-pub struct Beats {
+pub struct LateErrors {
     /// The counter of HeartbeatTimeout.
     pub counter: ThresholdCounter,
     /// The node of the crossing.
@@ -32,8 +34,8 @@ pub enum Setting {
     Unheard,
     /// That of one node, to this time in µs.
     Heard(u8, u64),
-    /// Those that a look at this time in µs sets.
-    Looked(u64),
+    /// Those that a check at this time in µs sets.
+    Refreshed(u64),
 }
 
 /// What a walk over the watched nodes is asked, and finds out.
@@ -52,7 +54,7 @@ pub struct Findings {
     /// BeforeHeard is not to be given: no node that has a timeout was heard after the time.
     pub after: bool,
     /// The errors of those that are late at the time.
-    pub beats: Beats,
+    pub late_errors: LateErrors,
     /// The soonest moment at which a node would be late, once all are set.
     pub soonest: u64,
 }
@@ -68,7 +70,7 @@ pub fn ask(node: u8, time: u64, setting: Setting, counter: ThresholdCounter) -> 
         tried: Some(0),
         watched: false,
         after: true,
-        beats: Beats {
+        late_errors: LateErrors {
             counter,
             crossed: None,
         },
@@ -103,7 +105,7 @@ pub fn for_tick(head: &Head, time: u64) -> Findings
 {
     let counter = counter_of(head, CounterKind::HeartbeatTimeout);
     let setting = if checks_heartbeats(state_at(head)) {
-        Setting::Looked(time)
+        Setting::Refreshed(time)
     } else {
         Setting::Nothing
     };
@@ -119,37 +121,37 @@ fn try_node(tried: Option<u8>, w: WatchedNode) -> Option<u8>
 }
 
 // The error of a late node, where none has crossed.
-fn beat(mut beats: Beats, w: WatchedNode, time: u64) -> Beats
-    ensures { result ≡ beaten_by time beats w }
+fn on_late(mut late_errors: LateErrors, w: WatchedNode, time: u64) -> LateErrors
+    ensures { result ≡ count_late_by time late_errors w }
 {
-    if beats.crossed.is_some() {
-        return beats;
+    if late_errors.crossed.is_some() {
+        return late_errors;
     }
     if !is_late(NodeRecord::from(w), time) {
-        return beats;
+        return late_errors;
     }
-    if beats.counter.count_error() {
-        beats.crossed = Some(w.node);
+    if late_errors.counter.count_error() {
+        late_errors.crossed = Some(w.node);
     }
-    beats
+    late_errors
 }
 
 /// A node as a setting leaves it.
 pub fn set(setting: Setting, w: WatchedNode) -> WatchedNode
-    ensures { result ≡ settled setting w }
+    ensures { result ≡ times_set setting w }
 {
     let last_heard = match setting {
         Setting::Nothing => w.last_heard,
         Setting::Unheard => 0,
         Setting::Heard(node, time) => { if w.node == node { time } else { w.last_heard } }
-        Setting::Looked(time) => looked(NodeRecord::from(w), time),
+        Setting::Refreshed(time) => refreshed(NodeRecord::from(w), time),
     };
     WatchedNode { last_heard, ..w }
 }
 
 // The soonest moment with one more node, as it will be set.
 fn soonest_with(soonest: u64, setting: Setting, w: WatchedNode) -> u64
-    ensures { result ≡ sooner_by soonest (settled setting w) }
+    ensures { result ≡ sooner_by soonest (times_set setting w) }
 {
     let after = set(setting, w);
     NodeRecord::from(after).sooner(soonest)
@@ -163,7 +165,7 @@ pub fn see(found: Findings, w: WatchedNode) -> Findings
         tried: try_node(found.tried, w),
         watched: found.watched || w.node == found.node,
         after: found.after && NodeRecord::from(w).heard_by(found.time),
-        beats: beat(found.beats, w, found.time),
+        late_errors: on_late(found.late_errors, w, found.time),
         soonest: soonest_with(found.soonest, found.setting, w),
         ..found
     }
@@ -179,10 +181,10 @@ pub fn walk(nodes: &[WatchedNode], first: Findings) -> Findings
 /// What is found behind the watched places, in order; none where the run is not well formed: other
 /// than 32 places, a number above them, or nodes that do not ascend or are not within their limits.
 /// The places past the number are not tried.
-pub fn survey(nodes: &[WatchedNode], number: usize, first: Findings) -> Option<Findings>
-    ensures { result ≡ surveyed number first nodes.now }
+pub fn inspect(nodes: &[WatchedNode], number: usize, first: Findings) -> Option<Findings>
+    ensures { result ≡ inspected number first nodes.now }
 {
-    if nodes.len() != 32 || 32 < number {
+    if nodes.len() != WATCHED_PLACES || WATCHED_PLACES < number {
         return None;
     }
     let found = walk(&nodes[..number], first);
@@ -191,8 +193,8 @@ pub fn survey(nodes: &[WatchedNode], number: usize, first: Findings) -> Option<F
 }
 
 /// Sets the first so many places.
-pub fn settle(nodes: &mut [WatchedNode], number: usize, setting: Setting)
-    ensures { nodes.new ≡ settled_all (settling_of number setting) nodes.old }
+pub fn set_times(nodes: &mut [WatchedNode], number: usize, setting: Setting)
+    ensures { nodes.new ≡ times_set_all (setting_of number setting) nodes.old }
 {
     let watched = number.min(nodes.len());
     for w in nodes[..watched].iter_mut() {

@@ -2,20 +2,24 @@
 //! ask, the head's part follows, and a walk sets the last-heard times.
 ghost use Rattle.std.specs.Prelude.{◌≡◌, true, List, ℕ};
 ghost use Rattle.head.specs.Words.{nmt_of, head_of};
-ghost use Rattle.node.specs.Tick.{checks_heartbeats, late_ones, beat_all, tick_taken};
+ghost use Rattle.node.specs.Heartbeats.{checks_heartbeats, late_ones, on_late_all};
+ghost use Rattle.node.specs.Tick.{tick_taken};
 ghost use Rattle.node.specs.Refines.{plain};
-ghost use Rattle.heartbeats.specs.PartWords.{beat_all_words};
+ghost use Rattle.heartbeats.specs.Words.{on_late_all_words};
 ghost use Rattle.tick.specs.TickWords.{tick_words};
-ghost use Rattle.heartbeats.specs.PartsIn.{TicksIn};
-ghost use Rattle.lent.specs.Runs.{beats_all};
+ghost use Rattle.phases.specs.PartsIn.{TicksIn};
+ghost use Rattle.lent.specs.Runs.{late_errors_all};
 ghost use Rattle.tick.specs.TickIn.{TickedOn};
 ghost use Rattle.watched.specs.Watched.{run};
 
-use crate::run::{Beats, Setting, for_tick, settle, survey};
+use crate::run::{LateErrors, Setting, for_tick, inspect, set_times};
 use counters::counters::CounterKind;
-use head::parts::{set_counter, set_earliest, state_at};
+use entries::sizes::{HistoryBytes, QueueBytes};
+use head::errors::set_counter;
+use head::machines::state_at;
 use head::state::Head;
-use heartbeats::dealt::{Dealt, finish, signal};
+use head::watch::set_earliest;
+use phases::{PhaseOutcome, finish, signal};
 use tick::deadline::by_deadline;
 use tick::tick::{checks_heartbeats, tick_still};
 use types::frame::error::types::{DllError, DllErrors};
@@ -26,14 +30,15 @@ use watched::time::Time;
 
 // What the errors of the late nodes leave: the heartbeat counter, and, where one crossed, what a
 // crossing brings.
-fn beaten(head: &mut Head, beats: Beats) -> Dealt
-    ensures { (t : ℕ) (vs : List WatchedNode) → beats ≡ beats_all head.old t vs → (q m : List ℕ) →
-        TicksIn head.old q m (beat_all (plain (head_of head.old) q m) (late_ones t vs))
-        result head.new q m (beat_all_words head.old (late_ones t vs)) }
+fn count_late(head: &mut Head, late_errors: LateErrors) -> PhaseOutcome
+    ensures { (t : ℕ) (vs : List WatchedNode) → late_errors ≡ late_errors_all head.old t vs →
+        (q m : List ℕ) →
+        TicksIn head.old q m (on_late_all (plain (head_of head.old) q m) (late_ones t vs))
+        result head.new q m (on_late_all_words head.old (late_ones t vs)) }
 {
-    let counter = beats.counter;
+    let counter = late_errors.counter;
     set_counter(head, CounterKind::HeartbeatTimeout, counter);
-    if let Some(node) = beats.crossed {
+    if let Some(node) = late_errors.crossed {
         let node_id = NodeId(node);
         signal(head);
         return finish(
@@ -42,27 +47,27 @@ fn beaten(head: &mut Head, beats: Beats) -> Dealt
             true,
         );
     }
-    Dealt::GOES_ON
+    PhaseOutcome::GOES_ON
 }
 
 // The heartbeats, and what follows where no crossing ended the tick.
 fn phases(
     head: &mut Head,
-    queue: &mut [u8; 640],
-    history: &mut [u8; 5080],
-    beats: Beats,
+    queue: &mut QueueBytes,
+    history: &mut HistoryBytes,
+    late_errors: LateErrors,
     time: Time,
-) -> Dealt
+) -> PhaseOutcome
     requires { checks_heartbeats (nmt_of head.old).current_state ≡ true }
-    ensures { (vs : List WatchedNode) → beats ≡ beats_all head.old time.us vs →
+    ensures { (vs : List WatchedNode) → late_errors ≡ late_errors_all head.old time.us vs →
         TicksIn head.old queue.old history.old
         (tick_taken (plain (head_of head.old) queue.old history.old) time.us vs)
         result head.new queue.new history.new
         (tick_words head.old queue.old history.old time.us vs) }
 {
-    let dealt = beaten(head, beats);
-    if dealt.ended {
-        return dealt;
+    let outcome = count_late(head, late_errors);
+    if outcome.ended {
+        return outcome;
     }
     by_deadline(head, queue, history, time)
 }
@@ -73,8 +78,8 @@ fn phases(
 /// 2^62 - 1, BeforeHeard where heartbeats are checked; then nothing changes.
 pub fn process_tick(
     head: &mut Head,
-    queue: &mut [u8; 640],
-    history: &mut [u8; 5080],
+    queue: &mut QueueBytes,
+    history: &mut HistoryBytes,
     nodes: &mut [WatchedNode],
     number: usize,
     time: u64,
@@ -82,7 +87,7 @@ pub fn process_tick(
     ensures { TickedOn head.old queue.old history.old (run nodes.old number) time
         result head.new queue.new history.new (run nodes.new number) }
 {
-    let found = survey(nodes, number, for_tick(head, time)).ok_or(Refusal::WatchedNodes)?;
+    let found = inspect(nodes, number, for_tick(head, time)).ok_or(Refusal::WatchedNodes)?;
     let soonest = moment(found.soonest);
     // Where heartbeats are not checked, no node asks for anything.
     if !checks_heartbeats(state_at(head)) {
@@ -92,8 +97,8 @@ pub fn process_tick(
     if !found.after {
         return Err(Refusal::BeforeHeard);
     }
-    let dealt = phases(head, queue, history, found.beats, now);
-    settle(nodes, number, Setting::Looked(time));
+    let outcome = phases(head, queue, history, found.late_errors, now);
+    set_times(nodes, number, Setting::Refreshed(time));
     set_earliest(head, soonest);
-    Ok(dealt.logged)
+    Ok(outcome.logged)
 }

@@ -16,9 +16,12 @@ use Rattle.entries.specs.Entry.{crossing_entry}
 use Rattle.watched.specs.Watched.{well_formed}
 use Rattle.entries.specs.Ring.{listed}
 use Rattle.node.specs.Steps.{earliest, fresh}
-use Rattle.node.specs.Tick.{beat, beat_all, queued, deal, deal_all, soc_check, tick_taken}
+use Rattle.node.specs.Heartbeats.{on_late, on_late_all}
+use Rattle.node.specs.DllErrors.{queued, on_dll_error, on_dll_errors}
+use Rattle.node.specs.Deadline.{soc_check}
+use Rattle.node.specs.Tick.{tick_taken}
 use Rattle.node.specs.Examples.{comes_of, stated, examples}
 
 pub examples_hold : (map comes_of examples ≡ map stated examples) × (length examples ≡ 12)
-unfolding listed earliest fresh read_event read_cs_event read_error is_reset states_entered reset_sequence enter row_of applied reset_by processed Dll.cs_processed replaced after_error counted_error handled crosses lowered any_active completed error_marks cycle_marks crossing_entry well_formed beat beat_all queued deal deal_all soc_check tick_taken
+unfolding listed earliest fresh read_event read_cs_event read_error is_reset states_entered reset_sequence enter row_of applied reset_by processed Dll.cs_processed replaced after_error counted_error handled crosses lowered any_active completed error_marks cycle_marks crossing_entry well_formed on_late on_late_all queued on_dll_error on_dll_errors soc_check tick_taken
 examples_hold = (refl, refl)

@@ -19,7 +19,7 @@ use Rattle.node.specs.declared.range.SocVerdict.{SocVerdict}
 use Rattle.node.specs.declared.range.SocVerdict.TheVariants as verdict
 use Rattle.node.specs.Plain.{Plain, Step, Call, range, margin, Answer, range_answer, margin_answer}
 use Rattle.node.specs.Steps.{no_run, answers, declines, limit_of}
-use Rattle.node.specs.Tick.{last_soc, elapsed, is_loss}
+use Rattle.node.specs.Deadline.{last_soc, elapsed, is_loss}
 use Rattle.node.specs.Range.{each_reading, every_reading, verdict_of, margin_of, AllLost, NoneLost}
 use Rattle.node.specs.Run.{step}
 use Rattle.node.specs.Refines.{plain, left}

@@ -15,7 +15,7 @@ use Rattle.node.specs.declared.range.SocVerdict.{SocVerdict}
 use Rattle.node.specs.declared.range.SocVerdict.TheVariants as verdict
 use Rattle.node.specs.Plain.{Plain, range, margin, range_answer, margin_answer}
 use Rattle.node.specs.Steps.{no_run, answers, declines, limit_of}
-use Rattle.node.specs.Tick.{elapsed, is_loss}
+use Rattle.node.specs.Deadline.{elapsed, is_loss}
 use Rattle.node.specs.Range.{verdict_of, margin_of, AllLost, NoneLost, is_below0}
 use Rattle.node.specs.Run.{step}
 use Rattle.node.proofs.Ranging.{all_lost, none_lost, lost_end, kept_ends, open_ends, range_by}

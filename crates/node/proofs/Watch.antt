@@ -29,7 +29,11 @@ use Rattle.watched.specs.declared.nodes.WatchedNode.{WatchedNode}
 use Rattle.watched.specs.Watched.{latest}
 use Rattle.node.specs.Plain.{Plain}
 use Rattle.node.specs.Steps.{with_dll, with_errors, cycle_of, tolerance_of, limit_of, value_or, armed}
-use Rattle.node.specs.Tick.{Ticked, goes_on, behind, checks_heartbeats, acts, signalled, finished, beat_by, timeout_of, beat, beat_all, late_ones, heartbeats, with_deadline, at_not_active, timed_out, counter1, kept, dropped_one, queued, deal_by, deal, deal_all, last_soc, elapsed, next_deadline, rescheduled, within_limit, soc_timeout, lost, soc_check, by_deadline, tick_taken}
+use Rattle.node.specs.Phases.{Ticked, goes_on, behind, acts, signalled, finished}
+use Rattle.node.specs.Heartbeats.{checks_heartbeats, on_late_by, timeout_of, on_late, on_late_all, late_ones, heartbeats}
+use Rattle.node.specs.DllErrors.{counter1, kept, dropped_one, queued, on_dll_error_by, on_dll_error, on_dll_errors}
+use Rattle.node.specs.Deadline.{with_deadline, at_not_active, timed_out, last_soc, elapsed, next_deadline, rescheduled, within_limit, soc_timeout, lost, soc_check, by_deadline}
+use Rattle.node.specs.Tick.{tick_taken}
 use Rattle.node.specs.Watch.{Watching, OffOrLater, off, later, Sleeps, Raised, Moves}
 use Rattle.node.proofs.Refining.{picked}
 
@@ -82,43 +86,43 @@ finishes p g true es ms checked cs e =
 finishes p g false es ms checked cs e =
     record { stays = λ h. e; ends = λ h. absurd (true≢false (sym h)); deadline = ap (λ (w : Watch). w.deadline) e }
 
-beat_by_lem : (p : Plain) (ms : List Mark) (r : HandledError) → Handles p (beat_by p ms r)
-beat_by_lem p ms r =
+on_late_by_lem : (p : Plain) (ms : List Mark) (r : HandledError) → Handles p (on_late_by p ms r)
+on_late_by_lem p ms r =
     finishes p _ (acts r.action) _ ms [] []
     (picked (λ (g : Plain). watch g ≡ watch p) r.signal (signalled (with_errors p r.counters)) (with_errors p r.counters) refl refl)
 
-beat_all_lem : (p : Plain) (ws : List WatchedNode) → Handles p (beat_all p ws)
-unfolding beat_all beat
-beat_all_lem p [] = handles_none p
-beat_all_lem p (w ∷ ws) =
-    handles_then p (beat p w) (beat_all (beat p w).head ws)
-    (beat_by_lem p (error_marks p.errors (timeout_of w)) (handled p.errors (timeout_of w)))
-    (beat_all_lem (beat p w).head ws)
+on_late_all_lem : (p : Plain) (ws : List WatchedNode) → Handles p (on_late_all p ws)
+unfolding on_late_all on_late
+on_late_all_lem p [] = handles_none p
+on_late_all_lem p (w ∷ ws) =
+    handles_then p (on_late p w) (on_late_all (on_late p w).head ws)
+    (on_late_by_lem p (error_marks p.errors (timeout_of w)) (handled p.errors (timeout_of w)))
+    (on_late_all_lem (on_late p w).head ws)
 
 heartbeats_handle : (p : Plain) (t : ℕ) (ws : List WatchedNode) → Handles p (heartbeats p t ws)
 heartbeats_handle p t ws =
-    picked (Handles p) (checks_heartbeats p.nmt.current_state) (beat_all p (late_ones t ws)) (goes_on p) (beat_all_lem p (late_ones t ws)) (handles_none p)
+    picked (Handles p) (checks_heartbeats p.nmt.current_state) (on_late_all p (late_ones t ws)) (goes_on p) (on_late_all_lem p (late_ones t ws)) (handles_none p)
 
-deal_by_lem : (p : Plain) (ms : List Mark) (crosses : Bool) (x : ErrorEntry) (r : HandledError) → Handles p (deal_by p ms crosses x r)
+on_dll_error_by_lem : (p : Plain) (ms : List Mark) (crosses : Bool) (x : ErrorEntry) (r : HandledError) → Handles p (on_dll_error_by p ms crosses x r)
 unfolding queued
-deal_by_lem p ms crosses x r =
+on_dll_error_by_lem p ms crosses x r =
     let g = with_errors (counter1 p) r.counters in
     let s = signalled g in
     finishes p _ (acts r.action) _ ms ms _
     (picked (λ (g : Plain). watch g ≡ watch p) crosses (queued s x) g
     (picked (λ (g : Plain). watch g ≡ watch p) (ltb (length s.queue) s.capacity) (kept s x) (dropped_one s) refl refl) refl)
 
-deal_all_lem : (t : ℕ) (p : Plain) (es : List DllError) → Handles p (deal_all t p es)
-unfolding deal_all deal
-deal_all_lem t p [] = handles_none p
-deal_all_lem t p (e ∷ es) =
-    handles_then p (deal t p e) (deal_all t (deal t p e).head es)
-    (deal_by_lem p (error_marks p.errors e) (crosses p.errors e) (crossing_entry e t) (handled p.errors e))
-    (deal_all_lem t (deal t p e).head es)
+on_dll_errors_lem : (t : ℕ) (p : Plain) (es : List DllError) → Handles p (on_dll_errors t p es)
+unfolding on_dll_errors on_dll_error
+on_dll_errors_lem t p [] = handles_none p
+on_dll_errors_lem t p (e ∷ es) =
+    handles_then p (on_dll_error t p e) (on_dll_errors t (on_dll_error t p e).head es)
+    (on_dll_error_by_lem p (error_marks p.errors e) (crosses p.errors e) (crossing_entry e t) (handled p.errors e))
+    (on_dll_errors_lem t (on_dll_error t p e).head es)
 
 -- the errors of the check leave the deadline
-pub deal_all_deadline : (t : ℕ) (p : Plain) (es : List DllError) → (deal_all t p es).head.soc.next_tick_us ≡ p.soc.next_tick_us
-deal_all_deadline t p es = (deal_all_lem t p es).deadline
+pub on_dll_errors_deadline : (t : ℕ) (p : Plain) (es : List DllError) → (on_dll_errors t p es).head.soc.next_tick_us ≡ p.soc.next_tick_us
+on_dll_errors_deadline t p es = (on_dll_errors_lem t p es).deadline
 
 -- the cycles that have begun end at most one cycle after now, and after it
 pub ahead : (e k : ℕ) → (e / k + 1) * k ≤ e + k
@@ -169,8 +173,8 @@ within_renewed p t n =
 
 lost_renewed : (p : Plain) (t : ℕ) → p.soc.next_tick_us ≡ Nothing → Renewed (watch p) t (lost p t).head.soc
 lost_renewed p t n =
-    let k = deal_all t (with_dll p (soc_timeout p).state) (soc_timeout p).errors in
-    let f = deal_all_lem t (with_dll p (soc_timeout p).state) (soc_timeout p).errors in
+    let k = on_dll_errors t (with_dll p (soc_timeout p).state) (soc_timeout p).errors in
+    let f = on_dll_errors_lem t (with_dll p (soc_timeout p).state) (soc_timeout p).errors in
     tested (λ (k : Ticked). Renewed (watch p) t k.head.soc) k.ended
     (λ h. record { wakes = off (f.ends h); soon = λ e g. none_due (f.deadline ∙ n) g })
     (λ h. subst (λ (w : Watch). Renewed w t (rescheduled k.head t).soc) (f.stays h) (rescheduled_renewed k.head t (f.deadline ∙ n)))

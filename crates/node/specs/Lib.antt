@@ -1,5 +1,9 @@
 pub mod Plain
 pub mod Steps
+pub mod Phases
+pub mod Heartbeats
+pub mod DllErrors
+pub mod Deadline
 pub mod Tick
 pub mod Watch
 pub mod Due

@@ -19,12 +19,14 @@ ghost use Rattle.node.specs.InPlace.{error_words, cycle_words, arm_words, hand_o
 use crate::timing::armed;
 pub use counters::counters::ErrorTaken;
 use counters::counters::{CounterKind, ErrorEffect, effect_of};
+use entries::sizes::QueueBytes;
 use entries::status_response::ErrorEntry;
-use head::parts::{
-    counter_of, dll_of, errors_of, forget, links_of, nmt_of, od_of, queue_of, set_counter, set_dll,
-    set_levels, set_links, set_nmt, set_queue, set_ready, set_soc, soc_of, state_at,
-};
+use head::dictionary::od_of;
+use head::errors::{counter_of, errors_of, links_of, set_counter, set_levels, set_links};
+use head::machines::{dll_of, nmt_of, set_dll, set_nmt, set_ready, state_at};
+use head::memory::{queue_of, set_queue};
 use head::state::Head;
+use head::watch::{forget, set_soc, soc_of};
 use nmt::state_machine::{ResetSequence, is_reset};
 use types::frame::cs_state_machine::DllCsEvent;
 use types::frame::error::types::{DllError, DllErrors, NmtAction};
@@ -158,7 +160,7 @@ pub fn arm(head: &mut Head, time: u64) -> Result<(), Refusal>
 }
 
 /// The oldest entry, which leaves the emergency queue; of an empty queue, none.
-pub fn hand_out(head: &mut Head, memory: &[u8; 640]) -> Option<ErrorEntry>
+pub fn hand_out(head: &mut Head, memory: &QueueBytes) -> Option<ErrorEntry>
     ensures { ((m : List ℕ) → Refines (head_of head.old) memory.now m Call.hand_out
         (left (head_of head.new) (hand_out_answer result)) memory.now m no_run) ×
         (head.new ≡ hand_out_words head.old memory.now) ×

@@ -4,8 +4,8 @@ ghost use Rattle.std.specs.Prelude.{◌≡◌, Bool};
 ghost use Rattle.std.specs.Bool.{then_some};
 ghost use Rattle.node.specs.Heard.{heard_answer, Heard};
 
-use head::parts::set_earliest;
 use head::state::Head;
+use head::watch::set_earliest;
 use types::refusals::Refusal;
 use watched::nodes::{NodeWords, find, moment, set_heard};
 use watched::time::in_time;

@@ -8,7 +8,9 @@ ghost use Rattle.node.specs.Loaded.{bytes_named, LoadedIn};
 ghost use Rattle.head.specs.Head.{head_with_od};
 
 use entries::error_history::ErrorHistory;
-use head::parts::{set_history, set_object, set_register, set_statistic};
+use entries::sizes::HistoryBytes;
+use head::dictionary::{set_object, set_register, set_statistic};
+use head::memory::set_history;
 use head::state::{Head, Object, Statistic};
 
 /// The values of the dictionary that a load names; `None` leaves one as it is. Cycle and tolerance
@@ -76,7 +78,7 @@ fn load_values(head: &mut Head, values: DictionaryUpdate)
 /// the last whole one are no entry. What is not named stays as it is; nothing is refused.
 pub fn load(
     head: &mut Head,
-    memory: &mut [u8; 5080],
+    memory: &mut HistoryBytes,
     values: DictionaryUpdate,
     entries: Option<&[u8]>,
 )

@@ -2,14 +2,15 @@
 //! (RULES 7.10). Both only read the head, with the check on or off, in any NMT state.
 ghost use Rattle.std.specs.Prelude.{◌≡◌, [], ◌≤◌};
 ghost use Rattle.node.specs.Plain.{Call};
-ghost use Rattle.node.specs.Tick.{elapsed, is_loss};
+ghost use Rattle.node.specs.Deadline.{elapsed, is_loss};
 ghost use Rattle.node.specs.Refines.{plain};
 ghost use Rattle.node.specs.InPlace.{Reading, range_said, margin_said};
 ghost use Rattle.head.specs.Words.{head_of};
 
 use crate::timing::{last_soc, limit, time_since};
-use head::parts::{od_of, soc_of};
+use head::dictionary::od_of;
 use head::state::Head;
+use head::watch::soc_of;
 use types::refusals::Refusal;
 use watched::time::Time;
 

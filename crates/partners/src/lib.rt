@@ -6,21 +6,21 @@
 ghost use Rattle.std.specs.Prelude.{◌≡◌, ◌++◌, ◌-◌, ◌≤◌, ◌<◌, Bool, true, take, drop, replicate};
 ghost use Rattle.std.specs.Bool.{then_some};
 ghost use Rattle.watched.specs.Nodes.{node_of, nodes_of};
-ghost use Rattle.watched.specs.Watched.{no_node, inserted};
+ghost use Rattle.watched.specs.Watched.{no_node, inserted, watched_places};
 ghost use Rattle.partners.specs.Walks.{place_before, closed};
 ghost use Rattle.partners.specs.Partners.{add_answer, remove_answer, Added, Removed};
 
-use head::parts::set_earliest;
 use head::state::Head;
+use head::watch::set_earliest;
 use types::refusals::Refusal;
 use types::types::NodeId;
-use watched::nodes::{NodeWords, find, moment};
+use watched::nodes::{NodeWords, WATCHED_PLACES, find, moment};
 use watched::record::NodeRecord;
 use watched::time::in_time;
 
 // Where a node is to stand: before the first one above it, so behind so many that are not.
 fn place_for(nodes: &NodeWords, count: usize, node: u64) -> usize
-    requires { count ≤ 32 }
+    requires { count ≤ watched_places }
     ensures { (result ≡ place_before node (take count (nodes_of nodes.now))) ×
         (result ≤ count) }
 {
@@ -31,15 +31,16 @@ fn place_for(nodes: &NodeWords, count: usize, node: u64) -> usize
 
 // The places from one on are cleared.
 fn clear(nodes: &mut NodeWords, from: usize)
-    requires { from ≤ 32 }
-    ensures { nodes_of nodes.new ≡ take from (nodes_of nodes.old) ++ replicate (32 - from) no_node }
+    requires { from ≤ watched_places }
+    ensures { nodes_of nodes.new ≡
+        take from (nodes_of nodes.old) ++ replicate (watched_places - from) no_node }
 {
     nodes[3 * from..].fill(0);
 }
 
 // A node takes its place: those above it move up by one, and the places past them are cleared.
 fn insert(nodes: &mut NodeWords, count: usize, node: NodeRecord)
-    requires { count < 32 }
+    requires { count < watched_places }
     ensures { nodes_of nodes.new ≡
         inserted (node_of node) (take count (nodes_of nodes.old)) ++
         replicate (31 - count) no_node }
@@ -53,7 +54,7 @@ fn insert(nodes: &mut NodeWords, count: usize, node: NodeRecord)
 // The place of a node is closed: those behind it move down by one, and the places past them are
 // cleared.
 fn close(nodes: &mut NodeWords, count: usize, place: usize)
-    requires { (place < count) × (count ≤ 32) }
+    requires { (place < count) × (count ≤ watched_places) }
     ensures { nodes_of nodes.new ≡
         take place (nodes_of nodes.old) ++
         closed (count - place) (drop place (nodes_of nodes.old)) }
@@ -76,7 +77,7 @@ pub fn try_place(watched: Option<bool>, timeout: u64, number: usize) -> Result<(
     if watched {
         return Err(Refusal::AlreadyWatched);
     }
-    if 32 <= number {
+    if WATCHED_PLACES <= number {
         return Err(Refusal::AllWatched);
     }
     Ok(())

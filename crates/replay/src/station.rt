@@ -8,6 +8,7 @@ ghost use Rattle.calling.specs.Made.{Made};
 use arrayvec::ArrayVec;
 use calling::{Answer, Call, make_over_records};
 use entries::desk::{read_at, write_at};
+use entries::sizes::{HistoryBytes, QueueBytes};
 use entries::status_response::ErrorEntry;
 use head::state::Head;
 use lent::bits::bitmap;
@@ -31,9 +32,9 @@ pub struct Station {
     /// The words of the head.
     pub head: Head,
     /// The bytes of its emergency queue.
-    pub queue: [u8; 640],
+    pub queue: QueueBytes,
     /// The bytes of its history.
-    pub history: [u8; 5080],
+    pub history: HistoryBytes,
     /// The places of the run, also those that are not lent.
     pub run: [WatchedNode; 40],
     /// How many of them are lent.
@@ -71,8 +72,8 @@ impl Said {
 // A call that is lent the first so many of some places.
 fn make_over_places(
     head: &mut Head,
-    queue: &mut [u8; 640],
-    history: &mut [u8; 5080],
+    queue: &mut QueueBytes,
+    history: &mut HistoryBytes,
     run: &mut [WatchedNode; 40],
     places: usize,
     number: &mut usize,

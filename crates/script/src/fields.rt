@@ -24,10 +24,10 @@ fn carries_byte(kind: u64) -> bool
 
 impl Words<'_> {
     // A number that is a byte where it is looked at; any other is read as 0.
-    fn carried(&mut self, is_looked_at: bool) -> Option<u8>
-        ensures { gives result self.new.rest.now ≡ carried is_looked_at self.old.rest.now }
+    fn carried(&mut self, is_refreshed_at: bool) -> Option<u8>
+        ensures { gives result self.new.rest.now ≡ carried is_refreshed_at self.old.rest.now }
     {
-        if is_looked_at {
+        if is_refreshed_at {
             self.bits8()
         } else {
             self.bits64().map(|_| 0)

@@ -1,14 +1,19 @@
 //! Start: every word of a fresh head, from the arguments.
 ghost use Rattle.std.specs.Prelude.{◌≡◌, ◌≤◌};
-ghost use Rattle.watched.specs.Watched.{unheard_first};
+ghost use Rattle.watched.specs.Watched.{unheard_first, watched_places};
 ghost use Rattle.start.specs.Started.{fresh_head, fresh_words, unheard_words};
 ghost use Rattle.start.specs.Started.{BeginsBy, StartedIn};
 ghost use Rattle.head.specs.Words.{head_of};
 ghost use Rattle.watched.specs.Nodes.{nodes_of};
 
 use counters::counters::{CnErrorCounters, Thresholds};
-use head::parts::{clear, set_capacity, set_identity, set_nmt, set_od, set_thresholds};
+use entries::sizes::QUEUE_PLACES;
+use head::dictionary::set_od;
+use head::errors::set_thresholds;
+use head::machines::{set_identity, set_nmt};
+use head::memory::set_capacity;
 use head::state::{Dictionary, Head};
+use head::words::clear;
 use nmt::cn_state_machine::CnNmtStateMachine;
 use types::nmt::flags::FeatureFlags;
 use types::refusals::Refusal;
@@ -52,7 +57,7 @@ impl Setup {
 
 // No watched node was heard yet.
 fn unheard(nodes: &mut NodeWords, count: usize)
-    requires { count ≤ 32 }
+    requires { count ≤ watched_places }
     ensures { (nodes.new ≡ unheard_words count nodes.old) ×
         (nodes_of nodes.new ≡ unheard_first count (nodes_of nodes.old)) }
 {
@@ -68,7 +73,7 @@ pub fn begin(head: &mut Head, setup: Setup, formed: bool) -> Result<(), Refusal>
     ensures { BeginsBy head.old setup formed result head.new }
 {
     let node_id = NodeId::try_from(setup.node)?;
-    if 32 < setup.queue_capacity {
+    if QUEUE_PLACES < setup.queue_capacity as usize {
         return Err(Refusal::QueueCapacity);
     }
     let limited = setup.thresholds.is_within_limit();

@@ -13,7 +13,12 @@ use crate::texts::{Bytes, EntryBytes};
 use counters::counters::ByKind;
 use entries::emergency_queue::EmergencyQueue;
 use entries::error_history::ErrorHistory;
-use head::parts::{dll_of, earliest_of, errors_of, history_of, nmt_of, od_of, queue_of, soc_of};
+use entries::sizes::{HistoryBytes, QueueBytes};
+use head::dictionary::od_of;
+use head::errors::errors_of;
+use head::machines::{dll_of, nmt_of};
+use head::memory::{history_of, queue_of};
+use head::watch::{earliest_of, soc_of};
 use head::state::Head;
 use std::fmt;
 use std::fmt::Display;
@@ -24,8 +29,8 @@ use watched::nodes::WatchedNode;
 #[derive(Clone, Copy)]
 pub struct Shown<'a> {
     pub head: &'a Head,
-    pub queue: &'a [u8; 640],
-    pub history: &'a [u8; 5080],
+    pub queue: &'a QueueBytes,
+    pub history: &'a HistoryBytes,
     pub run: &'a [WatchedNode],
     pub number: usize,
     pub desk: &'a [u8],
@@ -135,7 +140,7 @@ impl Display for ThresholdLine<'_> {
 
 // The entries that wait, the oldest first.
 #[derive(Clone, Copy)]
-struct Waiting<'a>(EmergencyQueue, &'a [u8; 640]);
+struct Waiting<'a>(EmergencyQueue, &'a QueueBytes);
 
 #[tactic(auto, using(crate::proofs::EntriesShown::entry_more, crate::proofs::EntriesShown::entries_end, crate::proofs::EntriesShown::waiting_end))]
 impl Display for Waiting<'_> {
@@ -154,7 +159,7 @@ impl Display for Waiting<'_> {
 
 // The queue's capacity, and what waits.
 #[derive(Clone, Copy)]
-struct QueueLine<'a>(EmergencyQueue, &'a [u8; 640]);
+struct QueueLine<'a>(EmergencyQueue, &'a QueueBytes);
 
 #[tactic(auto, unfolding(crate::specs::Shows::queue_line))]
 impl Display for QueueLine<'_> {
@@ -173,7 +178,7 @@ impl Display for QueueLine<'_> {
 
 // The entries of the history, the newest first.
 #[derive(Clone, Copy)]
-struct Past<'a>(ErrorHistory, &'a [u8; 5080]);
+struct Past<'a>(ErrorHistory, &'a HistoryBytes);
 
 #[tactic(auto, using(crate::proofs::EntriesShown::entry_more, crate::proofs::EntriesShown::entries_end, crate::proofs::EntriesShown::history_end))]
 impl Display for Past<'_> {
@@ -191,7 +196,7 @@ impl Display for Past<'_> {
 }
 
 #[derive(Clone, Copy)]
-struct HistoryLine<'a>(ErrorHistory, &'a [u8; 5080]);
+struct HistoryLine<'a>(ErrorHistory, &'a HistoryBytes);
 
 #[tactic(auto, unfolding(crate::specs::Shows::history_line))]
 impl Display for HistoryLine<'_> {

@@ -24,9 +24,11 @@ use Rattle.head.specs.Head.{Head, head_with_dll}
 use Rattle.watched.specs.Watched.{latest}
 use Rattle.node.specs.Plain.{Plain}
 use Rattle.node.specs.Steps.{plain_of, with_soc, with_dll, cycle_of, tolerance_of, limit_of}
-use Rattle.node.specs.Tick.{Ticked, goes_on, behind, check_off, with_deadline, next_deadline, rescheduled, within_limit, is_loss, soc_timeout, deal_all, lost, soc_check, at_not_active, sets_basic, times_out, timed_out, event_in_tick, used_up, by_deadline}
+use Rattle.node.specs.Phases.{Ticked, goes_on, behind, check_off, event_in_tick}
+use Rattle.node.specs.DllErrors.{on_dll_errors}
+use Rattle.node.specs.Deadline.{with_deadline, next_deadline, rescheduled, within_limit, is_loss, soc_timeout, lost, soc_check, at_not_active, sets_basic, times_out, timed_out, used_up, by_deadline}
 use Rattle.node.specs.Refines.{plain, Becomes, rings, joins_all}
-use Rattle.heartbeats.specs.Parts.{PartLeft, Ticks, is_quiet}
+use Rattle.phases.specs.Parts.{PartLeft, Ticks, is_quiet}
 use Rattle.tick.specs.Ticks.{Loses}
 
 module _ (h : Head) (t : ℕ) where
@@ -167,19 +169,19 @@ pub loses_quiet : (h g : Head) (es : DllErrors) → Loses h g es → all_of is_q
 loses_quiet h g es l = ap (all_of is_quiet) (l.errors [] []) ∙ timeouts_quiet h.dll.state h.nmt.current_state
 
 -- a lost SoC: its errors are dealt with, and where none ends the tick the check goes on
-module _ (h : Head) (q m : List ℕ) (t : ℕ) (g : Head) (es : DllErrors) (l : Loses h g es) (d : PartLeft) (q' m' : List ℕ) (w : Ticks g q m (deal_all t (plain g q m) (reported es)) d q' m') where
-  abbrev dealt_with : Ticked
-  dealt_with = deal_all t (with_dll (plain h q m) (soc_timeout (plain h q m)).state) (soc_timeout (plain h q m)).errors
+module _ (h : Head) (q m : List ℕ) (t : ℕ) (g : Head) (es : DllErrors) (l : Loses h g es) (d : PartLeft) (q' m' : List ℕ) (w : Ticks g q m (on_dll_errors t (plain g q m) (reported es)) d q' m') where
+  abbrev errors_handled : Ticked
+  errors_handled = on_dll_errors t (with_dll (plain h q m) (soc_timeout (plain h q m)).state) (soc_timeout (plain h q m)).errors
 
-  dealt_with_lem : Ticks h q m dealt_with d q' m'
-  dealt_with_lem =
-      ticks_from (λ p. with_dll p (soc_timeout p).state) (λ (p : Plain). deal_all t p (soc_timeout (plain h q m)).errors) l.head
-      (ticks_as (deal_all t (plain g q m) (reported es)) (deal_all t (plain g q m) (soc_timeout (plain h q m)).errors) (ap (deal_all t (plain g q m)) (sym (l.errors q m))) w)
+  errors_handled_lem : Ticks h q m errors_handled d q' m'
+  errors_handled_lem =
+      ticks_from (λ p. with_dll p (soc_timeout p).state) (λ (p : Plain). on_dll_errors t p (soc_timeout (plain h q m)).errors) l.head
+      (ticks_as (on_dll_errors t (plain g q m) (reported es)) (on_dll_errors t (plain g q m) (soc_timeout (plain h q m)).errors) (ap (on_dll_errors t (plain g q m)) (sym (l.errors q m))) w)
 
   pub lose_ends : d.ended ≡ true → Ticks h q m (lost (plain h q m) t) d q' m'
   lose_ends y =
-      ticks_as dealt_with (lost (plain h q m) t)
-      (ap (λ (b : Bool). pick b dealt_with (behind dealt_with (goes_on (rescheduled dealt_with.head t)))) (sym dealt_with_lem.ended ∙ y)) dealt_with_lem
+      ticks_as errors_handled (lost (plain h q m) t)
+      (ap (λ (b : Bool). pick b errors_handled (behind errors_handled (goes_on (rescheduled errors_handled.head t)))) (sym errors_handled_lem.ended ∙ y)) errors_handled_lem
 
   pub lose_goes_on :
       d.ended ≡ false →
@@ -187,16 +189,16 @@ module _ (h : Head) (q m : List ℕ) (t : ℕ) (g : Head) (es : DllErrors) (l : 
       Becomes d.head (λ p. rescheduled p t) r →
       Ticks h q m (lost (plain h q m) t) (record { head = r; logged = d.logged; ended = false }) q' m'
   lose_goes_on y r b =
-      ticks_as (behind dealt_with (goes_on (rescheduled dealt_with.head t))) (lost (plain h q m) t)
-      (ap (λ (b : Bool). pick b dealt_with (behind dealt_with (goes_on (rescheduled dealt_with.head t)))) (sym dealt_with_lem.ended ∙ y))
+      ticks_as (behind errors_handled (goes_on (rescheduled errors_handled.head t))) (lost (plain h q m) t)
+      (ap (λ (b : Bool). pick b errors_handled (behind errors_handled (goes_on (rescheduled errors_handled.head t)))) (sym errors_handled_lem.ended ∙ y))
       (record {
-        head = b.0 q' m' ∙ ap (λ (p : Plain). rescheduled p t) dealt_with_lem.head;
-        logged = dealt_with_lem.logged ∙ sym (append-nil dealt_with.logged);
+        head = b.0 q' m' ∙ ap (λ (p : Plain). rescheduled p t) errors_handled_lem.head;
+        logged = errors_handled_lem.logged ∙ sym (append-nil errors_handled.logged);
         ended = refl;
         joined =
             becomes_rings (λ p. rescheduled p t) q' m' b
-            ∙ dealt_with_lem.joined
-            ∙ ap (joins_all (rings h q m)) (sym (append-nil dealt_with.crossings));
+            ∙ errors_handled_lem.joined
+            ∙ ap (joins_all (rings h q m)) (sym (append-nil errors_handled.crossings));
       })
 
 -- the SoC check

@@ -19,7 +19,8 @@ use Rattle.dll.specs.declared.cs_state_machine.DllAnswer.{DllAnswer}
 use Rattle.head.specs.declared.state.Deadline.TheVariants.{At, Nothing}
 use Rattle.head.specs.Head.{Head}
 use Rattle.node.specs.Steps.{limit_of}
-use Rattle.node.specs.Tick.{with_deadline, rescheduled, within_limit, is_loss, deal_all, soc_timeout, lost, soc_check, at_not_active, sets_basic, times_out, by_deadline}
+use Rattle.node.specs.DllErrors.{on_dll_errors}
+use Rattle.node.specs.Deadline.{with_deadline, rescheduled, within_limit, is_loss, soc_timeout, lost, soc_check, at_not_active, sets_basic, times_out, by_deadline}
 use Rattle.node.specs.Refines.{plain}
 use Rattle.tick.specs.Ticks.{Loses}
 use Rattle.tick.proofs.DeadlineLaws.{loses, lose_ends, lose_goes_on, check_none, check_lost, check_within, none_stands, basic_set, not_passed, passed_idle, passed_check}
@@ -27,12 +28,12 @@ use Rattle.head.specs.Places as at
 use Rattle.head.specs.Words.{word, state_of, dll_state, soc_of, od_of, head_of}
 use Rattle.head.specs.Written.{deadline_written}
 use Rattle.head.proofs.Laws.{dll_written}
-use Rattle.heartbeats.specs.declared.dealt.Dealt.{Dealt}
-use Rattle.tick.specs.TickWords.{unlent, rescheduled_words, within_words, loss_words, after_loss_words, deal_all_words, lost_words, check_words, basic_words, timeout_words, passed_words, deadline_words}
-use Rattle.heartbeats.specs.PartsIn.{Turns, dealt_of, TicksIn}
+use Rattle.phases.specs.declared.PhaseOutcome.{PhaseOutcome}
+use Rattle.tick.specs.TickWords.{unlent, rescheduled_words, within_words, loss_words, after_loss_words, on_dll_errors_words, lost_words, check_words, basic_words, timeout_words, passed_words, deadline_words}
+use Rattle.phases.specs.PartsIn.{Turns, outcome_of, TicksIn}
 use Rattle.tick.specs.TickIn.{LosesIn}
 
-abbrev pub on : Dealt
+abbrev pub on : PhaseOutcome
 on = record { logged = errors.None; ended = false }
 
 pub loses_in :
@@ -49,26 +50,26 @@ loses_in ws long a o ws' w =
     }
 
 -- a lost SoC
-module _ (ws q m : List ℕ) (t : ℕ) (es : DllErrors) (ws₁ : List ℕ) (l : LosesIn ws es ws₁) (d : Dealt) (ws₂ q' m' : List ℕ) (w : TicksIn ws₁ q m (deal_all t (plain (head_of ws₁) q m) (reported es)) d ws₂ q' m' (deal_all_words ws₁ (reported es))) where
+module _ (ws q m : List ℕ) (t : ℕ) (es : DllErrors) (ws₁ : List ℕ) (l : LosesIn ws es ws₁) (d : PhaseOutcome) (ws₂ q' m' : List ℕ) (w : TicksIn ws₁ q m (on_dll_errors t (plain (head_of ws₁) q m) (reported es)) d ws₂ q' m' (on_dll_errors_words ws₁ (reported es))) where
   abbrev after : Bool → List ℕ
-  after b = after_loss_words b (deal_all_words (loss_words ws) (soc_timeout (unlent ws)).errors) t
+  after b = after_loss_words b (on_dll_errors_words (loss_words ws) (soc_timeout (unlent ws)).errors) t
 
   reports : reported es ≡ (soc_timeout (unlent ws)).errors
   reports = l.loses.errors [] []
 
-  dealt : ws₂ ≡ deal_all_words (loss_words ws) (soc_timeout (unlent ws)).errors
-  dealt = w.words ∙ ap₂ deal_all_words l.words reports
+  counted : ws₂ ≡ on_dll_errors_words (loss_words ws) (soc_timeout (unlent ws)).errors
+  counted = w.words ∙ ap₂ on_dll_errors_words l.words reports
 
-  ended : (b : Bool) → d.ended ≡ b → (deal_all t (plain (head_of (loss_words ws)) q m) (soc_timeout (unlent ws)).errors).ended ≡ b
+  ended : (b : Bool) → d.ended ≡ b → (on_dll_errors t (plain (head_of (loss_words ws)) q m) (soc_timeout (unlent ws)).errors).ended ≡ b
   ended b e =
-      sym (w.ticks.ended ∙ ap₂ (λ (l : List ℕ) (es : List DllError). (deal_all t (plain (head_of l) q m) es).ended) l.words reports) ∙ e
+      sym (w.ticks.ended ∙ ap₂ (λ (l : List ℕ) (es : List DllError). (on_dll_errors t (plain (head_of l) q m) es).ended) l.words reports) ∙ e
 
   pub lost_ends : d.ended ≡ true → TicksIn ws q m (lost (plain (head_of ws) q m) t) d ws₂ q' m' (lost_words ws q m t)
   unfolding lost_words
   lost_ends e =
       record {
-        ticks = lose_ends (head_of ws) q m t (head_of ws₁) es l.loses (dealt_of ws₂ d) q' m' w.ticks e;
-        words = dealt ∙ sym (ap after (ended true e));
+        ticks = lose_ends (head_of ws) q m t (head_of ws₁) es l.loses (outcome_of ws₂ d) q' m' w.ticks e;
+        words = counted ∙ sym (ap after (ended true e));
       }
 
   pub lost_goes_on :
@@ -78,12 +79,12 @@ module _ (ws q m : List ℕ) (t : ℕ) (es : DllErrors) (ws₁ : List ℕ) (l : 
   lost_goes_on e ws₃ k =
       subst (λ (ended : Bool). TicksIn ws q m (lost (plain (head_of ws) q m) t) (record { logged = d.logged; ended = ended }) ws₃ q' m' (lost_words ws q m t)) (sym e)
       (record {
-        ticks = lose_goes_on (head_of ws) q m t (head_of ws₁) es l.loses (dealt_of ws₂ d) q' m' w.ticks e (head_of ws₃) k.becomes;
-        words = k.words ∙ ap (λ (l : List ℕ). rescheduled_words l t) dealt ∙ sym (ap after (ended false e));
+        ticks = lose_goes_on (head_of ws) q m t (head_of ws₁) es l.loses (outcome_of ws₂ d) q' m' w.ticks e (head_of ws₃) k.becomes;
+        words = k.words ∙ ap (λ (l : List ℕ). rescheduled_words l t) counted ∙ sym (ap after (ended false e));
       })
 
 -- the SoC check
-module _ (ws q m : List ℕ) (t : ℕ) (r : Dealt) where
+module _ (ws q m : List ℕ) (t : ℕ) (r : PhaseOutcome) where
   abbrev latest : ℕ
   latest = 4611686018427387903
 
@@ -97,7 +98,7 @@ module _ (ws q m : List ℕ) (t : ℕ) (r : Dealt) where
   unfolding head_of check_words
   none_checked z e =
       record {
-        ticks = check_none (head_of ws) q m t z (dealt_of ws r) (ap (dealt_of ws) e);
+        ticks = check_none (head_of ws) q m t z (outcome_of ws r) (ap (outcome_of ws) e);
         words = sym (ap (λ (c : Bool). checked c late) z);
       }
 
@@ -108,7 +109,7 @@ module _ (ws q m : List ℕ) (t : ℕ) (r : Dealt) where
     unfolding head_of check_words
     lost_checked y q' m' w =
         record {
-          ticks = check_lost (head_of ws) q m t z b a (dealt_of ws' r) y q' m' w.ticks;
+          ticks = check_lost (head_of ws) q m t z b a (outcome_of ws' r) y q' m' w.ticks;
           words = w.words ∙ sym (ap₂ checked z (sym a ∙ y));
         }
 
@@ -118,12 +119,12 @@ module _ (ws q m : List ℕ) (t : ℕ) (r : Dealt) where
     unfolding head_of check_words
     within_checked y k e =
         record {
-          ticks = check_within (head_of ws) q m t z b a (dealt_of ws' r) y (head_of ws') k.becomes (ap (dealt_of ws') e);
+          ticks = check_within (head_of ws) q m t z b a (outcome_of ws' r) y (head_of ws') k.becomes (ap (outcome_of ws') e);
           words = k.words ∙ sym (ap₂ checked z (sym a ∙ y));
         }
 
 -- what stands after the heartbeats
-module _ (ws q m : List ℕ) (t : ℕ) (r : Dealt) where
+module _ (ws q m : List ℕ) (t : ℕ) (r : PhaseOutcome) where
   -- the contract
   abbrev pub PassesIn : List ℕ → List ℕ → List ℕ → Type 0
   PassesIn ws' q' m' =
@@ -138,7 +139,7 @@ module _ (ws q m : List ℕ) (t : ℕ) (r : Dealt) where
     unfolding head_of
     none_passes y e =
         record {
-          ticks = none_stands (head_of ws) q m t (dealt_of ws r) z b a y (ap (dealt_of ws) e);
+          ticks = none_stands (head_of ws) q m t (outcome_of ws r) z b a y (ap (outcome_of ws) e);
           words = sym (none_there false y);
         }
 
@@ -146,7 +147,7 @@ module _ (ws q m : List ℕ) (t : ℕ) (r : Dealt) where
     unfolding head_of
     basic_passes y ws' k e =
         record {
-          ticks = basic_set (head_of ws) q m t (dealt_of ws' r) z b a y (head_of ws') k.becomes (ap (dealt_of ws') e);
+          ticks = basic_set (head_of ws) q m t (outcome_of ws' r) z b a y (head_of ws') k.becomes (ap (outcome_of ws') e);
           words = k.words ∙ sym (none_there true y);
         }
 
@@ -159,7 +160,7 @@ module _ (ws q m : List ℕ) (t : ℕ) (r : Dealt) where
     unfolding head_of
     ahead_passes y e =
         record {
-          ticks = not_passed (head_of ws) q m t (dealt_of ws r) d z y (ap (dealt_of ws) e);
+          ticks = not_passed (head_of ws) q m t (outcome_of ws r) d z y (ap (outcome_of ws) e);
           words = sym (there false (lt-leb d t y));
         }
 
@@ -174,7 +175,7 @@ module _ (ws q m : List ℕ) (t : ℕ) (r : Dealt) where
       unfolding head_of
       idle_passes x n e =
           record {
-            ticks = passed_idle (head_of ws) q m t (dealt_of ws' r) d z y (head_of ws₁) k.becomes b a x (head_of ws') n.becomes (ap (dealt_of ws') e);
+            ticks = passed_idle (head_of ws) q m t (outcome_of ws' r) d z y (head_of ws₁) k.becomes b a x (head_of ws') n.becomes (ap (outcome_of ws') e);
             words = n.words ∙ sym (used_up_lem true x);
           }
 
@@ -183,6 +184,6 @@ module _ (ws q m : List ℕ) (t : ℕ) (r : Dealt) where
       unfolding head_of
       check_passes x q' m' w =
           record {
-            ticks = passed_check (head_of ws) q m t (dealt_of ws' r) d z y (head_of ws₁) k.becomes b a x q' m' w.ticks;
+            ticks = passed_check (head_of ws) q m t (outcome_of ws' r) d z y (head_of ws₁) k.becomes b a x q' m' w.ticks;
             words = w.words ∙ sym (used_up_lem false x);
           }

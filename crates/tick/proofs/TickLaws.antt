@@ -27,10 +27,11 @@ use Rattle.entries.proofs.Lists.{kept_exactly, waiting_pushed, pushed_capacity, 
 use Rattle.head.specs.Head.{Head, of_parts}
 use Rattle.node.specs.Plain.{Plain}
 use Rattle.node.specs.Steps.{plain_of, with_errors}
-use Rattle.node.specs.Tick.{Ticked, acts, dealt, deal_by, deal, deal_all, goes_on, behind, one_more, signalled, event_in_tick, statistics, counter1, kept, dropped_one, queued}
+use Rattle.node.specs.Phases.{Ticked, acts, on_handled, goes_on, behind, one_more, signalled, event_in_tick}
+use Rattle.node.specs.DllErrors.{on_dll_error_by, on_dll_error, on_dll_errors, statistics, counter1, kept, dropped_one, queued}
 use Rattle.node.specs.Refines.{plain, Becomes, Rings, rings, joins, joins_all}
-use Rattle.heartbeats.specs.Parts.{PartLeft, Finishes, Ticks, is_quiet}
-use Rattle.heartbeats.proofs.PartLaws.{Quiet, handled_quiet, quiet_crosses, Alike}
+use Rattle.phases.specs.Parts.{PartLeft, Finishes, Ticks, is_quiet}
+use Rattle.phases.proofs.PartLaws.{Quiet, handled_quiet, quiet_crosses, Alike}
 
 -- where an entry is dropped, no byte is written
 dropped_bytes : (q : List ℕ) (k : EmergencyQueue) (e : ErrorEntry) → (pushed k).kept ≡ false → pushed_bytes q k e ≡ q
@@ -114,14 +115,14 @@ module _ (h : Head) (q m : List ℕ) (e : DllError) (t : ℕ) (quiet : is_quiet 
   crossed : r.signal ≡ crosses h.errors e
   crossed = ap (λ (r : HandledError). r.signal) e₁ ∙ quiet_crosses h.errors e quiet
 
-  by_handled : deal t p₀ e ≡ deal_by p₀ ms r.signal (crossing_entry e t) r
-  unfolding deal
-  by_handled = ap₂ (λ (b : Bool) (r : HandledError). deal_by p₀ ms b (crossing_entry e t) r) (sym crossed) (sym e₁)
+  by_handled : on_dll_error t p₀ e ≡ on_dll_error_by p₀ ms r.signal (crossing_entry e t) r
+  unfolding on_dll_error
+  by_handled = ap₂ (λ (b : Bool) (r : HandledError). on_dll_error_by p₀ ms b (crossing_entry e t) r) (sym crossed) (sym e₁)
 
-  module _ (g : Head) (q' m' : List ℕ) (b : Bool) (cs : List ErrorEntry) (p : Plain) (s : deal_by p₀ ms r.signal (crossing_entry e t) r ≡ dealt r ms ms cs p) (x : plain g q' m' ≡ p) (j : rings g q' m' ≡ joins_all (rings h q m) cs) where
-    deal_ends : (a : Bool) → a ≡ acts r.action → (f : PartLeft) → Finishes g r.logged a f → Ticks h q m (deal t p₀ e) f q' m'
-    deal_ends a d f k =
-        let k' : deal t p₀ e ≡ dealt r ms ms cs p = by_handled ∙ s in
+  module _ (g : Head) (q' m' : List ℕ) (b : Bool) (cs : List ErrorEntry) (p : Plain) (s : on_dll_error_by p₀ ms r.signal (crossing_entry e t) r ≡ on_handled r ms ms cs p) (x : plain g q' m' ≡ p) (j : rings g q' m' ≡ joins_all (rings h q m) cs) where
+    on_dll_error_ends : (a : Bool) → a ≡ acts r.action → (f : PartLeft) → Finishes g r.logged a f → Ticks h q m (on_dll_error t p₀ e) f q' m'
+    on_dll_error_ends a d f k =
+        let k' : on_dll_error t p₀ e ≡ on_handled r ms ms cs p = by_handled ∙ s in
         record {
           head =
               k.head q' m'
@@ -136,23 +137,23 @@ module _ (h : Head) (q m : List ℕ) (e : DllError) (t : ℕ) (quiet : is_quiet 
         }
 
   module _ (c : Head) (d : Becomes h (λ p. with_errors (counter1 p) r.counters) c) (a : Bool) (n : a ≡ acts r.action) (f : PartLeft) where
-    pub deal_unsignalled : r.signal ≡ false → Finishes c r.logged a f → Ticks h q m (deal t p₀ e) f q m
-    deal_unsignalled z k =
-        deal_ends c q m a [] (with_errors (counter1 p₀) r.counters)
-        (ap (λ (b : Bool). dealt r ms ms (pick b (crossing_entry e t ∷ []) []) (pick b (queued (signalled (with_errors (counter1 p₀) r.counters)) (crossing_entry e t)) (with_errors (counter1 p₀) r.counters))) z)
+    pub on_dll_error_unsignalled : r.signal ≡ false → Finishes c r.logged a f → Ticks h q m (on_dll_error t p₀ e) f q m
+    on_dll_error_unsignalled z k =
+        on_dll_error_ends c q m a [] (with_errors (counter1 p₀) r.counters)
+        (ap (λ (b : Bool). on_handled r ms ms (pick b (crossing_entry e t ∷ []) []) (pick b (queued (signalled (with_errors (counter1 p₀) r.counters)) (crossing_entry e t)) (with_errors (counter1 p₀) r.counters))) z)
         (d.0 q m) (λ i. record { queue = d.1.queue i; queue_bytes = q; history = d.1.history i; history_bytes = m }) a n f k
 
-    pub deal_signalled :
+    pub on_dll_error_signalled :
         r.signal ≡ true →
         (s : Head) →
         Becomes c signalled s →
         (g : Head) (q' m' : List ℕ) →
         (plain g q' m' ≡ queued (plain s q m) (crossing_entry e t)) × (rings g q' m' ≡ joins (rings s q m) (crossing_entry e t)) →
         Finishes g r.logged a f →
-        Ticks h q m (deal t p₀ e) f q' m'
-    deal_signalled z s u g q' m' v k =
-        deal_ends g q' m' a (crossing_entry e t ∷ []) (queued (signalled (with_errors (counter1 p₀) r.counters)) (crossing_entry e t))
-        (ap (λ (b : Bool). dealt r ms ms (pick b (crossing_entry e t ∷ []) []) (pick b (queued (signalled (with_errors (counter1 p₀) r.counters)) (crossing_entry e t)) (with_errors (counter1 p₀) r.counters))) z)
+        Ticks h q m (on_dll_error t p₀ e) f q' m'
+    on_dll_error_signalled z s u g q' m' v k =
+        on_dll_error_ends g q' m' a (crossing_entry e t ∷ []) (queued (signalled (with_errors (counter1 p₀) r.counters)) (crossing_entry e t))
+        (ap (λ (b : Bool). on_handled r ms ms (pick b (crossing_entry e t ∷ []) []) (pick b (queued (signalled (with_errors (counter1 p₀) r.counters)) (crossing_entry e t)) (with_errors (counter1 p₀) r.counters))) z)
         (v.0 ∙ ap (λ (p : Plain). queued p (crossing_entry e t)) (u.0 q m ∙ ap signalled (d.0 q m)))
         (v.1
         ∙ (λ i. joins (record { queue = u.1.queue i; queue_bytes = q; history = u.1.history i; history_bytes = m }) (crossing_entry e t))
@@ -161,25 +162,25 @@ module _ (h : Head) (q m : List ℕ) (e : DllError) (t : ℕ) (quiet : is_quiet 
 
 -- a quiet error that brings no action: the walk goes on from the head that it left, and nothing has
 -- joined
-module _ (t : ℕ) (p : Plain) (e : DllError) (q : is_quiet e ≡ true) (n : (deal t p e).ended ≡ false) where
+module _ (t : ℕ) (p : Plain) (e : DllError) (q : is_quiet e ≡ true) (n : (on_dll_error t p e).ended ≡ false) where
   quiet_handled : Quiet (handled p.errors e)
-  unfolding deal
+  unfolding on_dll_error
   quiet_handled = handled_quiet p.errors e q n
 
-  pub quiet_logged : (deal t p e).logged ≡ []
-  unfolding deal
+  pub quiet_logged : (on_dll_error t p e).logged ≡ []
+  unfolding on_dll_error
   quiet_logged = quiet_handled.logged
 
-  pub quiet_crossings : (deal t p e).crossings ≡ []
-  unfolding deal
+  pub quiet_crossings : (on_dll_error t p e).crossings ≡ []
+  unfolding on_dll_error
   quiet_crossings = ap (λ (b : Bool). pick b (crossing_entry e t ∷ []) []) (sym (quiet_crosses p.errors e q) ∙ quiet_handled.signal)
 
-  walk_on : (es : List DllError) → Alike (deal_all t p (e ∷ es)) (deal_all t (deal t p e).head es)
-  unfolding deal_all
+  walk_on : (es : List DllError) → Alike (on_dll_errors t p (e ∷ es)) (on_dll_errors t (on_dll_error t p e).head es)
+  unfolding on_dll_errors
   walk_on es =
-      let d = deal t p e in
-      let r = deal_all t d.head es in
-      let s : deal_all t p (e ∷ es) ≡ behind d r = ap (λ (b : Bool). pick b d (behind d r)) n in
+      let d = on_dll_error t p e in
+      let r = on_dll_errors t d.head es in
+      let s : on_dll_errors t p (e ∷ es) ≡ behind d r = ap (λ (b : Bool). pick b d (behind d r)) n in
       record {
         head = ap (λ (k : Ticked). k.head) s;
         logged = ap (λ (k : Ticked). k.logged) s ∙ ap (λ (l : List DllError). l ++ r.logged) quiet_logged;
@@ -187,25 +188,25 @@ module _ (t : ℕ) (p : Plain) (e : DllError) (q : is_quiet e ≡ true) (n : (de
         ended = ap (λ (k : Ticked). k.ended) s;
       }
 
-walk_ends : (t : ℕ) (p : Plain) (e : DllError) (es : List DllError) → (deal t p e).ended ≡ true → deal_all t p (e ∷ es) ≡ deal t p e
-unfolding deal_all
-walk_ends t p e es n = ap (λ (b : Bool). pick b (deal t p e) (behind (deal t p e) (deal_all t (deal t p e).head es))) n
+walk_ends : (t : ℕ) (p : Plain) (e : DllError) (es : List DllError) → (on_dll_error t p e).ended ≡ true → on_dll_errors t p (e ∷ es) ≡ on_dll_error t p e
+unfolding on_dll_errors
+walk_ends t p e es n = ap (λ (b : Bool). pick b (on_dll_error t p e) (behind (on_dll_error t p e) (on_dll_errors t (on_dll_error t p e).head es))) n
 
 -- the walk: no error, one that ends it, one behind which it goes on, and the last
-pub walk_none : (t : ℕ) (h : Head) (q m : List ℕ) → Ticks h q m (deal_all t (plain h q m) []) (record { head = h; logged = errors.None; ended = false }) q m
-unfolding deal_all
+pub walk_none : (t : ℕ) (h : Head) (q m : List ℕ) → Ticks h q m (on_dll_errors t (plain h q m) []) (record { head = h; logged = errors.None; ended = false }) q m
+unfolding on_dll_errors
 walk_none t h q m = record { head = refl; logged = refl; ended = refl; joined = refl }
 
-module _ (t : ℕ) (h : Head) (q m : List ℕ) (e : DllError) (r : PartLeft) (q' m' : List ℕ) (k : Ticks h q m (deal t (plain h q m) e) r q' m') where
+module _ (t : ℕ) (h : Head) (q m : List ℕ) (e : DllError) (r : PartLeft) (q' m' : List ℕ) (k : Ticks h q m (on_dll_error t (plain h q m) e) r q' m') where
   abbrev p : Plain
   p = plain h q m
 
   abbrev d : Ticked
-  d = deal t (plain h q m) e
+  d = on_dll_error t (plain h q m) e
 
-  pub walk_stops : (es : List DllError) → r.ended ≡ true → Ticks h q m (deal_all t (plain h q m) (e ∷ es)) r q' m'
+  pub walk_stops : (es : List DllError) → r.ended ≡ true → Ticks h q m (on_dll_errors t (plain h q m) (e ∷ es)) r q' m'
   walk_stops es y =
-      let s : deal_all t p (e ∷ es) ≡ d = walk_ends t p e es (sym k.ended ∙ y) in
+      let s : on_dll_errors t p (e ∷ es) ≡ d = walk_ends t p e es (sym k.ended ∙ y) in
       record {
         head = k.head ∙ sym (ap (λ (k : Ticked). k.head) s);
         logged = k.logged ∙ sym (ap (λ (k : Ticked). k.logged) s);
@@ -217,30 +218,30 @@ module _ (t : ℕ) (h : Head) (q m : List ℕ) (e : DllError) (r : PartLeft) (q'
       is_quiet e ≡ true →
       r.ended ≡ false →
       (es : List DllError) (r' : PartLeft) (q'' m'' : List ℕ) →
-      Ticks r.head q' m' (deal_all t (plain r.head q' m') es) r' q'' m'' →
-      Ticks h q m (deal_all t (plain h q m) (e ∷ es)) r' q'' m''
+      Ticks r.head q' m' (on_dll_errors t (plain r.head q' m') es) r' q'' m'' →
+      Ticks h q m (on_dll_errors t (plain h q m) (e ∷ es)) r' q'' m''
   walk_goes_on c y es r' q'' m'' w =
-      let n : (deal t p e).ended ≡ false = sym k.ended ∙ y in
+      let n : (on_dll_error t p e).ended ≡ false = sym k.ended ∙ y in
       let a = walk_on t p e c n es in
       record {
-        head = w.head ∙ ap (λ (p : Plain). (deal_all t p es).head) k.head ∙ sym a.head;
-        logged = w.logged ∙ ap (λ (p : Plain). (deal_all t p es).logged) k.head ∙ sym a.logged;
-        ended = w.ended ∙ ap (λ (p : Plain). (deal_all t p es).ended) k.head ∙ sym a.ended;
+        head = w.head ∙ ap (λ (p : Plain). (on_dll_errors t p es).head) k.head ∙ sym a.head;
+        logged = w.logged ∙ ap (λ (p : Plain). (on_dll_errors t p es).logged) k.head ∙ sym a.logged;
+        ended = w.ended ∙ ap (λ (p : Plain). (on_dll_errors t p es).ended) k.head ∙ sym a.ended;
         joined =
             w.joined
-            ∙ ap (λ (g : Rings). joins_all g (deal_all t (plain r.head q' m') es).crossings) (k.joined ∙ ap (joins_all (rings h q m)) (quiet_crossings t p e c n))
-            ∙ ap (λ (p : Plain). joins_all (rings h q m) (deal_all t p es).crossings) k.head
+            ∙ ap (λ (g : Rings). joins_all g (on_dll_errors t (plain r.head q' m') es).crossings) (k.joined ∙ ap (joins_all (rings h q m)) (quiet_crossings t p e c n))
+            ∙ ap (λ (p : Plain). joins_all (rings h q m) (on_dll_errors t p es).crossings) k.head
             ∙ sym (ap (joins_all (rings h q m)) a.crossings);
       }
 
-  pub walk_last : Ticks h q m (deal_all t (plain h q m) (e ∷ [])) r q' m'
-  unfolding deal_all
+  pub walk_last : Ticks h q m (on_dll_errors t (plain h q m) (e ∷ [])) r q' m'
+  unfolding on_dll_errors
   walk_last = by r.ended refl
     where
-      by : (b : Bool) → r.ended ≡ b → Ticks h q m (deal_all t (plain h q m) (e ∷ [])) r q' m'
+      by : (b : Bool) → r.ended ≡ b → Ticks h q m (on_dll_errors t (plain h q m) (e ∷ [])) r q' m'
       by true y = walk_stops [] y
       by false y =
-          let s : deal_all t p (e ∷ []) ≡ behind d (goes_on d.head) = ap (λ (b : Bool). pick b d (behind d (goes_on d.head))) (sym k.ended ∙ y) in
+          let s : on_dll_errors t p (e ∷ []) ≡ behind d (goes_on d.head) = ap (λ (b : Bool). pick b d (behind d (goes_on d.head))) (sym k.ended ∙ y) in
           record {
             head = k.head ∙ sym (ap (λ (k : Ticked). k.head) s);
             logged = k.logged ∙ sym (append-nil d.logged) ∙ sym (ap (λ (k : Ticked). k.logged) s);

@@ -15,40 +15,43 @@ use Rattle.watched.specs.Watched.{in_time, Run, watching, well_lent, changing}
 use Rattle.node.specs.Plain.{Plain, tick, Answer, refused, tick_answer, Step}
 use Rattle.node.specs.Steps.{earliest, up_to_date, declines}
 use Rattle.watched.specs.Nodes.{not_before}
-use Rattle.node.specs.Tick.{Ticked, goes_on, behind, checks_heartbeats, looked, late_ones, beat, beat_all, timeout_of, by_deadline, tick_taken, tick_answered, looked_at}
+use Rattle.node.specs.Phases.{Ticked, goes_on, behind}
+use Rattle.node.specs.Heartbeats.{checks_heartbeats, refreshed, late_ones, on_late, on_late_all, timeout_of, refreshed_at}
+use Rattle.node.specs.Deadline.{by_deadline}
+use Rattle.node.specs.Tick.{tick_taken, tick_answered}
 use Rattle.node.specs.Run.{step}
 use Rattle.node.specs.Refines.{plain, left, rings, joins_all, Refines}
-use Rattle.heartbeats.specs.Parts.{PartLeft, Ticks}
+use Rattle.phases.specs.Parts.{PartLeft, Ticks}
 use Rattle.node.proofs.Laws.{refined}
-use Rattle.heartbeats.proofs.PartLaws.{handled_quiet}
+use Rattle.phases.proofs.PartLaws.{handled_quiet}
 use Rattle.tick.proofs.DeadlineLaws.{ticks_as}
 
 -- heartbeats that end nothing log nothing, and none has an entry
-beat_quiet : (p : Plain) (w : WatchedNode) → (beat p w).ended ≡ false → (beat p w).logged ≡ []
-unfolding beat
-beat_quiet p w e = (handled_quiet p.errors (timeout_of w) refl e).logged
+on_late_quiet : (p : Plain) (w : WatchedNode) → (on_late p w).ended ≡ false → (on_late p w).logged ≡ []
+unfolding on_late
+on_late_quiet p w e = (handled_quiet p.errors (timeout_of w) refl e).logged
 
-beats_quiet : (p : Plain) (ws : List WatchedNode) → (beat_all p ws).ended ≡ false → (beat_all p ws).logged ≡ []
-unfolding beat_all
-beats_quiet p [] e = refl
-beats_quiet p (w ∷ ws) e = by (beat p w).ended refl (beats_quiet (beat p w).head ws) e
+late_errors_quiet : (p : Plain) (ws : List WatchedNode) → (on_late_all p ws).ended ≡ false → (on_late_all p ws).logged ≡ []
+unfolding on_late_all
+late_errors_quiet p [] e = refl
+late_errors_quiet p (w ∷ ws) e = by (on_late p w).ended refl (late_errors_quiet (on_late p w).head ws) e
   where
     by :
-        (b : Bool) → (beat p w).ended ≡ b →
-        ((beat_all (beat p w).head ws).ended ≡ false → (beat_all (beat p w).head ws).logged ≡ []) →
-        (pick b (beat p w) (behind (beat p w) (beat_all (beat p w).head ws))).ended ≡ false →
-        (pick b (beat p w) (behind (beat p w) (beat_all (beat p w).head ws))).logged ≡ []
+        (b : Bool) → (on_late p w).ended ≡ b →
+        ((on_late_all (on_late p w).head ws).ended ≡ false → (on_late_all (on_late p w).head ws).logged ≡ []) →
+        (pick b (on_late p w) (behind (on_late p w) (on_late_all (on_late p w).head ws))).ended ≡ false →
+        (pick b (on_late p w) (behind (on_late p w) (on_late_all (on_late p w).head ws))).logged ≡ []
     by true d more z = absurd (true≢false (sym d ∙ z))
-    by false d more z = ap₂ ◌++◌ (beat_quiet p w d) (more z)
+    by false d more z = ap₂ ◌++◌ (on_late_quiet p w d) (more z)
 
-beats_no_entry : (p : Plain) (ws : List WatchedNode) → (beat_all p ws).crossings ≡ []
-unfolding beat_all beat
-beats_no_entry p [] = refl
-beats_no_entry p (w ∷ ws) = by (beat p w).ended (beats_no_entry (beat p w).head ws)
+late_errors_no_entry : (p : Plain) (ws : List WatchedNode) → (on_late_all p ws).crossings ≡ []
+unfolding on_late_all on_late
+late_errors_no_entry p [] = refl
+late_errors_no_entry p (w ∷ ws) = by (on_late p w).ended (late_errors_no_entry (on_late p w).head ws)
   where
     by :
-        (b : Bool) → (beat_all (beat p w).head ws).crossings ≡ [] →
-        (pick b (beat p w) (behind (beat p w) (beat_all (beat p w).head ws))).crossings ≡ []
+        (b : Bool) → (on_late_all (on_late p w).head ws).crossings ≡ [] →
+        (pick b (on_late p w) (behind (on_late p w) (on_late_all (on_late p w).head ws))).crossings ≡ []
     by true more = refl
     by false more = more
 
@@ -64,7 +67,7 @@ module _ (h : Head) (q m : List ℕ) (t : ℕ) (ws : List WatchedNode) where
   after b = pick b.ended b (behind b (by_deadline b.head t b.head.soc.next_tick_us))
 
   abbrev by_state : Bool → Ticked
-  by_state c = after (pick c (beat_all p late) (goes_on p))
+  by_state c = after (pick c (on_late_all p late) (goes_on p))
 
   pub tick_idle :
       checks_heartbeats h.nmt.current_state ≡ false →
@@ -74,18 +77,18 @@ module _ (h : Head) (q m : List ℕ) (t : ℕ) (ws : List WatchedNode) where
   unfolding tick_taken
   tick_idle z d q' m' w = ticks_as (by_deadline p t h.soc.next_tick_us) (tick_taken p t ws) (ap by_state z) w
 
-  module _ (z : checks_heartbeats h.nmt.current_state ≡ true) (d : PartLeft) (w : Ticks h q m (beat_all p late) d q m) where
+  module _ (z : checks_heartbeats h.nmt.current_state ≡ true) (d : PartLeft) (w : Ticks h q m (on_late_all p late) d q m) where
     pub tick_ended : d.ended ≡ true → Ticks h q m (tick_taken p t ws) d q m
     unfolding tick_taken
     tick_ended y =
-        ticks_as (beat_all p late) (tick_taken p t ws)
+        ticks_as (on_late_all p late) (tick_taken p t ws)
         (ap by_state z
-        ∙ ap (λ (b : Bool). pick b (beat_all p late) (behind (beat_all p late) (by_deadline (beat_all p late).head t (beat_all p late).head.soc.next_tick_us))) (sym w.ended ∙ y))
+        ∙ ap (λ (b : Bool). pick b (on_late_all p late) (behind (on_late_all p late) (by_deadline (on_late_all p late).head t (on_late_all p late).head.soc.next_tick_us))) (sym w.ended ∙ y))
         w
 
     module _ (y : d.ended ≡ false) (r : PartLeft) (q' m' : List ℕ) where
       abbrev b₀ : Ticked
-      b₀ = beat_all p late
+      b₀ = on_late_all p late
 
       abbrev rest : Plain → Ticked
       rest g = by_deadline g t g.soc.next_tick_us
@@ -103,12 +106,12 @@ module _ (h : Head) (q m : List ℕ) (t : ℕ) (ws : List WatchedNode) where
             head = k.head ∙ ap (λ (g : Plain). (rest g).head) w.head;
             logged =
                 k.logged ∙ ap (λ (g : Plain). (rest g).logged) w.head
-                ∙ sym (ap (λ (l : List DllError). l ++ (rest b₀.head).logged) (beats_quiet p late (sym w.ended ∙ y)));
+                ∙ sym (ap (λ (l : List DllError). l ++ (rest b₀.head).logged) (late_errors_quiet p late (sym w.ended ∙ y)));
             ended = k.ended ∙ ap (λ (g : Plain). (rest g).ended) w.head;
             joined =
                 k.joined
-                ∙ ap₂ joins_all (w.joined ∙ ap (joins_all (rings h q m)) (beats_no_entry p late)) (ap (λ (g : Plain). (rest g).crossings) w.head)
-                ∙ ap (joins_all (rings h q m)) (sym (ap (λ (l : List ErrorEntry). l ++ (rest b₀.head).crossings) (beats_no_entry p late)));
+                ∙ ap₂ joins_all (w.joined ∙ ap (joins_all (rings h q m)) (late_errors_no_entry p late)) (ap (λ (g : Plain). (rest g).crossings) w.head)
+                ∙ ap (joins_all (rings h q m)) (sym (ap (λ (l : List ErrorEntry). l ++ (rest b₀.head).crossings) (late_errors_no_entry p late)));
           })
 
 -- the tick as a call: its refusals, and what is taken, whatever form the run has
@@ -141,17 +144,17 @@ module _ (h : Head) (q m : List ℕ) (r : Run) (t : ℕ) where
     pub tick_before : pick checks (all_of (not_before t) (watching r)) true ≡ false → TickLeft (refused 6) h q m r
     tick_before d = tick_declined 6 (rw (a, b, d))
 
-    -- from the phases, and the look at the nodes
+    -- from the phases, and the check of the nodes
     pub tick_accepted :
         pick checks (all_of (not_before t) (watching r)) true ≡ true →
         (d : PartLeft) (q' m' : List ℕ) →
         Ticks h q m (tick_taken p₀ t (watching r)) d q' m' →
         (l : Run) →
-        l ≡ pick checks (changing (map (looked t)) r) r →
+        l ≡ pick checks (changing (map (refreshed t)) r) r →
         TickLeft (tick_answer (reported d.logged)) (head_with_earliest d.head (earliest (watching l))) q' m' l
     tick_accepted f d q' m' w l n =
-        let s : step p₀ (tick t r) ≡ tick_answered (tick_taken p₀ t (watching r)) (looked_at p₀ t r) = rw (a, b, f) in (
-          refined h q m (tick t r) _ q' m' l (tick_answered (tick_taken p₀ t (watching r)) (looked_at p₀ t r)) s
+        let s : step p₀ (tick t r) ≡ tick_answered (tick_taken p₀ t (watching r)) (refreshed_at p₀ t r) = rw (a, b, f) in (
+          refined h q m (tick t r) _ q' m' l (tick_answered (tick_taken p₀ t (watching r)) (refreshed_at p₀ t r)) s
               (λ i. up_to_date (w.head i) (n i)) (ap tick_answer w.logged) n,
           w.joined ∙ sym (ap (λ (k : Step). joins_all (rings h q m) k.crossings) s),
         )

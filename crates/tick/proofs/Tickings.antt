@@ -27,9 +27,12 @@ use Rattle.node.proofs.Moments.{moment_of_lem, all_fit}
 use Rattle.types.specs.declared.refusals.Refusal.TheVariants.{WatchedNodes, TimeLimit, BeforeHeard}
 use Rattle.watched.specs.declared.nodes.WatchedNode.{WatchedNode}
 use Rattle.watched.specs.Watched.{in_time, well_formed, watched_of, Run, run, watching, well_lent, changing}
-use Rattle.node.specs.Tick.{Ticked, goes_on, behind, checks_heartbeats, looked, late_ones, beat_all, by_deadline, tick_taken, tick_answered, looked_at}
+use Rattle.node.specs.Phases.{Ticked, goes_on, behind}
+use Rattle.node.specs.Heartbeats.{checks_heartbeats, refreshed, late_ones, on_late_all, refreshed_at}
+use Rattle.node.specs.Deadline.{by_deadline}
+use Rattle.node.specs.Tick.{tick_taken, tick_answered}
 use Rattle.node.specs.Refines.{plain, rings, joins_all}
-use Rattle.heartbeats.specs.Parts.{looked_first}
+use Rattle.heartbeats.specs.Words.{refreshed_first, on_late_all_words, refreshed_words}
 use Rattle.watched.proofs.Lists.{each_nodes}
 use Rattle.tick.proofs.TickRefines.{tick_idle, tick_ended, tick_goes_on, TickLeft, tick_unformed, tick_late, tick_before, tick_accepted}
 use Rattle.head.specs.Words.{nmt_of, soc_of, head_of}
@@ -37,14 +40,13 @@ use Rattle.watched.specs.Nodes.{nodes_of, rests, not_before, never, soonest, mom
 use Rattle.types.specs.declared.nmt.states.NmtState.{NmtState}
 use Rattle.watched.specs.declared.nodes.Seen.{Seen}
 use Rattle.watched.specs.declared.nodes.Seen.TheVariants as seen
-use Rattle.watched.proofs.Watching.{places, few, lent_words, lent_inside, seen_unformed, seen_roused, seen_resting}
-use Rattle.heartbeats.specs.declared.dealt.Dealt.{Dealt}
-use Rattle.heartbeats.specs.PartWords.{beat_all_words, looked_words}
+use Rattle.watched.proofs.Watching.{places, few, lent_words, lent_inside, seen_unformed, seen_active, seen_resting}
+use Rattle.phases.specs.declared.PhaseOutcome.{PhaseOutcome}
 use Rattle.tick.specs.TickWords.{rest_words, tick_words}
-use Rattle.heartbeats.specs.PartsIn.{dealt_of, TicksIn}
+use Rattle.phases.specs.PartsIn.{outcome_of, TicksIn}
 use Rattle.node.specs.InPlace.{unless_refused}
-use Rattle.tick.specs.TickIn.{is_still, roused_of, TickedOn, TickedIn, still_answered, still_step, StillTicks}
-use Rattle.heartbeats.proofs.Beatings.{all_looked_fit, rest_before, rest_late, rest_words_lem, rest_run}
+use Rattle.tick.specs.TickIn.{is_still, active_of, TickedOn, TickedIn, still_answered, still_step, StillTicks}
+use Rattle.heartbeats.proofs.LateWalk.{all_refreshed_fit, rest_before, rest_late, rest_words_lem, rest_run}
 
 -- what a first look that saw something says, and one that saw nothing
 module _ (a : Option Seen) (y : Result Seen Refusal) (e : y ≡ ok_or a WatchedNodes) where
@@ -71,50 +73,50 @@ module _ (ws q m : List ℕ) (t : ℕ) (vs : List WatchedNode) where
   R = all_of (rests t) vs
 
   abbrev B : List ℕ
-  B = beat_all_words ws (late_ones t vs)
+  B = on_late_all_words ws (late_ones t vs)
 
-  abbrev beaten : Bool → List ℕ
-  beaten ended = pick ended B (rest_words B q m t)
+  abbrev count_late : Bool → List ℕ
+  count_late ended = pick ended B (rest_words B q m t)
 
   abbrev over : Bool
-  over = (beat_all (plain (head_of ws) q m) (late_ones t vs)).ended
+  over = (on_late_all (plain (head_of ws) q m) (late_ones t vs)).ended
 
-  by_state_lem : (b : Bool) → C ≡ b → tick_words ws q m t vs ≡ pick b (beaten over) (rest_words ws q m t)
+  by_state_lem : (b : Bool) → C ≡ b → tick_words ws q m t vs ≡ pick b (count_late over) (rest_words ws q m t)
   unfolding tick_words
-  by_state_lem b e = ap (λ (b : Bool). pick b (beaten over) (rest_words ws q m t)) e
+  by_state_lem b e = ap (λ (b : Bool). pick b (count_late over) (rest_words ws q m t)) e
 
   pub idle :
-      C ≡ false → (d : Dealt) (ws' q' m' : List ℕ) →
+      C ≡ false → (d : PhaseOutcome) (ws' q' m' : List ℕ) →
       TicksIn ws q m (by_deadline (plain (head_of ws) q m) t (soc_of ws).next_tick_us) d ws' q' m' (rest_words ws q m t) →
       TicksIn ws q m (tick_taken (plain (head_of ws) q m) t vs) d ws' q' m' (tick_words ws q m t vs)
   unfolding head_of
   idle e d ws' q' m' w =
-      record { ticks = tick_idle (head_of ws) q m t vs e (dealt_of ws' d) q' m' w.ticks; words = w.words ∙ sym (by_state_lem false e) }
+      record { ticks = tick_idle (head_of ws) q m t vs e (outcome_of ws' d) q' m' w.ticks; words = w.words ∙ sym (by_state_lem false e) }
 
-  module _ (e : C ≡ true) (d : Dealt) (ws₁ : List ℕ) (w : TicksIn ws q m (beat_all (plain (head_of ws) q m) (late_ones t vs)) d ws₁ q m B) where
-    goes : (b : Bool) → d.ended ≡ b → tick_words ws q m t vs ≡ beaten b
-    goes b y = by_state_lem true e ∙ ap beaten (sym w.ticks.ended ∙ y)
+  module _ (e : C ≡ true) (d : PhaseOutcome) (ws₁ : List ℕ) (w : TicksIn ws q m (on_late_all (plain (head_of ws) q m) (late_ones t vs)) d ws₁ q m B) where
+    goes : (b : Bool) → d.ended ≡ b → tick_words ws q m t vs ≡ count_late b
+    goes b y = by_state_lem true e ∙ ap count_late (sym w.ticks.ended ∙ y)
 
-    pub beats_end : d.ended ≡ true → TicksIn ws q m (tick_taken (plain (head_of ws) q m) t vs) d ws₁ q m (tick_words ws q m t vs)
+    pub late_errors_end : d.ended ≡ true → TicksIn ws q m (tick_taken (plain (head_of ws) q m) t vs) d ws₁ q m (tick_words ws q m t vs)
     unfolding head_of
-    beats_end y =
-        record { ticks = tick_ended (head_of ws) q m t vs e (dealt_of ws₁ d) w.ticks y; words = w.words ∙ sym (goes true y) }
+    late_errors_end y =
+        record { ticks = tick_ended (head_of ws) q m t vs e (outcome_of ws₁ d) w.ticks y; words = w.words ∙ sym (goes true y) }
 
-    pub beats_go_on :
-        d.ended ≡ false → (r : Dealt) (ws' q' m' : List ℕ) →
+    pub late_errors_go_on :
+        d.ended ≡ false → (r : PhaseOutcome) (ws' q' m' : List ℕ) →
         TicksIn ws₁ q m (by_deadline (plain (head_of ws₁) q m) t (soc_of ws₁).next_tick_us) r ws' q' m' (rest_words ws₁ q m t) →
         TicksIn ws q m (tick_taken (plain (head_of ws) q m) t vs) r ws' q' m' (tick_words ws q m t vs)
     unfolding head_of
-    beats_go_on y r ws' q' m' k =
+    late_errors_go_on y r ws' q' m' k =
         record {
-          ticks = tick_goes_on (head_of ws) q m t vs e (dealt_of ws₁ d) w.ticks y (dealt_of ws' r) q' m' k.ticks;
+          ticks = tick_goes_on (head_of ws) q m t vs e (outcome_of ws₁ d) w.ticks y (outcome_of ws' r) q' m' k.ticks;
           words = k.words ∙ ap (λ (l : List ℕ). rest_words l q m t) w.words ∙ sym (goes false y);
         }
 
   -- no node asks for anything: nothing comes of the heartbeats
   module _ (still : is_still C t vs ≡ true) where
     pub still_taken : tick_taken (plain (head_of ws) q m) t vs ≡ by_deadline (plain (head_of ws) q m) t (soc_of ws).next_tick_us
-    unfolding head_of tick_taken beat_all
+    unfolding head_of tick_taken on_late_all
     still_taken = by C refl still
       where
         p : Plain
@@ -124,13 +126,13 @@ module _ (ws q m : List ℕ) (t : ℕ) (vs : List WatchedNode) where
         after b = pick b.ended b (behind b (by_deadline b.head t b.head.soc.next_tick_us))
 
         by : (a : Bool) → C ≡ a → pick a R true ≡ true → tick_taken p t vs ≡ by_deadline p t (soc_of ws).next_tick_us
-        by false x y = ap (λ (c : Bool). after (pick c (beat_all p (late_ones t vs)) (goes_on p))) x
+        by false x y = ap (λ (c : Bool). after (pick c (on_late_all p (late_ones t vs)) (goes_on p))) x
         by true x y =
-            ap (λ (c : Bool). after (pick c (beat_all p (late_ones t vs)) (goes_on p))) x
-            ∙ ap (λ (l : List WatchedNode). after (beat_all p l)) (rest_late t vs y)
+            ap (λ (c : Bool). after (pick c (on_late_all p (late_ones t vs)) (goes_on p))) x
+            ∙ ap (λ (l : List WatchedNode). after (on_late_all p l)) (rest_late t vs y)
 
     pub still_words : tick_words ws q m t vs ≡ rest_words ws q m t
-    unfolding beat_all beat_all_words
+    unfolding on_late_all on_late_all_words
     still_words = by C refl still
       where
         by : (a : Bool) → C ≡ a → pick a R true ≡ true → tick_words ws q m t vs ≡ rest_words ws q m t
@@ -139,7 +141,7 @@ module _ (ws q m : List ℕ) (t : ℕ) (vs : List WatchedNode) where
             by_state_lem true x
             ∙ ap
             (λ (l : List WatchedNode).
-            pick (beat_all (plain (head_of ws) q m) l).ended (beat_all_words ws l) (rest_words (beat_all_words ws l) q m t))
+            pick (on_late_all (plain (head_of ws) q m) l).ended (on_late_all_words ws l) (rest_words (on_late_all_words ws l) q m t))
             (rest_late t vs y)
 
     -- a choice that is the same where all rest
@@ -173,11 +175,11 @@ module _ (ws q m : List ℕ) (r : Run) (t : ℕ) where
       -- from the phases, which left the words ws₁, the run l, and its earliest moment x
       pub run_accepted :
           pick checks (all_of (not_before t) (watching r)) true ≡ true →
-          (d : Dealt) (ws₁ q' m' : List ℕ) →
+          (d : PhaseOutcome) (ws₁ q' m' : List ℕ) →
           TicksIn ws q m (tick_taken (plain (head_of ws) q m) t (watching r)) d ws₁ q' m' (tick_words ws q m t (watching r)) →
           length ws₁ ≡ 60 →
           (l : Run) →
-          l ≡ pick checks (changing (map (looked t)) r) r →
+          l ≡ pick checks (changing (map (refreshed t)) r) r →
           (x : Option ℕ) →
           x ≡ earliest (watching l) →
           (ws' : List ℕ) →
@@ -185,7 +187,7 @@ module _ (ws q m : List ℕ) (r : Run) (t : ℕ) where
           TickedOn ws q m r t (Ok d.logged) ws' q' m' l
       unfolding head_of
       run_accepted f d ws₁ q' m' h long l n x e ws' w =
-          let k = tick_accepted (head_of ws) q m r t a b f (dealt_of ws₁ d) q' m' h.ticks l n in
+          let k = tick_accepted (head_of ws) q m r t a b f (outcome_of ws₁ d) q' m' h.ticks l n in
           let g : head_of ws' ≡ head_with_earliest (head_of ws₁) (earliest (watching l)) =
           ap head_of w ∙ earliest_written_lem ws₁ long x ∙ ap (head_with_earliest (head_of ws₁)) e in
           let y = subst (λ (g : Head). TickLeft (head_of ws) q m r t (tick_answer (reported d.logged)) g q' m' l) (sym g) k in
@@ -213,7 +215,7 @@ module _ (ws q m : List ℕ) (t : ℕ) (s : Option ℕ) where
       }
 
   pub still_accepted :
-      in_time t ≡ true → (d : Dealt) (ws₁ q' m' : List ℕ) →
+      in_time t ≡ true → (d : PhaseOutcome) (ws₁ q' m' : List ℕ) →
       TicksIn ws q m (by_deadline (plain (head_of ws) q m) t (soc_of ws).next_tick_us) d ws₁ q' m' (rest_words ws q m t) →
       length ws₁ ≡ 60 → (ws' : List ℕ) → ws' ≡ earliest_written ws₁ s → StillTicks ws q m t s (Ok d.logged) ws' q' m'
   unfolding head_of
@@ -242,15 +244,15 @@ module _ (ws q m : List ℕ) (t : ℕ) (s : Option ℕ) where
     unfolding head_of
     still_run = rw (a, still_times ws q m t (watching r) h) (by (in_time t))
       where
-        taken : tick_answered (tick_taken p₁ t (watching r)) (looked_at p₁ t r) ≡ on_run (still_answered K s)
+        taken : tick_answered (tick_taken p₁ t (watching r)) (refreshed_at p₁ t r) ≡ on_run (still_answered K s)
         taken =
             ap₂ tick_answered (still_taken ws q m t (watching r) h)
-            (sym (still_choice ws q m t (watching r) h (changing (map (looked t)) r) r (λ z. sym (rest_run t r (lent_inside r a) z))))
+            (sym (still_choice ws q m t (watching r) h (changing (map (refreshed t)) r) r (λ z. sym (rest_run t r (lent_inside r a) z))))
             ∙ ap (λ (x : Option ℕ). on_run (still_answered K x)) (sym moment)
 
         by :
             (b : Bool) →
-            pick b (tick_answered (tick_taken p₁ t (watching r)) (looked_at p₁ t r)) (declines p₁ r 5) ≡ on_run (chosen b)
+            pick b (tick_answered (tick_taken p₁ t (watching r)) (refreshed_at p₁ t r)) (declines p₁ r 5) ≡ on_run (chosen b)
         by true = taken
         by false = refl
 
@@ -276,7 +278,7 @@ module _ (ws q m ns : List ℕ) (k t : ℕ) where
   lent_run = run (nodes_of ns) k
 
   -- what the first look answers
-  module _ (c : Bool) (s : NmtState) (e : c ≡ checks_heartbeats s) (f : s ≡ (nmt_of ws).current_state) (a : Option Seen) (g : a ≡ roused_of c t vs) where
+  module _ (c : Bool) (s : NmtState) (e : c ≡ checks_heartbeats s) (f : s ≡ (nmt_of ws).current_state) (a : Option Seen) (g : a ≡ active_of c t vs) where
     same_checks : c ≡ checks_heartbeats (nmt_of ws).current_state
     same_checks = e ∙ ap checks_heartbeats f
 
@@ -287,10 +289,10 @@ module _ (ws q m ns : List ℕ) (k t : ℕ) where
           nodes = refl;
         }
 
-    pub is_roused :
-        (y : Bool) → a ≡ Some (seen.Roused y) → (well_formed vs ≡ true) × (checks_heartbeats (nmt_of ws).current_state ≡ true) × (y ≡ all_of (not_before t) vs)
-    is_roused y h =
-        let x = seen_roused (well_formed vs) (is_still c t vs) (all_of (not_before t) vs) (moment_of (soonest never vs)) a g y h in
+    pub is_active :
+        (y : Bool) → a ≡ Some (seen.Active y) → (well_formed vs ≡ true) × (checks_heartbeats (nmt_of ws).current_state ≡ true) × (y ≡ all_of (not_before t) vs)
+    is_active y h =
+        let x = seen_active (well_formed vs) (is_still c t vs) (all_of (not_before t) vs) (moment_of (soonest never vs)) a g y h in
         (x.0, sym same_checks ∙ by c x.1, x.2)
       where
         by : (c : Bool) → is_still c t vs ≡ false → c ≡ true
@@ -308,8 +310,8 @@ module _ (ws q m ns : List ℕ) (k t : ℕ) where
       where
         stay :
             (z : Result DllErrors Refusal) → is_still (checks_heartbeats (nmt_of ws).current_state) t vs ≡ true → k ≤ 32 →
-            ns ≡ unless_refused z ns (pick (checks_heartbeats (nmt_of ws).current_state) (looked_words t k ns) ns)
-        stay (Ok es) still below = still_choice ws q m t vs still (looked_words t k ns) ns (λ r. sym (rest_words_lem t ns k below r))
+            ns ≡ unless_refused z ns (pick (checks_heartbeats (nmt_of ws).current_state) (refreshed_words t k ns) ns)
+        stay (Ok es) still below = still_choice ws q m t vs still (refreshed_words t k ns) ns (λ r. sym (rest_words_lem t ns k below r))
         stay (Err r) still below = refl
 
   module _ (a : well_formed vs ≡ true) (c : checks_heartbeats (nmt_of ws).current_state ≡ true) where
@@ -328,22 +330,22 @@ module _ (ws q m ns : List ℕ) (k t : ℕ) where
 
       pub accepted :
           all_of (not_before t) vs ≡ true →
-          (d : Dealt) (ws₁ q' m' : List ℕ) →
+          (d : PhaseOutcome) (ws₁ q' m' : List ℕ) →
           TicksIn ws q m (tick_taken (plain (head_of ws) q m) t vs) d ws₁ q' m' (tick_words ws q m t vs) →
           length ws₁ ≡ 60 →
           (ns' : List ℕ) (x : Option ℕ) →
-          (ns' ≡ looked_words t k ns) × (nodes_of ns' ≡ looked_first t k (nodes_of ns)) × (x ≡ moment_of (soonest never (map (looked t) vs))) →
+          (ns' ≡ refreshed_words t k ns) × (nodes_of ns' ≡ refreshed_first t k (nodes_of ns)) × (x ≡ moment_of (soonest never (map (refreshed t) vs))) →
           (ws' : List ℕ) → ws' ≡ earliest_written ws₁ x →
           TickedIn ws q m ns k t (Ok d.logged) ws' q' m' ns'
       accepted f d ws₁ q' m' h long ns' x l ws' w =
           let below : k ≤ 32 = few ns k a in
-          let left : watched_of (nodes_of ns') k ≡ map (looked t) vs =
-          ap (λ (l : List WatchedNode). watched_of l k) l.1 ∙ each_nodes (nodes_of ns) k (places ns) below (looked t) in
+          let left : watched_of (nodes_of ns') k ≡ map (refreshed t) vs =
+          ap (λ (l : List WatchedNode). watched_of l k) l.1 ∙ each_nodes (nodes_of ns) k (places ns) below (refreshed t) in
           let moment : x ≡ earliest (watched_of (nodes_of ns') k) =
-          l.2 ∙ moment_of_lem (map (looked t) vs) (all_looked_fit t vs b (all_fit vs a)) ∙ ap earliest (sym left) in
+          l.2 ∙ moment_of_lem (map (refreshed t) vs) (all_refreshed_fit t vs b (all_fit vs a)) ∙ ap earliest (sym left) in
           record {
             on =
                 run_accepted ws q m lent_run t lent b (checked (all_of (not_before t) vs) true ∙ f) d ws₁ q' m' h long (run (nodes_of ns') k)
-                (ap (λ (l : List WatchedNode). run l k) l.1 ∙ sym (checked (changing (map (looked t)) lent_run) lent_run)) x moment ws' w;
-            nodes = l.0 ∙ sym (checked (looked_words t k ns) ns);
+                (ap (λ (l : List WatchedNode). run l k) l.1 ∙ sym (checked (changing (map (refreshed t)) lent_run) lent_run)) x moment ws' w;
+            nodes = l.0 ∙ sym (checked (refreshed_words t k ns) ns);
           }

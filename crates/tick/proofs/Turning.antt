@@ -17,17 +17,19 @@ use Rattle.head.specs.declared.state.Deadline.TheVariants.{At, Nothing}
 use Rattle.head.specs.declared.state.Statistic.TheVariants.{Counter1}
 use Rattle.head.specs.Head.{Head, soc_watch, of_parts, head_with_soc}
 use Rattle.node.specs.Steps.{with_soc, cycle_of, limit_of}
-use Rattle.node.specs.Tick.{check_off, with_deadline, event_in_tick, statistics, counter1, one_more, next_deadline, rescheduled, within_limit, sets_basic, times_out}
+use Rattle.node.specs.Phases.{check_off, event_in_tick, one_more}
+use Rattle.node.specs.DllErrors.{statistics, counter1}
+use Rattle.node.specs.Deadline.{with_deadline, next_deadline, rescheduled, within_limit, sets_basic, times_out}
 use Rattle.tick.proofs.DeadlineLaws.{resched_on, resched_off, within_none, within_ahead, within_late, basic_on, basic_none, timed_out_lem, never_out}
 use Rattle.head.specs.Places as at
 use Rattle.head.specs.Words.{word, time_of, soc_of, od_of, head_of}
 use Rattle.head.specs.Written.{deadline_written}
 use Rattle.head.proofs.Whole.{whole}
 use Rattle.head.proofs.Laws.{time_back, statistic_written}
-use Rattle.heartbeats.specs.PartWords.{event_words}
+use Rattle.phases.specs.PartWords.{event_words}
 use Rattle.tick.specs.TickWords.{unlent, rescheduled_words, limit_at, within_words, basic_words, timeout_words}
-use Rattle.heartbeats.specs.PartsIn.{Turns}
-use Rattle.heartbeats.proofs.Turns.{turned}
+use Rattle.phases.specs.PartsIn.{Turns}
+use Rattle.phases.proofs.Turns.{turned}
 
 abbrev OffRead : List ℕ → Type 0
 OffRead ws = head_of (set ws at.check 0) ≡ head_with_soc (head_of ws) (check_off (soc_of ws))

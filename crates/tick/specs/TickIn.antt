@@ -8,7 +8,9 @@ use Rattle.types.specs.declared.frame.error.types.DllErrors.{DllErrors}
 use Rattle.node.specs.Plain.{Plain, Call, Answer, tick_answer, Step}
 use Rattle.watched.specs.Watched.{in_time, well_formed, Run, run, watching}
 use Rattle.node.specs.Steps.{must, tried, with_earliest, no_run, declines, earliest}
-use Rattle.node.specs.Tick.{Ticked, checks_heartbeats, by_deadline}
+use Rattle.node.specs.Phases.{Ticked}
+use Rattle.node.specs.Heartbeats.{checks_heartbeats}
+use Rattle.node.specs.Deadline.{by_deadline}
 use Rattle.node.specs.Run.{step}
 use Rattle.node.specs.InPlace.{answered, unless_refused}
 use Rattle.node.specs.Refines.{plain, left, rings, joins_all, Refines}
@@ -23,7 +25,7 @@ use Rattle.std.specs.declared.option.Option.{Option}
 use Rattle.std.specs.declared.option.Option.TheVariants.{Some, None}
 use Rattle.std.specs.declared.result.Result.{Result}
 use Rattle.types.specs.declared.refusals.Refusal.{Refusal}
-use Rattle.heartbeats.specs.PartWords.{looked_words}
+use Rattle.heartbeats.specs.Words.{refreshed_words}
 use Rattle.tick.specs.TickWords.{loss_words, rest_words, tick_words}
 
 -- a SocTimeout on a head in words: the head and the errors as the plain tick has them, and every
@@ -38,16 +40,17 @@ is_still c t vs = pick c (all_of (rests t) vs) true
 
 -- none where the nodes are not well formed; of nodes that are, whether one asks for something, and
 -- then whether none was heard after now
-abbrev pub roused_of : Bool → ℕ → List WatchedNode → Option Seen
-roused_of c t vs =
+abbrev pub active_of : Bool → ℕ → List WatchedNode → Option Seen
+active_of c t vs =
     pick (well_formed vs)
-    (Some (pick (is_still c t vs) (seen.Resting (moment_of (soonest never vs))) (seen.Roused (all_of (not_before t) vs))))
+    (Some (pick (is_still c t vs) (seen.Resting (moment_of (soonest never vs))) (seen.Active (all_of (not_before t) vs))))
     None
 
--- what a tick answers
+-- the answer of a tick that is taken: what it logged
 abbrev pub tick_says : DllErrors → Answer
 tick_says es = tick_answer (reported es)
 
+-- the answer of a tick
 abbrev pub tick_said : Result DllErrors Refusal → Answer
 tick_said = answered tick_says
 
@@ -65,10 +68,9 @@ pub record TickedOn (ws q m : List ℕ) (r : Run) (t : ℕ) (a : Result DllError
 -- and every word of theirs.
 pub record TickedIn (ws q m ns : List ℕ) (k t : ℕ) (a : Result DllErrors Refusal) (ws' q' m' ns' : List ℕ) : Type 0 where
   pub on : TickedOn ws q m (run (nodes_of ns) k) t a ws' q' m' (run (nodes_of ns') k)
-  pub nodes : ns' ≡ unless_refused a ns (pick (checks_heartbeats (nmt_of ws).current_state) (looked_words t k ns) ns)
+  pub nodes : ns' ≡ unless_refused a ns (pick (checks_heartbeats (nmt_of ws).current_state) (refreshed_words t k ns) ns)
 
--- The plain tick at t behind its heartbeats, after which s is shown as the earliest moment. Its one
--- test is TimeLimit.
+-- what the plain tick leaves behind its heartbeats, with s as the earliest moment
 abbrev pub still_answered : Ticked → Option ℕ → Step
 still_answered k s =
     record {
@@ -81,6 +83,8 @@ still_answered k s =
       crossings = k.crossings;
     }
 
+-- The plain tick at t behind its heartbeats, after which s is shown as the earliest moment. Its one
+-- test is TimeLimit.
 abbrev pub still_step : Plain → ℕ → Option ℕ → Step
 still_step p t s =
     tried (must (in_time t) 5 ∷ []) (declines p no_run) (still_answered (by_deadline p t p.soc.next_tick_us) s)

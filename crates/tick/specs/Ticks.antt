@@ -5,7 +5,7 @@ use Rattle.types.specs.Errors.{reported}
 use Rattle.types.specs.declared.frame.error.types.DllErrors.{DllErrors}
 use Rattle.head.specs.Head.{Head}
 use Rattle.node.specs.Steps.{with_dll}
-use Rattle.node.specs.Tick.{soc_timeout}
+use Rattle.node.specs.Deadline.{soc_timeout}
 use Rattle.node.specs.Refines.{plain, Becomes}
 
 -- a SocTimeout on the head h left g and reported these errors

@@ -1,25 +1,26 @@
 //! The deadlines of the tick: what a passed one leads to, and the next one (RULES 7.5 to 7.8).
 ghost use Rattle.std.specs.Prelude.{◌≡◌, false, ◌≤◌, ◌<◌};
 ghost use Rattle.node.specs.Steps.{cycle_of};
-ghost use Rattle.node.specs.Tick.{with_deadline, next_deadline, rescheduled, within_limit, lost};
-ghost use Rattle.node.specs.Tick.{soc_check, at_not_active, sets_basic, times_out, by_deadline};
+ghost use Rattle.node.specs.Deadline.{with_deadline, next_deadline, rescheduled, within_limit};
+ghost use Rattle.node.specs.Deadline.{lost, soc_check, at_not_active, sets_basic, times_out};
+ghost use Rattle.node.specs.Deadline.{by_deadline};
 ghost use Rattle.node.specs.Refines.{plain};
 ghost use Rattle.head.specs.Words.{od_of, soc_of, head_of};
 ghost use Rattle.head.specs.Written.{deadline_written};
 ghost use Rattle.tick.specs.TickWords.{unlent, rescheduled_words, within_words, lost_words};
 ghost use Rattle.tick.specs.TickWords.{check_words, basic_words, timeout_words, deadline_words};
-ghost use Rattle.heartbeats.specs.PartsIn.{Turns, TicksIn};
+ghost use Rattle.phases.specs.PartsIn.{Turns, TicksIn};
 ghost use Rattle.tick.specs.TickIn.{LosesIn};
 
-use crate::soc::deal_all;
-use head::parts::{
-    check_of, check_off, deadline_at, dll_of, od_of, set_deadline, set_dll, soc_of, state_at,
-    timeout_of,
-};
+use crate::dll_errors::on_dll_errors;
+use entries::sizes::{HistoryBytes, QueueBytes};
+use head::dictionary::od_of;
+use head::machines::{dll_of, set_dll, state_at, timeout_of};
 use head::state::{Deadline, Head};
-use heartbeats::dealt::{Dealt, timeout_in_tick};
+use head::watch::{check_of, check_off, deadline_at, set_deadline, soc_of};
 use node::range::is_loss;
 use node::timing::{cycle, last_soc, limit, time_since, tolerance_us};
+use phases::{PhaseOutcome, timeout_in_tick};
 use types::frame::cs_state_machine::DllCsEvent;
 use types::frame::error::types::DllErrors;
 use types::nmt::states::NmtState;
@@ -81,23 +82,33 @@ fn soc_timeout(head: &mut Head) -> DllErrors
 }
 
 // The errors of a lost SoC are dealt with; where none brings an action, the deadline is set anew.
-fn lose(head: &mut Head, queue: &mut [u8; 640], history: &mut [u8; 5080], time: Time) -> Dealt
+fn lose(
+    head: &mut Head,
+    queue: &mut QueueBytes,
+    history: &mut HistoryBytes,
+    time: Time,
+) -> PhaseOutcome
     ensures { TicksIn head.old queue.old history.old
         (lost (plain (head_of head.old) queue.old history.old) time.us)
         result head.new queue.new history.new
         (lost_words head.old queue.old history.old time.us) }
 {
     let errors = soc_timeout(head);
-    let dealt = deal_all(head, queue, history, errors, time.us);
-    if dealt.ended {
-        return dealt;
+    let outcome = on_dll_errors(head, queue, history, errors, time.us);
+    if outcome.ended {
+        return outcome;
     }
     reschedule(head, time);
-    dealt
+    outcome
 }
 
 // The SoC check, where it is on.
-fn soc_check(head: &mut Head, queue: &mut [u8; 640], history: &mut [u8; 5080], time: Time) -> Dealt
+fn soc_check(
+    head: &mut Head,
+    queue: &mut QueueBytes,
+    history: &mut HistoryBytes,
+    time: Time,
+) -> PhaseOutcome
     ensures { TicksIn head.old queue.old history.old
         (soc_check (plain (head_of head.old) queue.old history.old) time.us)
         result head.new queue.new history.new
@@ -109,7 +120,7 @@ fn soc_check(head: &mut Head, queue: &mut [u8; 640], history: &mut [u8; 5080], t
         }
         within_limit(head, time);
     }
-    Dealt::GOES_ON
+    PhaseOutcome::GOES_ON
 }
 
 /// Whether the head is at NotActive.
@@ -142,10 +153,10 @@ fn time_out(head: &mut Head)
 /// with now.
 pub fn by_deadline(
     head: &mut Head,
-    queue: &mut [u8; 640],
-    history: &mut [u8; 5080],
+    queue: &mut QueueBytes,
+    history: &mut HistoryBytes,
     time: Time,
-) -> Dealt
+) -> PhaseOutcome
     ensures { let deadline = (soc_of head.old).next_tick_us in
         TicksIn head.old queue.old history.old
         (by_deadline (plain (head_of head.old) queue.old history.old) time.us deadline)
@@ -156,15 +167,15 @@ pub fn by_deadline(
         if at_not_active(head) {
             set_basic(head, time);
         }
-        return Dealt::GOES_ON;
+        return PhaseOutcome::GOES_ON;
     };
     if time.us < at {
-        return Dealt::GOES_ON;
+        return PhaseOutcome::GOES_ON;
     }
     with_deadline(head, Deadline::Nothing);
     if at_not_active(head) {
         time_out(head);
-        return Dealt::GOES_ON;
+        return PhaseOutcome::GOES_ON;
     }
     soc_check(head, queue, history, time)
 }

@@ -5,23 +5,26 @@
 ghost use Rattle.std.specs.Prelude.{◌≡◌, true};
 ghost use Rattle.types.specs.Pick.{all_of};
 ghost use Rattle.watched.specs.Watched.{well_formed, watched_of};
-ghost use Rattle.node.specs.Tick.{checks_heartbeats, tick_taken};
+ghost use Rattle.node.specs.Heartbeats.{checks_heartbeats};
+ghost use Rattle.node.specs.Tick.{tick_taken};
 ghost use Rattle.node.specs.Refines.{plain};
 ghost use Rattle.head.specs.Words.{nmt_of, head_of};
 ghost use Rattle.watched.specs.Nodes.{not_before, nodes_of};
 ghost use Rattle.tick.specs.TickWords.{tick_words};
-ghost use Rattle.heartbeats.specs.PartsIn.{TicksIn};
-ghost use Rattle.tick.specs.TickIn.{roused_of, TickedIn, StillTicks};
+ghost use Rattle.phases.specs.PartsIn.{TicksIn};
+ghost use Rattle.tick.specs.TickIn.{active_of, TickedIn, StillTicks};
 
 use crate::deadline::by_deadline;
-use head::parts::{set_earliest, state_at};
+use entries::sizes::{HistoryBytes, QueueBytes};
+use head::machines::state_at;
 use head::state::Head;
-use heartbeats::dealt::Dealt;
-use heartbeats::heartbeats::{beat_all, look_all};
+use head::watch::set_earliest;
+use heartbeats::heartbeats::{on_late_all, refresh_all};
+use phases::PhaseOutcome;
 use types::frame::error::types::DllErrors;
 use types::nmt::states::NmtState;
 use types::refusals::Refusal;
-use watched::nodes::{Formed, NodeWords, Seen, look, try_nodes};
+use watched::nodes::{Formed, NodeWords, Seen, examine, try_nodes};
 use watched::time::Time;
 
 /// Whether heartbeats are checked in a state: in PreOperational2 and those with a higher number, so
@@ -34,11 +37,11 @@ pub fn checks_heartbeats(state: NmtState) -> bool
 
 // Whether the nodes are well formed, and whether some node asks for something: where heartbeats are
 // not checked, none does.
-fn roused(checks: bool, nodes: &NodeWords, count: usize, time: u64) -> Option<Seen>
-    ensures { result ≡ roused_of checks time (watched_of (nodes_of nodes.now) count) }
+fn active(checks: bool, nodes: &NodeWords, count: usize, time: u64) -> Option<Seen>
+    ensures { result ≡ active_of checks time (watched_of (nodes_of nodes.now) count) }
 {
     if checks {
-        return look(nodes, count, time);
+        return examine(nodes, count, time);
     }
     Some(Seen::Resting(try_nodes(nodes, count)?))
 }
@@ -46,11 +49,11 @@ fn roused(checks: bool, nodes: &NodeWords, count: usize, time: u64) -> Option<Se
 // The heartbeats, and what follows where no crossing ended the tick.
 fn phases(
     head: &mut Head,
-    queue: &mut [u8; 640],
-    history: &mut [u8; 5080],
+    queue: &mut QueueBytes,
+    history: &mut HistoryBytes,
     formed: Formed,
     time: Time,
-) -> Dealt
+) -> PhaseOutcome
     requires { checks_heartbeats (nmt_of head.old).current_state ≡ true }
     ensures { let nodes = watched_of (nodes_of formed.entry.nodes.now) formed.entry.count in
         TicksIn head.old queue.old history.old
@@ -58,19 +61,19 @@ fn phases(
         result head.new queue.new history.new
         (tick_words head.old queue.old history.old time.us nodes) }
 {
-    let beats = beat_all(head, formed, time.us);
-    if beats.ended {
-        return beats;
+    let late_errors = on_late_all(head, formed, time.us);
+    if late_errors.ended {
+        return late_errors;
     }
     by_deadline(head, queue, history, time)
 }
 
 // A tick at which some node asks for something; `heard` is whether all were heard by now. Nothing
 // is written before the last test is passed.
-fn tick_roused(
+fn tick_active(
     head: &mut Head,
-    queue: &mut [u8; 640],
-    history: &mut [u8; 5080],
+    queue: &mut QueueBytes,
+    history: &mut HistoryBytes,
     nodes: &mut NodeWords,
     count: usize,
     time: u64,
@@ -86,10 +89,10 @@ fn tick_roused(
     if !heard {
         return Err(Refusal::BeforeHeard);
     }
-    let dealt = phases(head, queue, history, Formed { nodes, count }, time);
-    let soonest = look_all(nodes, count, time.us);
+    let outcome = phases(head, queue, history, Formed { nodes, count }, time);
+    let soonest = refresh_all(nodes, count, time.us);
     set_earliest(head, soonest);
-    Ok(dealt.logged)
+    Ok(outcome.logged)
 }
 
 /// A tick, at a time in µs, at which no node asks for anything: the nodes stay as they are, in
@@ -98,8 +101,8 @@ fn tick_roused(
 /// TimeLimit where the time is above 2^62 - 1; then nothing changes.
 pub fn tick_still(
     head: &mut Head,
-    queue: &mut [u8; 640],
-    history: &mut [u8; 5080],
+    queue: &mut QueueBytes,
+    history: &mut HistoryBytes,
     time: u64,
     late: Option<u64>,
 ) -> Result<DllErrors, Refusal>
@@ -107,9 +110,9 @@ pub fn tick_still(
         result head.new queue.new history.new }
 {
     let time = Time::try_from(time)?;
-    let dealt = by_deadline(head, queue, history, time);
+    let outcome = by_deadline(head, queue, history, time);
     set_earliest(head, late);
-    Ok(dealt.logged)
+    Ok(outcome.logged)
 }
 
 /// A tick at a time in µs, on a head, the bytes of its queue and of its history, and nodes in
@@ -119,8 +122,8 @@ pub fn tick_still(
 /// checked; then nothing changes.
 pub fn process_tick(
     head: &mut Head,
-    queue: &mut [u8; 640],
-    history: &mut [u8; 5080],
+    queue: &mut QueueBytes,
+    history: &mut HistoryBytes,
     nodes: &mut NodeWords,
     count: usize,
     time: u64,
@@ -128,9 +131,9 @@ pub fn process_tick(
     ensures { TickedIn head.old queue.old history.old nodes.old count time
         result head.new queue.new history.new nodes.new }
 {
-    let seen = roused(checks_heartbeats(state_at(head)), nodes, count, time);
+    let seen = active(checks_heartbeats(state_at(head)), nodes, count, time);
     match seen.ok_or(Refusal::WatchedNodes)? {
-        Seen::Roused(heard) => tick_roused(head, queue, history, nodes, count, time, heard),
+        Seen::Active(heard) => tick_active(head, queue, history, nodes, count, time, heard),
         Seen::Resting(soonest) => tick_still(head, queue, history, time, soonest),
     }
 }

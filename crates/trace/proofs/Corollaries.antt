@@ -30,7 +30,9 @@ use Rattle.head.specs.Words.{head_of}
 use Rattle.watched.specs.Watched.{latest, in_time, heard_at, Run, watching, changing}
 use Rattle.node.specs.Plain.{Plain, Call, nmt_event, dll_event, error, cycle_complete, withdraw, heard, hand_out, load, arm, tick, range, margin, add, remove, next_due, Start, taken, range_answer, margin_answer, due_answer, Step}
 use Rattle.node.specs.Steps.{no_run, forgets, answers, declines, with_nmt, with_soc, nmt_step, dll_step, error_step, withdrawn, heard_tests, add_tests, remove_tests, added, removed, armed, cycle_of, earliest, fresh, started}
-use Rattle.node.specs.Tick.{tick_tests, tick_taken, tick_answered, looked_at, last_soc}
+use Rattle.node.specs.Heartbeats.{refreshed_at}
+use Rattle.node.specs.Deadline.{last_soc}
+use Rattle.node.specs.Tick.{tick_tests, tick_taken, tick_answered}
 use Rattle.node.specs.Range.{range_tests, margin_tests, verdict_of, margin_of}
 use Rattle.node.specs.Due.{due, due_tests}
 use Rattle.node.specs.Run.{step, step_all, Said}
@@ -195,7 +197,7 @@ module _ (p : Plain) (h : last p ≤ latest) where
   timed (load v u) = h
   timed (arm t) = arm_timed t
   timed (tick t r) =
-      tried_by_lem Timed (tick_tests p t r) (declines p r) (tick_answered (tick_taken p t (watching r)) (looked_at p t r)) (λ n. h)
+      tried_by_lem Timed (tick_tests p t r) (declines p r) (tick_answered (tick_taken p t (watching r)) (refreshed_at p t r)) (λ n. h)
       (subst (λ (n : ℕ). n ≤ latest) (sym (tick_part p t (watching r)).last) h)
   timed (range a b) = tried_by_lem Timed (range_tests a b) (declines p no_run) (answers p (range_answer (verdict_of p a b)) no_run) (λ r. h) h
   timed (margin t) = tried_by_lem Timed (margin_tests t) (declines p no_run) (answers p (margin_answer (margin_of p t)) no_run) (λ r. h) h

@@ -30,7 +30,8 @@ use Rattle.watched.proofs.Lists.{each_nodes}
 use Rattle.watched.proofs.Watching.{lent_inside}
 use Rattle.node.specs.Plain.{Plain, Call, nmt_event, dll_event, error, cycle_complete, withdraw, heard, hand_out, load, arm, tick, range, margin, add, remove, next_due, taken, range_answer, margin_answer, due_answer, Step}
 use Rattle.node.specs.Steps.{smaller, earliest, no_run, answers, declines, forgets, with_nmt, with_soc, nmt_step, dll_step, error_step, withdrawn, heard_tests, add_tests, remove_tests, added, removed, arm_tests, armed}
-use Rattle.node.specs.Tick.{tick_tests, tick_taken, tick_answered, looked_at}
+use Rattle.node.specs.Heartbeats.{refreshed_at}
+use Rattle.node.specs.Tick.{tick_tests, tick_taken, tick_answered}
 use Rattle.node.specs.Range.{range_tests, margin_tests, verdict_of, margin_of}
 use Rattle.node.specs.Due.{due, due_tests}
 use Rattle.node.specs.Run.{step, step_all}
@@ -84,7 +85,7 @@ run_renewed p (goes l) r h = refl
 
 tick_renewed : (p : Plain) (t : ℕ) (l : Run) → Renewed p (step p (tick t l))
 tick_renewed p t l =
-    tried_by_lem (Renewed p) (tick_tests p t l) (declines p l) (tick_answered (tick_taken p t (watching l)) (looked_at p t l)) (λ n r h. h) (λ r h. refl)
+    tried_by_lem (Renewed p) (tick_tests p t l) (declines p l) (tick_answered (tick_taken p t (watching l)) (refreshed_at p t l)) (λ n r h. h) (λ r h. refl)
 
 -- each call
 renewed : (p : Plain) (c : Call) (r : Run) → p.earliest ≡ earliest (watching r) → (step p c).head.earliest ≡ earliest (watching (left_by c (step p c) r))

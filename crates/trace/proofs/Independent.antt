@@ -17,7 +17,8 @@ use Rattle.watched.specs.Watched.{no_node, Run, watching, well_lent, changing}
 use Rattle.watched.proofs.Watching.{lent_inside}
 use Rattle.node.specs.Plain.{Plain, Call, tick_answer, Step}
 use Rattle.node.specs.Steps.{declines}
-use Rattle.node.specs.Tick.{checks_heartbeats, looked, looked_at, tick_tests, tick_taken, tick_answered}
+use Rattle.node.specs.Heartbeats.{checks_heartbeats, refreshed, refreshed_at}
+use Rattle.node.specs.Tick.{tick_tests, tick_taken, tick_answered}
 use Rattle.node.specs.Run.{step}
 use Rattle.node.specs.Refines.{plain}
 use Rattle.node.proofs.Fixed.{apart}
@@ -62,17 +63,17 @@ module _ (f : WatchedNode → WatchedNode) where
           ∙ sym (past r.number r.places j l h))
           (lt_or_ge j r.number)
 
--- the plain tick that is taken: its run passes number 3, and is left as the look leaves it
+-- the plain tick that is taken: its run passes number 3, and is left as the check leaves it
 module _ (p : Plain) (t : ℕ) (r : Run) (es : List DllError) (e : (step p (Call.tick t r)).answer ≡ tick_answer es) where
   abbrev taken : Step
-  taken = tick_answered (tick_taken p t (watching r)) (looked_at p t r)
+  taken = tick_answered (tick_taken p t (watching r)) (refreshed_at p t r)
 
   well_lent_lem : well_lent r ≡ true
   well_lent_lem = (all_hold (λ (x : Step). x.answer ≡ tick_answer es) (tick_tests p t r) (declines p r) taken (λ n h. apart h refl refl) e).0
 
-  leaves_looked : (step p (Call.tick t r)).lent ≡ looked_at p t r
-  leaves_looked =
-      tried_by_lem (λ (x : Step). x.answer ≡ tick_answer es → x.lent ≡ looked_at p t r) (tick_tests p t r) (declines p r) taken
+  leaves_refreshed : (step p (Call.tick t r)).lent ≡ refreshed_at p t r
+  leaves_refreshed =
+      tried_by_lem (λ (x : Step). x.answer ≡ tick_answer es → x.lent ≡ refreshed_at p t r) (tick_tests p t r) (declines p r) taken
       (λ n h. apart h refl refl) (λ h. refl) e
 
 pub step_differs :
@@ -82,11 +83,11 @@ pub step_differs :
     DifferAt i r s →
     DifferAt i (step p (Call.tick t r)).lent (step p (Call.tick t s)).lent
 step_differs p t i r s es fs a b d =
-    subst (λ (x : Run). DifferAt i x (step p (Call.tick t s)).lent) (sym (leaves_looked p t r es a))
-    (subst (DifferAt i (looked_at p t r)) (sym (leaves_looked p t s fs b)) (by (checks_heartbeats p.nmt.current_state)))
+    subst (λ (x : Run). DifferAt i x (step p (Call.tick t s)).lent) (sym (leaves_refreshed p t r es a))
+    (subst (DifferAt i (refreshed_at p t r)) (sym (leaves_refreshed p t s fs b)) (by (checks_heartbeats p.nmt.current_state)))
   where
-    by : (c : Bool) → DifferAt i (pick c (changing (map (looked t)) r) r) (pick c (changing (map (looked t)) s) s)
-    by true = changed_differ (looked t) i r s (lent_inside r (well_lent_lem p t r es a)) (lent_inside s (well_lent_lem p t s fs b)) d
+    by : (c : Bool) → DifferAt i (pick c (changing (map (refreshed t)) r) r) (pick c (changing (map (refreshed t)) s) s)
+    by true = changed_differ (refreshed t) i r s (lent_inside r (well_lent_lem p t r es a)) (lent_inside s (well_lent_lem p t s fs b)) d
     by false = d
 
 -- TWO TICKS THAT ARE TAKEN, on the same head and memory: the runs that they leave differ at that place alone

@@ -30,7 +30,7 @@ use Rattle.trace.proofs.Shares.{Shares, shares, rule}
 
 -- of the head p and what was counted since a start at which counter 3 was lost₀ and the thresholds were ts
 pub record Kept (lost₀ : ℕ) (ts : Thresholds) (p : Plain) (z : Tally) : Type 0 where
-  pub told : mode p.nmt z.told ≡ true
+  pub orders : mode p.nmt z.orders ≡ true
   pub balance : (k : CounterKind) → Balanced (threshold_for k ts) k (new_counter (threshold_for k ts)) z.marks (counter k p.errors)
   pub count : (x : Count) (k : CounterKind) → Rises (x.read (new_counter (threshold_for k ts))) (count_of (x.of_kind k) z.marks) (x.read (counter k p.errors))
   pub crossings : length z.crossings ≡ count_of is_crossing z.checked
@@ -57,7 +57,7 @@ pub kept_by_lem :
     Kept lost₀ ts t.head (noted p c t z)
 kept_by_lem lost₀ ts p z c t s i =
     record {
-      told = s.told z.told i.told;
+      orders = s.orders z.orders i.orders;
       balance = λ k. balanced_then (i.balance k) (s.counts.balance (threshold_for k ts) k (i.balance k).kept);
       count = λ x k. rw (count_append (x.of_kind k) z.marks t.marks) (rises_then (i.count x k) (s.counts.count x k));
       crossings =
@@ -86,7 +86,7 @@ pub starts : (s : Start) → Kept s.od.counter_3 s.thresholds (fresh s) nothing
 unfolding fresh
 starts s =
     record {
-      told = refl;
+      orders = refl;
       balance = λ k. rw (counter_new k s.thresholds) (balanced_none (threshold_for k s.thresholds) k (new_counter (threshold_for k s.thresholds)) refl);
       count = λ x k. rw (counter_new k s.thresholds) (rises_none (x.read (new_counter (threshold_for k s.thresholds))));
       crossings = refl;
@@ -117,13 +117,13 @@ claimed s cs says h q m limit unheard alike answered =
       alike = alike;
       answered = answered;
       asked = λ r. enabled_before s cs (sym (ap (λ (p : Plain). p.nmt.current_state) alike) ∙ r);
-      enabled = λ r. mode_enabled h.nmt (tallied s cs).told k.told r;
+      enabled = λ r. mode_enabled h.nmt (tallied s cs).orders k.orders r;
       word =
           λ r.
           word_before s cs (sym (ap (λ (p : Plain). p.nmt.current_state) alike) ∙ r)
-          (sym (ap (λ (p : Plain). p.nmt.app_ready) alike) ∙ mode_word h.nmt (tallied s cs).told k.told
-          ∙ (mode_ready h.nmt (tallied s cs).told k.told r).1);
-      heeded = mode_word h.nmt (tallied s cs).told k.told;
+          (sym (ap (λ (p : Plain). p.nmt.app_ready) alike) ∙ mode_word h.nmt (tallied s cs).orders k.orders
+          ∙ (mode_ready h.nmt (tallied s cs).orders k.orders r).1);
+      heeded = mode_word h.nmt (tallied s cs).orders k.orders;
       balance =
           λ j.
           let T = threshold_for j s.thresholds in

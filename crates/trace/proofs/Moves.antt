@@ -21,7 +21,8 @@ use Rattle.nmt.specs.declared.cn_state_machine.CnNmtStateMachine.{CnNmtStateMach
 use Rattle.watched.specs.Watched.{heard_at, watching, changing}
 use Rattle.node.specs.Plain.{Plain, Call, nmt_event, dll_event, error, cycle_complete, withdraw, heard, hand_out, load, arm, tick, range, margin, add, remove, next_due, taken, range_answer, margin_answer, due_answer, EventMade, made, no_event, Step}
 use Rattle.node.specs.Steps.{no_run, answers, declines, with_nmt, with_soc, forgets, nmt_step, dll_step, error_step, withdrawn, heard_tests, add_tests, remove_tests, added, removed, arm_tests, armed}
-use Rattle.node.specs.Tick.{tick_tests, tick_taken, tick_answered, looked_at}
+use Rattle.node.specs.Heartbeats.{refreshed_at}
+use Rattle.node.specs.Tick.{tick_tests, tick_taken, tick_answered}
 use Rattle.node.specs.Range.{range_tests, margin_tests, verdict_of, margin_of}
 use Rattle.node.specs.Due.{due, due_tests}
 use Rattle.node.specs.Run.{step}
@@ -33,7 +34,7 @@ use Rattle.trace.proofs.Shares.{Leaves, stays, goes, run_call}
 pub data Moves (p : Plain) (c : Call) : EventMade → CnNmtStateMachine → Type 0 where
   same : Moves p c no_event p.nmt
   takes_back : Moves p c no_event (withdrawn p.nmt)
-  told : (n : ℕ) (e : NmtEvent) → c ≡ nmt_event n → read_event n ≡ Ok e → Moves p c (made e) (processed p.nmt e).machine
+  orders : (n : ℕ) (e : NmtEvent) → c ≡ nmt_event n → read_event n ≡ Ok e → Moves p c (made e) (processed p.nmt e).machine
   ticks : {e : EventMade} {m : CnNmtStateMachine} → InTick p.nmt e m → Moves p c e m
 
 abbrev MovesTo : Plain → Call → Step → Type 0
@@ -45,7 +46,7 @@ forgets_nmt true p = refl
 forgets_nmt false p = refl
 
 nmt_moves : (p : Plain) (n : ℕ) (r : Result NmtEvent Refusal) → read_event n ≡ r → MovesTo p (nmt_event n) (nmt_step p r)
-nmt_moves p n (Ok e) h = subst (Moves p (nmt_event n) (made e)) (sym (forgets_nmt (is_reset e) (with_nmt p (processed p.nmt e).machine))) (told n e refl h)
+nmt_moves p n (Ok e) h = subst (Moves p (nmt_event n) (made e)) (sym (forgets_nmt (is_reset e) (with_nmt p (processed p.nmt e).machine))) (orders n e refl h)
 nmt_moves p n (Err r) h = same
 
 dll_moves : (p : Plain) (n : ℕ) (x : Bool) (r : Result DllCsEvent Refusal) → MovesTo p (dll_event n x) (dll_step p x r)
@@ -76,7 +77,7 @@ moves p (load v h) = same
 moves p (arm t) =
     tried_by_lem (MovesTo p (arm t)) (arm_tests t) (declines p no_run) (answers (with_soc p (armed p.soc p.od t)) taken no_run) (λ r. same) same
 moves p (tick t r) =
-    tried_by_lem (MovesTo p (tick t r)) (tick_tests p t r) (declines p r) (tick_answered (tick_taken p t (watching r)) (looked_at p t r)) (λ n. same)
+    tried_by_lem (MovesTo p (tick t r)) (tick_tests p t r) (declines p r) (tick_answered (tick_taken p t (watching r)) (refreshed_at p t r)) (λ n. same)
     (ticks (tick_part p t (watching r)).moves)
 moves p (range a b) =
     tried_by_lem (MovesTo p (range a b)) (range_tests a b) (declines p no_run) (answers p (range_answer (verdict_of p a b)) no_run) (λ r. same) same

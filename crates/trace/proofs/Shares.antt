@@ -32,11 +32,13 @@ use Rattle.node.specs.declared.load.DictionaryUpdate.{DictionaryUpdate}
 use Rattle.watched.specs.Watched.{heard_at, Run, watching, changing}
 use Rattle.node.specs.Plain.{Plain, HistoryUpdate, Call, nmt_event, dll_event, error, cycle_complete, withdraw, heard, hand_out, load, arm, tick, range, margin, add, remove, next_due, Answer, taken, nmt_answer, hand_out_answer, range_answer, margin_answer, due_answer, made, Step}
 use Rattle.node.specs.Steps.{Test, tried, no_run, answers, declines, leaves, forgets, with_nmt, with_soc, nmt_step, dll_step, error_step, withdrawn, heard_tests, add_tests, remove_tests, added, removed, updated_counter, updated, arm_tests, armed}
-use Rattle.node.specs.Tick.{Ticked, tick_tests, tick_taken, tick_answered, looked_at}
+use Rattle.node.specs.Phases.{Ticked}
+use Rattle.node.specs.Heartbeats.{refreshed_at}
+use Rattle.node.specs.Tick.{tick_tests, tick_taken, tick_answered}
 use Rattle.node.specs.Range.{range_tests, margin_tests, verdict_of, margin_of}
 use Rattle.node.specs.Due.{due, due_tests}
 use Rattle.node.specs.Run.{step}
-use Rattle.trace.specs.Tally.{Told, told_at, handed_by, dropped_by, is_full, is_set, loads_counter3}
+use Rattle.trace.specs.Tally.{Orders, orders_at, handed_by, dropped_by, is_full, is_set, loads_counter3}
 use Rattle.trace.specs.Claim.{Queued, still, kept, dropped, handed, Rule}
 use Rattle.node.proofs.Refining.{tried_by_lem}
 use Rattle.trace.proofs.Modes.{mode, mode_event, mode_withdraw}
@@ -45,7 +47,7 @@ use Rattle.trace.proofs.Ticking.{seen, Enters, none, one, PartOf, tells, tick_pa
 
 -- the mode's share, the queue's, the counters', that of crossings, and counter 3's
 abbrev pub ModeShare : Plain → Call → Step → Type 0
-ModeShare p c t = (w : Told) → mode p.nmt w ≡ true → mode t.head.nmt (told_at p c t w) ≡ true
+ModeShare p c t = (w : Orders) → mode p.nmt w ≡ true → mode t.head.nmt (orders_at p c t w) ≡ true
 
 abbrev pub QueueShare : Plain → Step → Type 0
 QueueShare p t =
@@ -64,7 +66,7 @@ abbrev pub CrossedShare : Step → Type 0
 CrossedShare t = length t.crossings ≡ count_of is_crossing t.checked
 
 pub record Shares (p : Plain) (c : Call) (t : Step) : Type 0 where
-  pub told : ModeShare p c t
+  pub orders : ModeShare p c t
   pub queue : QueueShare p t
   pub counts : CountShare p t
   pub crossed : CrossedShare t
@@ -89,7 +91,7 @@ lost_none p c t e h l b = rw (e, none_dropped (is_full p)) (let g = h l in omega
 pub quiet : (p : Plain) (c : Call) (t : Step) → Quiet p c t → ModeShare p c t → CountShare p t → Shares p c t
 quiet p c t h m n =
     record {
-      told = m;
+      orders = m;
       queue = rw (h.crossings, h.handed, h.queue, none_dropped (is_full p)) still;
       counts = n;
       crossed = h.crossed;
@@ -129,7 +131,7 @@ pub untouched :
     (p : Plain) (c : Call) (t : Step) →
     Quiet p c t →
     t.head.nmt ≡ p.nmt →
-    ((w : Told) → told_at p c t w ≡ w) →
+    ((w : Orders) → orders_at p c t w ≡ w) →
     t.head.errors ≡ p.errors →
     t.marks ≡ [] →
     Shares p c t
@@ -137,7 +139,7 @@ untouched p c t h m w e n =
     quiet p c t h (λ v g. ap₂ mode m (w v) ∙ g) (rw (e, n) (counting_none p.errors))
 
 -- a declined call
-declined : (p : Plain) (c : Call) (l : Run) (r : ℕ) → ((w : Told) → told_at p c (declines p l r) w ≡ w) → Shares p c (declines p l r)
+declined : (p : Plain) (c : Call) (l : Run) (r : ℕ) → ((w : Orders) → orders_at p c (declines p l r) w ≡ w) → Shares p c (declines p l r)
 declined p c l r w =
     untouched p c (declines p l r) (record { queue = refl; crossings = refl; crossed = refl; handed = refl; lost = λ h. refl }) refl w refl refl
 
@@ -198,7 +200,7 @@ pub data Leaves (p : Plain) : Step → Type 0 where
 pub run_call : (p : Plain) (ts : List (Test ℕ)) (r r' : Run) → Leaves p (tried ts (declines p r) (leaves p r'))
 run_call p ts r r' = tried_by_lem (Leaves p) ts (declines p r) (leaves p r') (λ n. stays r n) (goes r')
 
-run_shares : (p : Plain) (c : Call) {t : Step} → Leaves p t → ((t : Step) (w : Told) → told_at p c t w ≡ w) → Shares p c t
+run_shares : (p : Plain) (c : Call) {t : Step} → Leaves p t → ((t : Step) (w : Orders) → orders_at p c t w ≡ w) → Shares p c t
 run_shares p c (stays r n) w = declined p c r n (w (declines p r n))
 run_shares p c (goes r) w =
     untouched p c (leaves p r) (record { queue = refl; crossings = refl; crossed = refl; handed = refl; lost = λ l. refl }) refl (w (leaves p r)) refl refl
@@ -213,7 +215,7 @@ hand_out_queue n (e ∷ q) b = rw (none_dropped b) handed
 hand_out_shares : (p : Plain) → Shares p hand_out (step p hand_out)
 hand_out_shares p =
     record {
-      told = λ w g. g;
+      orders = λ w g. g;
       queue = hand_out_queue p.capacity p.queue (is_full p);
       counts = counting_none p.errors;
       crossed = refl;
@@ -266,7 +268,7 @@ enters_lost p c t (one {x = x}) e h = crossed_lost p c t x e h
 tick_taken_shares : (p : Plain) (t : ℕ) (r l : Run) (k : Ticked) → PartOf p k → Shares p (tick t r) (tick_answered k l)
 tick_taken_shares p t r l k h =
     record {
-      told = tells h.moves;
+      orders = tells h.moves;
       queue = enters_queue p h.enters;
       counts = h.counts;
       crossed = h.crossed;
@@ -275,15 +277,15 @@ tick_taken_shares p t r l k h =
 
 tick_shares : (p : Plain) (t : ℕ) (r : Run) → Shares p (tick t r) (step p (tick t r))
 tick_shares p t r =
-    tried_by_lem (Shares p (tick t r)) (tick_tests p t r) (declines p r) (tick_answered (tick_taken p t (watching r)) (looked_at p t r))
+    tried_by_lem (Shares p (tick t r)) (tick_tests p t r) (declines p r) (tick_answered (tick_taken p t (watching r)) (refreshed_at p t r))
     (λ n. declined p (tick t r) r n (λ w. refl))
-    (tick_taken_shares p t r (looked_at p t r) (tick_taken p t (watching r)) (tick_part p t (watching r)))
+    (tick_taken_shares p t r (refreshed_at p t r) (tick_taken p t (watching r)) (tick_part p t (watching r)))
 
 -- what changes nothing owes nothing
 asked_shares :
     (p : Plain) (c : Call) (l : Run) (ts : List (Test ℕ)) (a : Answer) →
     handed_by a ≡ [] →
-    ((t : Step) (w : Told) → told_at p c t w ≡ w) →
+    ((t : Step) (w : Orders) → orders_at p c t w ≡ w) →
     Shares p c (tried ts (declines p l) (answers p a l))
 asked_shares p c l ts a h w =
     tried_by_lem (Shares p c) ts (declines p l) (answers p a l) (λ r. declined p c l r (w (declines p l r)))

@@ -28,10 +28,14 @@ use Rattle.head.specs.declared.state.Deadline.TheVariants.{At, Nothing}
 use Rattle.watched.specs.declared.nodes.WatchedNode.{WatchedNode}
 use Rattle.node.specs.Plain.{Plain, EventMade, made, no_event}
 use Rattle.node.specs.Steps.{with_dll, with_errors, with_soc, cycle_of, limit_of}
-use Rattle.node.specs.Tick.{Ticked, goes_on, behind, checks_heartbeats, acts, one_more, signalled, check_off, finished, dealt, beat_by, timeout_of, beat, beat_all, late_ones, heartbeats, with_deadline, at_not_active, basic_timeout, event_in_tick, timed_out, counter1, kept, dropped_one, queued, deal_by, deal, deal_all, last_soc, elapsed, next_deadline, rescheduled, within_limit, soc_timeout, lost, soc_check, used_up, by_deadline, tick_taken}
-use Rattle.heartbeats.specs.Parts.{is_quiet}
-use Rattle.heartbeats.proofs.PartLaws.{handled_quiet, quiet_crosses}
-use Rattle.trace.specs.Tally.{Told, told_made}
+use Rattle.node.specs.Phases.{Ticked, goes_on, behind, acts, one_more, signalled, check_off, finished, on_handled, event_in_tick}
+use Rattle.node.specs.Heartbeats.{checks_heartbeats, on_late_by, timeout_of, on_late, on_late_all, late_ones, heartbeats}
+use Rattle.node.specs.DllErrors.{counter1, kept, dropped_one, queued, on_dll_error_by, on_dll_error, on_dll_errors}
+use Rattle.node.specs.Deadline.{with_deadline, at_not_active, basic_timeout, timed_out, last_soc, elapsed, next_deadline, rescheduled, within_limit, soc_timeout, lost, soc_check, used_up, by_deadline}
+use Rattle.node.specs.Tick.{tick_taken}
+use Rattle.phases.specs.Parts.{is_quiet}
+use Rattle.phases.proofs.PartLaws.{handled_quiet, quiet_crosses}
+use Rattle.trace.specs.Tally.{Orders, orders_made}
 use Rattle.trace.proofs.Modes.{mode, mode_event}
 use Rattle.counters.proofs.Balance.{count_append}
 use Rattle.counters.proofs.Counts.{Counting, counting_none, counting_then, counting_handled}
@@ -64,7 +68,7 @@ pub data InTick (m : CnNmtStateMachine) : EventMade → CnNmtStateMachine → Ty
   times_out_lem : InTick m (made Timeout) (Nmt.processed m Timeout).machine
 
 -- the mode, over it
-pub tells : {m m' : CnNmtStateMachine} {e : EventMade} → InTick m e m' → (w : Told) → mode m w ≡ true → mode m' (told_made m e m' w) ≡ true
+pub tells : {m m' : CnNmtStateMachine} {e : EventMade} → InTick m e m' → (w : Orders) → mode m w ≡ true → mode m' (orders_made m e m' w) ≡ true
 tells {m = m} still w h = h
 tells {m = m} fails w h = mode_event m Error w h
 tells {m = m} times_out_lem w h = mode_event m Timeout w h
@@ -187,28 +191,28 @@ finishes p g false es ms checked cs m l c n x s u =
     }
 
 -- a heartbeat's error
-beat_by_lem : (p : Plain) (ms : List Mark) (r : HandledError) → Counting p.errors ms r.counters → WalkOf p (beat_by p ms r)
-beat_by_lem p ms r c = by r.signal
+on_late_by_lem : (p : Plain) (ms : List Mark) (r : HandledError) → Counting p.errors ms r.counters → WalkOf p (on_late_by p ms r)
+on_late_by_lem p ms r c = by r.signal
   where
-    by : (b : Bool) → WalkOf p (dealt r ms [] [] (pick b (signalled (with_errors p r.counters)) (with_errors p r.counters)))
+    by : (b : Bool) → WalkOf p (on_handled r ms [] [] (pick b (signalled (with_errors p r.counters)) (with_errors p r.counters)))
     by true =
         finishes p (signalled (with_errors p r.counters)) (acts r.action) _ ms [] [] refl refl c none refl (λ h. refl) (λ h. refl)
     by false = finishes p (with_errors p r.counters) (acts r.action) _ ms [] [] refl refl c none refl (λ h. refl) (λ h. refl)
 
-pub beat_walk : (p : Plain) (w : WatchedNode) → WalkOf p (beat p w)
-unfolding beat
-beat_walk p w =
-    beat_by_lem p (error_marks p.errors (timeout_of w)) (handled p.errors (timeout_of w)) (counting_handled p.errors (timeout_of w))
+pub on_late_walk : (p : Plain) (w : WatchedNode) → WalkOf p (on_late p w)
+unfolding on_late
+on_late_walk p w =
+    on_late_by_lem p (error_marks p.errors (timeout_of w)) (handled p.errors (timeout_of w)) (counting_handled p.errors (timeout_of w))
 
-pub beat_all_walk : (p : Plain) (ws : List WatchedNode) → WalkOf p (beat_all p ws)
-unfolding beat_all
-beat_all_walk p [] = idle p
-beat_all_walk p (w ∷ ws) =
-    walk_then (seen p) p.errors (beat p w) (beat_walk p w) (beat_all (beat p w).head ws) (beat_all_walk (beat p w).head ws)
+pub on_late_all_walk : (p : Plain) (ws : List WatchedNode) → WalkOf p (on_late_all p ws)
+unfolding on_late_all
+on_late_all_walk p [] = idle p
+on_late_all_walk p (w ∷ ws) =
+    walk_then (seen p) p.errors (on_late p w) (on_late_walk p w) (on_late_all (on_late p w).head ws) (on_late_all_walk (on_late p w).head ws)
 
 pub heartbeats_walk : (p : Plain) (t : ℕ) (ws : List WatchedNode) → WalkOf p (heartbeats p t ws)
 heartbeats_walk p t ws =
-    picked (WalkOf p) (checks_heartbeats p.nmt.current_state) (beat_all_walk p (late_ones t ws)) (idle p)
+    picked (WalkOf p) (checks_heartbeats p.nmt.current_state) (on_late_all_walk p (late_ones t ws)) (idle p)
 
 -- there is room, or the queue is full
 pub room_or_full : (n c : ℕ) → ltb n c ≡ not (leb c n)
@@ -249,7 +253,7 @@ module _ (p : Plain) (ms : List Mark) (crosses : Bool) (x : ErrorEntry) (r : Han
   abbrev joins : Bool → Plain
   joins room = pick room (kept (signalled g) x) (dropped_one (signalled g))
 
-  enters_one : crosses ≡ true → (b : Bool) → full (seen p) ≡ b → WalkOf p (dealt r ms ms (x ∷ []) (joins (not b)))
+  enters_one : crosses ≡ true → (b : Bool) → full (seen p) ≡ b → WalkOf p (on_handled r ms ms (x ∷ []) (joins (not b)))
   enters_one h true f =
       finishes p (joins false) (acts r.action) _ ms ms (x ∷ []) refl refl c (entered (seen p) x true f) (sym (n ∙ ap (λ (b : Bool). pick b 1 0) h))
       (λ a. absurd (true≢false (sym h ∙ q a))) (λ a. absurd (true≢false (sym h ∙ q a)))
@@ -257,29 +261,29 @@ module _ (p : Plain) (ms : List Mark) (crosses : Bool) (x : ErrorEntry) (r : Han
       finishes p (joins true) (acts r.action) _ ms ms (x ∷ []) refl refl c (entered (seen p) x false f) (sym (n ∙ ap (λ (b : Bool). pick b 1 0) h))
       (λ a. absurd (true≢false (sym h ∙ q a))) (λ a. absurd (true≢false (sym h ∙ q a)))
 
-  deal_by_lem : WalkOf p (deal_by p ms crosses x r)
+  on_dll_error_by_lem : WalkOf p (on_dll_error_by p ms crosses x r)
   unfolding queued
-  deal_by_lem = by crosses refl
+  on_dll_error_by_lem = by crosses refl
     where
-      by : (b : Bool) → crosses ≡ b → WalkOf p (dealt r ms ms (pick b (x ∷ []) []) (pick b (queued (signalled g) x) g))
+      by : (b : Bool) → crosses ≡ b → WalkOf p (on_handled r ms ms (pick b (x ∷ []) []) (pick b (queued (signalled g) x) g))
       by true h =
-          subst (λ (b : Bool). WalkOf p (dealt r ms ms (x ∷ []) (joins b))) (sym (room_or_full (length p.queue) p.capacity))
+          subst (λ (b : Bool). WalkOf p (on_handled r ms ms (x ∷ []) (joins b))) (sym (room_or_full (length p.queue) p.capacity))
           (enters_one h (full (seen p)) refl)
       by false h = finishes p g (acts r.action) _ ms ms [] refl refl c none (sym (n ∙ ap (λ (b : Bool). pick b 1 0) h)) (λ a. refl) (λ a. refl)
 
-pub deal_walk : (t : ℕ) (p : Plain) (e : DllError) → is_quiet e ≡ true → WalkOf p (deal t p e)
-unfolding deal
-deal_walk t p e q =
-    deal_by_lem p (error_marks p.errors e) (crosses p.errors e) (crossing_entry e t) (handled p.errors e) (counting_handled p.errors e)
+pub on_dll_error_walk : (t : ℕ) (p : Plain) (e : DllError) → is_quiet e ≡ true → WalkOf p (on_dll_error t p e)
+unfolding on_dll_error
+on_dll_error_walk t p e q =
+    on_dll_error_by_lem p (error_marks p.errors e) (crosses p.errors e) (crossing_entry e t) (handled p.errors e) (counting_handled p.errors e)
     (λ a. sym (quiet_crosses p.errors e q) ∙ (handled_quiet p.errors e q a).signal) (crossed_once p.errors e)
 
-pub deal_all_walk : (t : ℕ) (p : Plain) (es : List DllError) → all_of is_quiet es ≡ true → WalkOf p (deal_all t p es)
-unfolding deal_all
-deal_all_walk t p [] q = idle p
-deal_all_walk t p (e ∷ es) q =
-    walk_then (seen p) p.errors (deal t p e) (deal_walk t p e (both_first (is_quiet e) (all_of is_quiet es) q))
-    (deal_all t (deal t p e).head es)
-    (deal_all_walk t (deal t p e).head es (both_second (is_quiet e) (all_of is_quiet es) q))
+pub on_dll_errors_walk : (t : ℕ) (p : Plain) (es : List DllError) → all_of is_quiet es ≡ true → WalkOf p (on_dll_errors t p es)
+unfolding on_dll_errors
+on_dll_errors_walk t p [] q = idle p
+on_dll_errors_walk t p (e ∷ es) q =
+    walk_then (seen p) p.errors (on_dll_error t p e) (on_dll_error_walk t p e (both_first (is_quiet e) (all_of is_quiet es) q))
+    (on_dll_errors t (on_dll_error t p e).head es)
+    (on_dll_errors_walk t (on_dll_error t p e).head es (both_second (is_quiet e) (all_of is_quiet es) q))
 
 -- a SocTimeout reports LossOfSoc, LossOfSoa or UnexpectedEventInState
 soc_quiet : (p : Plain) → all_of is_quiet (soc_timeout p).errors ≡ true
@@ -306,8 +310,8 @@ within_walk p t =
 lost_walk : (p : Plain) (t : ℕ) → WalkOf p (lost p t)
 lost_walk p t =
     let g = with_dll p (soc_timeout p).state in
-    let k = deal_all t g (soc_timeout p).errors in
-    walk_then (seen p) p.errors k (deal_all_walk t g (soc_timeout p).errors (soc_quiet p)) (goes_on (rescheduled k.head t))
+    let k = on_dll_errors t g (soc_timeout p).errors in
+    walk_then (seen p) p.errors k (on_dll_errors_walk t g (soc_timeout p).errors (soc_quiet p)) (goes_on (rescheduled k.head t))
     (rescheduled_walk k.head t)
 
 pub soc_check_walk : (p : Plain) (t : ℕ) → WalkOf p (soc_check p t)

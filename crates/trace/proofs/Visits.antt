@@ -25,7 +25,7 @@ use Rattle.head.proofs.Laws.{state_is}
 use Rattle.node.specs.Plain.{Plain, Call, nmt_event, dll_event, error, cycle_complete, withdraw, heard, hand_out, load, arm, tick, range, margin, add, remove, next_due, Start, taken, EventMade}
 use Rattle.node.specs.Steps.{no_run, answers, declines, with_nmt, withdrawn, fresh}
 use Rattle.node.specs.Run.{step, step_all}
-use Rattle.trace.specs.Tally.{Told, told, asks, in_pre_operational2}
+use Rattle.trace.specs.Tally.{Orders, orders, asks, in_pre_operational2}
 use Rattle.trace.specs.Visits.{nmt_state, Stays, InVisit, Asking, Asked, visiting, Enabled, at_once, later, is_withdraw, is_taken, NoneWithdrawn, resets, NoReset, after_reset, ReadyWord, since}
 use Rattle.trace.proofs.Modes.{implies, always, every, always_at, every_at, follows}
 use Rattle.trace.proofs.Ticking.{InTick}
@@ -77,7 +77,7 @@ comes m e m' =
     both (calm m')
     (both (implies (enabling m') (either (enabling m) (asked_now m e))) (implies (ready m') (either (ready m) (either (enabling m) (asked_now m e)))))
 
-abbrev event_comes : NmtEvent → CnNmtStateMachine → Told → Bool
+abbrev event_comes : NmtEvent → CnNmtStateMachine → Orders → Bool
 event_comes e m w = implies (calm m) (comes m e (processed m e).machine)
 
 event_test : (m : CnNmtStateMachine) → always NmtEvents (λ e. every (event_comes e) m) ≡ true
@@ -87,7 +87,7 @@ event_test m = refl
 event_came : (m : CnNmtStateMachine) (e : NmtEvent) → calm m ≡ true → comes m e (processed m e).machine ≡ true
 event_came m e =
     follows (calm m) (comes m e (processed m e).machine)
-    (every_at (event_comes e) m (told false false) (always_at NmtEvents (λ e. every (event_comes e) m) (event_test m) e))
+    (every_at (event_comes e) m (orders false false) (always_at NmtEvents (λ e. every (event_comes e) m) (event_test m) e))
 
 -- of a call c on the head p, whose machine is m after it
 record Came (p : Plain) (c : Call) (m : CnNmtStateMachine) : Type 0 where
@@ -134,7 +134,7 @@ module _ (p : Plain) (c : Call) (h : calm p.nmt ≡ true) where
   came : {e : EventMade} {m : CnNmtStateMachine} → Moves p c e m → Came p c m
   came Moves.same = stays
   came Moves.takes_back = record { calms = h; opens = λ o. inl o; readies = λ r. inl r }
-  came (Moves.told n e x r) =
+  came (Moves.orders n e x r) =
       by_event e (λ a.
       record {
         number = n;
@@ -215,7 +215,7 @@ Wording p c = InVisit (λ (e : NmtEvent). e ≡ CnConfigurationComplete) p c
 abbrev worded_now : CnNmtStateMachine → NmtEvent → Bool
 worded_now m e = both (in_pre_operational2 m) (same_event e CnConfigurationComplete)
 
-abbrev event_words_lem : NmtEvent → CnNmtStateMachine → Told → Bool
+abbrev event_words_lem : NmtEvent → CnNmtStateMachine → Orders → Bool
 event_words_lem e m w = implies (processed m e).machine.app_ready (either m.app_ready (worded_now m e))
 
 word_test : (m : CnNmtStateMachine) → always NmtEvents (λ e. every (event_words_lem e) m) ≡ true
@@ -233,7 +233,7 @@ module _ (p : Plain) (c : Call) where
   word_by_lem e f h =
       by (either_cases p.nmt.app_ready (worded_now p.nmt e)
       (follows (processed p.nmt e).machine.app_ready (either p.nmt.app_ready (worded_now p.nmt e))
-      (every_at (event_words_lem e) p.nmt (told false false) (always_at NmtEvents (λ e. every (event_words_lem e) p.nmt) (word_test p.nmt) e)) h))
+      (every_at (event_words_lem e) p.nmt (orders false false) (always_at NmtEvents (λ e. every (event_words_lem e) p.nmt) (word_test p.nmt) e)) h))
     where
       by : (p.nmt.app_ready ≡ true) ⊎ (worded_now p.nmt e ≡ true) → (p.nmt.app_ready ≡ true) ⊎ Wording p c
       by (inl x) = inl x
@@ -250,7 +250,7 @@ module _ (p : Plain) (c : Call) where
   word_came : {e : EventMade} {m : CnNmtStateMachine} → Moves p c e m → m.app_ready ≡ true → (p.nmt.app_ready ≡ true) ⊎ Wording p c
   word_came Moves.same h = inl h
   word_came Moves.takes_back h = absurd (true≢false (sym h))
-  word_came (Moves.told n e x r) h =
+  word_came (Moves.orders n e x r) h =
       word_by_lem e (λ a.
       record {
         number = n;
@@ -295,7 +295,7 @@ none_then p [] c h e = (e, tt)
 none_then p (x ∷ xs) c h e = (h.0, none_then (step p x).head xs c h.1 e)
 
 -- a reset: not ready behind it; and before the first one a head stays at GsInitialising
-abbrev event_forgets : NmtEvent → CnNmtStateMachine → Told → Bool
+abbrev event_forgets : NmtEvent → CnNmtStateMachine → Orders → Bool
 event_forgets e m w = implies (is_reset e) (not (processed m e).machine.app_ready)
 
 forgets_test : (m : CnNmtStateMachine) → always NmtEvents (λ e. every (event_forgets e) m) ≡ true
@@ -305,7 +305,7 @@ forgets_test m = refl
 abbrev initial : CnNmtStateMachine → Bool
 initial m = same_state m.current_state NmtGsInitialising
 
-abbrev event_remains : NmtEvent → CnNmtStateMachine → Told → Bool
+abbrev event_remains : NmtEvent → CnNmtStateMachine → Orders → Bool
 event_remains e m w = implies (both (initial m) (not (is_reset e))) (initial (processed m e).machine)
 
 remains_test : (m : CnNmtStateMachine) → always NmtEvents (λ e. every (event_remains e) m) ≡ true
@@ -321,18 +321,18 @@ module _ (p : Plain) (c : Call) where
   forgotten_event e r h =
       not_true (processed p.nmt e).machine.app_ready
       (follows (is_reset e) (not (processed p.nmt e).machine.app_ready)
-      (every_at (event_forgets e) p.nmt (told false false) (always_at NmtEvents (λ e. every (event_forgets e) p.nmt) (forgets_test p.nmt) e)) r) h
+      (every_at (event_forgets e) p.nmt (orders false false) (always_at NmtEvents (λ e. every (event_forgets e) p.nmt) (forgets_test p.nmt) e)) r) h
 
   remains_event : (e : NmtEvent) → is_reset e ≡ false → initial p.nmt ≡ true → initial (processed p.nmt e).machine ≡ true
   remains_event e r i =
       follows (both (initial p.nmt) (not (is_reset e))) (initial (processed p.nmt e).machine)
-      (every_at (event_remains e) p.nmt (told false false) (always_at NmtEvents (λ e. every (event_remains e) p.nmt) (remains_test p.nmt) e)) (rw (i, r))
+      (every_at (event_remains e) p.nmt (orders false false) (always_at NmtEvents (λ e. every (event_remains e) p.nmt) (remains_test p.nmt) e)) (rw (i, r))
 
   -- a call that resets leaves the machine not ready
   reset_forgets : {e : EventMade} {m : CnNmtStateMachine} → Moves p c e m → resets e ≡ true → m.app_ready ≡ true → {A : Type 0} → A
   reset_forgets Moves.same r h = absurd (true≢false (sym r))
   reset_forgets Moves.takes_back r h = absurd (true≢false (sym r))
-  reset_forgets (Moves.told n e x y) r h = forgotten_event e r h
+  reset_forgets (Moves.orders n e x y) r h = forgotten_event e r h
   reset_forgets (Moves.ticks InTick.still) r h = absurd (true≢false (sym r))
   reset_forgets (Moves.ticks InTick.fails) r h = forgotten_event Error r h
   reset_forgets (Moves.ticks InTick.times_out_lem) r h = forgotten_event Timeout r h
@@ -341,7 +341,7 @@ module _ (p : Plain) (c : Call) where
   remains : {e : EventMade} {m : CnNmtStateMachine} → Moves p c e m → resets e ≡ false → initial p.nmt ≡ true → initial m ≡ true
   remains Moves.same r i = i
   remains Moves.takes_back r i = i
-  remains (Moves.told n e x y) r i = remains_event e r i
+  remains (Moves.orders n e x y) r i = remains_event e r i
   remains (Moves.ticks InTick.still) r i = i
   remains (Moves.ticks InTick.fails) r i = remains_event Error r i
   remains (Moves.ticks InTick.times_out_lem) r i = remains_event Timeout r i

@@ -13,7 +13,8 @@ use Rattle.watched.specs.Watched.{Run, watching}
 use Rattle.node.specs.declared.load.DictionaryUpdate.{DictionaryUpdate}
 use Rattle.node.specs.Plain.{Plain, Step, taken, tick_answer}
 use Rattle.node.specs.Steps.{no_run, declines, answers, with_soc, updated_object, updated, value_or, cycle_of, tolerance_of, arm_tests, armed}
-use Rattle.node.specs.Tick.{tick_tests, tick_taken, tick_answered, looked_at}
+use Rattle.node.specs.Heartbeats.{refreshed_at}
+use Rattle.node.specs.Tick.{tick_tests, tick_taken, tick_answered}
 use Rattle.node.specs.Refines.{plain}
 use Rattle.node.specs.Watch.{Watching, Sleeps, Raised, Moves}
 use Rattle.node.proofs.Fixed.{apart}
@@ -38,7 +39,7 @@ tick_sleeps {x} {t = t} {d = d} {es = es} f w =
     let p = plain_at x in
     subst (Sleeps p t d) (sym (ap (λ (p : Plain). p.soc) f.refines.head))
     (tried_by_lem (λ (z : Step). z.answer ≡ tick_answer (reported es) → Sleeps p t d z.head.soc) (tick_tests p t x.lent) (declines p x.lent)
-    (tick_answered (tick_taken p t (watching x.lent)) (looked_at p t x.lent)) (λ n h. apart h refl refl) (λ h. Plainly.tick_sleeps p t (watching x.lent) d w)
+    (tick_answered (tick_taken p t (watching x.lent)) (refreshed_at p t x.lent)) (λ n h. apart h refl refl) (λ h. Plainly.tick_sleeps p t (watching x.lent) d w)
     (sym f.refines.answer))
 
 -- TWO ARMS THAT ARE TAKEN, at one time: the tolerance of the second head is d higher

@@ -25,9 +25,12 @@ use Rattle.watched.specs.Watched.{well_formed, holding}
 use Rattle.node.specs.Examples.{watching_one}
 use Rattle.node.specs.Plain.{Plain, Call, nmt_event, dll_event, withdraw, heard, hand_out, arm, tick, add, remove, Start}
 use Rattle.node.specs.Steps.{earliest, fresh, started, armed}
-use Rattle.node.specs.Tick.{beat, beat_all, queued, deal, deal_all, soc_check, tick_taken}
+use Rattle.node.specs.Heartbeats.{on_late, on_late_all}
+use Rattle.node.specs.DllErrors.{queued, on_dll_error, on_dll_errors}
+use Rattle.node.specs.Deadline.{soc_check}
+use Rattle.node.specs.Tick.{tick_taken}
 use Rattle.node.specs.Run.{step_all}
-use Rattle.trace.specs.Tally.{Told, told, Tally, tally}
+use Rattle.trace.specs.Tally.{Orders, orders, Tally, tally}
 use Rattle.trace.specs.Earliest.{last_left, run_after}
 use Rattle.trace.specs.Claim.{tallied}
 use Rattle.trace.specs.Unmoved.{written_at_all}
@@ -41,29 +44,29 @@ module _ (s : Start) where
   state : List Call → NmtState
   state cs = (step_all (fresh s) (booted cs)).nmt.current_state
 
-  heard_of : List Call → Told
-  heard_of cs = (tallied s (booted cs)).told
+  heard_of : List Call → Orders
+  heard_of cs = (tallied s (booted cs)).orders
 
   -- withdrawn, an enable: stays; the ready word: ReadyToOperate
-  enabled_stays : (state (withdraw ∷ nmt_event 3 ∷ []) ≡ NmtPreOperational2) × (heard_of (withdraw ∷ nmt_event 3 ∷ []) ≡ told true false)
+  enabled_stays : (state (withdraw ∷ nmt_event 3 ∷ []) ≡ NmtPreOperational2) × (heard_of (withdraw ∷ nmt_event 3 ∷ []) ≡ orders true false)
   unfolding state heard_of step_all tally fresh read_event processed reset_by applied enter row_of is_reset states_entered
   enabled_stays = (refl, refl)
 
   then_ready :
       (state (withdraw ∷ nmt_event 3 ∷ nmt_event 15 ∷ []) ≡ NmtReadyToOperate)
-      × (heard_of (withdraw ∷ nmt_event 3 ∷ nmt_event 15 ∷ []) ≡ told true true)
+      × (heard_of (withdraw ∷ nmt_event 3 ∷ nmt_event 15 ∷ []) ≡ orders true true)
   unfolding state heard_of step_all tally fresh read_event processed reset_by applied enter row_of is_reset states_entered
   then_ready = (refl, refl)
 
   -- an enable, a reset and the way back: the old visit's enable counts no more
   reset_forgets :
       (state (withdraw ∷ nmt_event 3 ∷ booted (nmt_event 15 ∷ [])) ≡ NmtPreOperational2)
-      × (heard_of (withdraw ∷ nmt_event 3 ∷ booted (nmt_event 15 ∷ [])) ≡ told false true)
+      × (heard_of (withdraw ∷ nmt_event 3 ∷ booted (nmt_event 15 ∷ [])) ≡ orders false true)
   unfolding state heard_of step_all tally fresh read_event processed reset_by applied enter row_of is_reset states_entered
   reset_forgets = (refl, refl)
 
   -- a ready word in PreOperational1 does not count
-  unheeded : (tallied s (nmt_event 5 ∷ nmt_event 13 ∷ withdraw ∷ nmt_event 15 ∷ [])).told ≡ told false false
+  unheeded : (tallied s (nmt_event 5 ∷ nmt_event 13 ∷ withdraw ∷ nmt_event 15 ∷ [])).orders ≡ orders false false
   unfolding step_all tally fresh read_event processed reset_by applied enter row_of is_reset states_entered
   unheeded = refl
 
@@ -112,12 +115,12 @@ waits :
     × ((counted_of 1 0 []).dropped ≡ [])
     × (E LossOfSoc (counted_of 1 0 []).marks ≡ 2)
     × (N LossOfSoc (counted_of 1 0 []).marks ≡ 1)
-unfolding after counted_of step_all tally fresh read_event read_cs_event processed reset_by applied enter row_of is_reset states_entered Dll.cs_processed armed listed well_formed tick_taken beat_all soc_check deal_all deal queued handled Counters.counted_error after_error replaced error_marks crosses
+unfolding after counted_of step_all tally fresh read_event read_cs_event processed reset_by applied enter row_of is_reset states_entered Dll.cs_processed armed listed well_formed tick_taken on_late_all soc_check on_dll_errors on_dll_error queued handled Counters.counted_error after_error replaced error_marks crosses
 waits = (refl, refl, refl, refl, refl, refl)
 
 -- and is handed out
 handed_out_lem : ((after 1 0 (hand_out ∷ [])).queue ≡ []) × ((counted_of 1 0 (hand_out ∷ [])).handed ≡ loss_at ∷ [])
-unfolding after counted_of step_all tally fresh read_event read_cs_event processed reset_by applied enter row_of is_reset states_entered Dll.cs_processed armed listed well_formed tick_taken beat_all soc_check deal_all deal queued handled Counters.counted_error after_error replaced error_marks crosses nth
+unfolding after counted_of step_all tally fresh read_event read_cs_event processed reset_by applied enter row_of is_reset states_entered Dll.cs_processed armed listed well_formed tick_taken on_late_all soc_check on_dll_errors on_dll_error queued handled Counters.counted_error after_error replaced error_marks crosses nth
 handed_out_lem = (refl, refl)
 
 -- with a queue of 0 it is dropped: counter 3 is 1, and from its top it goes to 0
@@ -126,7 +129,7 @@ dropped_full :
     × ((counted_of 0 0 []).dropped ≡ loss_at ∷ [])
     × ((after 0 0 []).od.counter_3 ≡ 1)
     × ((after 0 4294967295 []).od.counter_3 ≡ 0)
-unfolding after counted_of step_all tally fresh read_event read_cs_event processed reset_by applied enter row_of is_reset states_entered Dll.cs_processed armed listed well_formed tick_taken beat_all soc_check deal_all deal queued handled Counters.counted_error after_error replaced error_marks crosses
+unfolding after counted_of step_all tally fresh read_event read_cs_event processed reset_by applied enter row_of is_reset states_entered Dll.cs_processed armed listed well_formed tick_taken on_late_all soc_check on_dll_errors on_dll_error queued handled Counters.counted_error after_error replaced error_marks crosses
 dropped_full = (refl, refl, refl, refl)
 
 -- the kept one writes the place before the newest, in a full history the oldest's; the dropped one none
@@ -134,7 +137,7 @@ written_at_lem :
     (written_at_all (fresh (begun 1 0)) (error_history 0 0) (two_losses []) ≡ 253 ∷ [])
     × (written_at_all (fresh (begun 1 0)) (error_history 253 254) (two_losses []) ≡ 252 ∷ [])
     × (written_at_all (fresh (begun 0 0)) (error_history 0 0) (two_losses []) ≡ [])
-unfolding written_at_all fresh read_event read_cs_event processed reset_by applied enter row_of is_reset states_entered Dll.cs_processed armed listed well_formed tick_taken beat_all soc_check deal_all deal queued handled Counters.counted_error after_error replaced error_marks crosses joined
+unfolding written_at_all fresh read_event read_cs_event processed reset_by applied enter row_of is_reset states_entered Dll.cs_processed armed listed well_formed tick_taken on_late_all soc_check on_dll_errors on_dll_error queued handled Counters.counted_error after_error replaced error_marks crosses joined
 written_at_lem = (refl, refl, refl)
 
 -- a node with timeout 50, heard at 100, is late at two ticks: a crossing of its kind, without an entry
@@ -142,13 +145,13 @@ abbrev late_twice : List Call
 late_twice =
     let r = watching_one 100 in booted (nmt_event 3 ∷ nmt_event 0 ∷ tick 151 r ∷ tick 251 r ∷ [])
 
-beats :
+late_errors :
     ((step_all (fresh (begun 1 0)) late_twice).nmt.current_state ≡ NmtPreOperational1)
     × ((tallied (begun 1 0) late_twice).crossings ≡ [])
     × (E HeartbeatTimeout (tallied (begun 1 0) late_twice).marks ≡ 2)
     × (N HeartbeatTimeout (tallied (begun 1 0) late_twice).marks ≡ 1)
-unfolding step_all tally fresh read_event processed reset_by applied enter row_of is_reset states_entered listed well_formed tick_taken beat_all beat handled Counters.counted_error after_error replaced error_marks
-beats = (refl, refl, refl, refl)
+unfolding step_all tally fresh read_event processed reset_by applied enter row_of is_reset states_entered listed well_formed tick_taken on_late_all on_late handled Counters.counted_error after_error replaced error_marks
+late_errors = (refl, refl, refl, refl)
 
 -- a partner with timeout 50 is added, and heard at 100: it would be late at 151, behind a reset too; of a removal that is declined nothing comes; removed, no
 -- node would be late

@@ -3,7 +3,7 @@
 -- Assumes nothing.
 use Rattle.std.specs.Prelude.{ℕ, ◌+◌, ◌*◌, ◌<◌, ◌≤◌, ◌≡◌, false, List, [], ◌∷◌, ◌++◌, length}
 use Rattle.types.specs.declared.nmt.states.NmtState.TheVariants.{NmtPreOperational2, NmtReadyToOperate}
-use Rattle.counters.specs.Counters.{counter, top, threshold_for}
+use Rattle.counters.specs.Counters.{counter, top, threshold_for, error_weight}
 use Rattle.counters.specs.Marks.{Mark, level, is_crossing, count_of, E, N, D}
 use Rattle.counters.specs.declared.counters.CounterKind.{CounterKind}
 use Rattle.entries.specs.declared.status_response.ErrorEntry.{ErrorEntry}
@@ -22,7 +22,9 @@ use Rattle.trace.specs.Earliest.{run_after}
 -- its list, and nothing else does.
 pub data Merge : List ErrorEntry → List ErrorEntry → List ErrorEntry → Type 0 where
   empty : Merge [] [] []
+  -- the next item is that of the second list
   left : {e : ErrorEntry} {x y z : List ErrorEntry} → Merge x y z → Merge (e ∷ x) (e ∷ y) z
+  -- the next item is that of the third list
   right : {e : ErrorEntry} {x y z : List ErrorEntry} → Merge x y z → Merge (e ∷ x) y (e ∷ z)
 
 -- What one call does to an emergency queue in which n entries may wait (RULES 10.4). The five lists
@@ -59,15 +61,15 @@ Each p (c ∷ cs) = Rule p c × Each (step p c).head cs
 -- cycles that took 1 from the level. An error adds 8 to the level, and a crossing clears it.
 pub record Balance (T : ℕ) (k : CounterKind) (ms : List Mark) (L : ℕ) : Type 0 where
   -- a crossing clears a level of at least T
-  pub low : 0 < T → T * N k ms + L + D k ms ≤ 8 * E k ms
+  pub low : 0 < T → T * N k ms + L + D k ms ≤ error_weight * E k ms
   -- and of at most T + 7: without the last error it was below T
-  pub high : 0 < T → 8 * E k ms ≤ (T + 7) * N k ms + L + D k ms
+  pub high : 0 < T → error_weight * E k ms ≤ (T + 7) * N k ms + L + D k ms
   -- a threshold of 0 never crosses
   pub none : T ≡ 0 → N k ms ≡ 0
   -- an error adds at most 8, for the level stops at its top of 2^32 − 1
-  pub most : T ≡ 0 → L + D k ms ≤ 8 * E k ms
+  pub most : T ≡ 0 → L + D k ms ≤ error_weight * E k ms
   -- and exactly 8 while 8 × E is no more than that
-  pub exact : T ≡ 0 → 8 * E k ms ≤ top → L + D k ms ≡ 8 * E k ms
+  pub exact : T ≡ 0 → error_weight * E k ms ≤ top → L + D k ms ≡ error_weight * E k ms
 
 -- what is counted of the calls cs behind the start s
 abbrev pub tallied : Start → List Call → Tally
@@ -85,23 +87,23 @@ pub record Claim (s : Start) (cs : List Call) (says : List Said) (h : Head) (q m
   -- to PreOperational2 just before
   pub asked : h.nmt.current_state ≡ NmtReadyToOperate → Enabled (fresh s) cs
   -- in PreOperational2 the head is enabled exactly where one came in this visit
-  pub enabled : h.nmt.current_state ≡ NmtPreOperational2 → h.nmt.ready_to_operate_enabled ≡ (tallied s cs).told.asked
+  pub enabled : h.nmt.current_state ≡ NmtPreOperational2 → h.nmt.ready_to_operate_enabled ≡ (tallied s cs).orders.asked
   -- at ReadyToOperate, a ready word (CnConfigurationComplete) counted since the last reset, and no
   -- withdrawal was taken behind it
   pub word : h.nmt.current_state ≡ NmtReadyToOperate → ReadyWord (fresh s) cs
   -- in every state the head's ready flag is what the last word or withdrawal that counted since the
   -- last reset says: off where none did. Before the first reset it is on until a withdrawal is
   -- taken.
-  pub heeded : h.nmt.app_ready ≡ (tallied s cs).told.word
+  pub heeded : h.nmt.app_ready ≡ (tallied s cs).orders.word
   -- RULES 10.3: level, errors, crossings and completed cycles of each kind, with the threshold that
   -- start was given
   pub balance : (k : CounterKind) → Balance (threshold_for k s.thresholds) k (tallied s cs).marks (level k h.errors)
-  -- N is the head's own count of the kind's crossings, and E its own count of the errors, while
-  -- these are below their top of 2^32 − 1
+  -- N is the head's own count of the kind's crossings, while that is below its top of 2^32 − 1
   pub crossed :
       (k : CounterKind) →
       (counter k h.errors).crossings_cnt < top →
       (counter k h.errors).crossings_cnt ≡ N k (tallied s cs).marks
+  -- and E is its own count of the kind's errors, while that is below its top
   pub occurred :
       (k : CounterKind) →
       (counter k h.errors).cumulative_cnt < top →

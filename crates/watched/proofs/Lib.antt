@@ -1,6 +1,6 @@
 pub mod Lists
 pub mod Watching
-pub mod Climbing
+pub mod ScanLaws
 pub mod Walk
 pub mod Limits
 pub mod Written

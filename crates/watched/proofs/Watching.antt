@@ -24,7 +24,7 @@ use Rattle.std.specs.declared.option.Option.{Option}
 use Rattle.std.specs.declared.option.Option.TheVariants.{Some, None}
 use Rattle.watched.specs.declared.nodes.Seen.{Seen}
 use Rattle.watched.specs.declared.nodes.Seen.TheVariants as seen
-use Rattle.watched.specs.Nodes.{node_at, nodes_of, rests, not_before, rising, never, moment_of, sooner_by, soonest, roused_from, nodes_tried, found_of, seen_of}
+use Rattle.watched.specs.Nodes.{node_at, nodes_of, rests, not_before, rising, never, moment_of, sooner_by, soonest, active_from, nodes_tried, found_of, seen_of}
 
 -- the item at an index of a list that is given by index
 pub listed_at : {A : Type 0} (f : ℕ → A) (n i : ℕ) (d : A) → i < n → get_or (listed f n) i d ≡ f i
@@ -65,21 +65,21 @@ module _ {A : Type 0} (b : Bool) (s : A) (a : Option A) (e : a ≡ pick b (Some 
       by false x = (cc, cc)
 
 -- what an answer of look says
-module _ (b r q : Bool) (s : Option ℕ) (a : Option Seen) (e : a ≡ pick b (Some (pick r (seen.Resting s) (seen.Roused q))) None) where
+module _ (b r q : Bool) (s : Option ℕ) (a : Option Seen) (e : a ≡ pick b (Some (pick r (seen.Resting s) (seen.Active q))) None) where
   pub seen_unformed : a ≡ None → b ≡ false
-  seen_unformed = tried_unformed b (pick r (seen.Resting s) (seen.Roused q)) a e
+  seen_unformed = tried_unformed b (pick r (seen.Resting s) (seen.Active q)) a e
 
-  pub seen_roused : (y : Bool) → a ≡ Some (seen.Roused y) → (b ≡ true) × (r ≡ false) × (y ≡ q)
-  seen_roused y h = let x = tried_formed b (pick r (seen.Resting s) (seen.Roused q)) a e _ h in let z = by r x.1 in (x.0, z.0, z.1)
+  pub seen_active : (y : Bool) → a ≡ Some (seen.Active y) → (b ≡ true) × (r ≡ false) × (y ≡ q)
+  seen_active y h = let x = tried_formed b (pick r (seen.Resting s) (seen.Active q)) a e _ h in let z = by r x.1 in (x.0, z.0, z.1)
     where
-      by : (r : Bool) → seen.Roused y ≡ pick r (seen.Resting s) (seen.Roused q) → (r ≡ false) × (y ≡ q)
+      by : (r : Bool) → seen.Active y ≡ pick r (seen.Resting s) (seen.Active q) → (r ≡ false) × (y ≡ q)
       by true x = (cc, cc)
       by false x = (refl, cc)
 
   pub seen_resting : (x : Option ℕ) → a ≡ Some (seen.Resting x) → (b ≡ true) × (r ≡ true) × (x ≡ s)
-  seen_resting y h = let x = tried_formed b (pick r (seen.Resting s) (seen.Roused q)) a e _ h in let z = by r x.1 in (x.0, z.0, z.1)
+  seen_resting y h = let x = tried_formed b (pick r (seen.Resting s) (seen.Active q)) a e _ h in let z = by r x.1 in (x.0, z.0, z.1)
     where
-      by : (r : Bool) → seen.Resting y ≡ pick r (seen.Resting s) (seen.Roused q) → (r ≡ true) × (y ≡ s)
+      by : (r : Bool) → seen.Resting y ≡ pick r (seen.Resting s) (seen.Active q) → (r ≡ true) × (y ≡ s)
       by true x = (refl, cc)
       by false x = (cc, cc)
 
@@ -263,24 +263,24 @@ module _ (ws : List ℕ) where
     -- what look answers
     module _ (t : ℕ) where
       abbrev seen_by : Bool → Bool → Bool → ℕ → Option Seen
-      seen_by b r q s = pick b (Some (pick r (seen.Resting (moment_of s)) (seen.Roused q))) None
+      seen_by b r q s = pick b (Some (pick r (seen.Resting (moment_of s)) (seen.Active q))) None
 
-      pub look_unformed : well_formed vs ≡ false → None ≡ seen_of t vs
-      look_unformed h = sym (ap (λ (b : Bool). seen_by b (all_of (rests t) vs) (all_of (not_before t) vs) (soonest never vs)) h)
+      pub examine_unformed : well_formed vs ≡ false → None ≡ seen_of t vs
+      examine_unformed h = sym (ap (λ (b : Bool). seen_by b (all_of (rests t) vs) (all_of (not_before t) vs) (soonest never vs)) h)
 
-      pub look_roused :
+      pub examine_active :
           (n : ℕ) (ws : List WatchedNode) → well_formed vs ≡ rising n ws → all_of (rests t) vs ≡ false → all_of (not_before t) vs ≡ all_of (not_before t) ws →
-          (a : Option Bool) → a ≡ roused_from n t ws → (x : Bool) → a ≡ Some x → Some (seen.Roused x) ≡ seen_of t vs
-      look_roused n ws h e f a g x d =
+          (a : Option Bool) → a ≡ active_from n t ws → (x : Bool) → a ≡ Some x → Some (seen.Active x) ≡ seen_of t vs
+      examine_active n ws h e f a g x d =
           let y = tried_formed (rising n ws) (all_of (not_before t) ws) a g x d in
           sym (λ i. seen_by ((h ∙ y.0) i) (e i) ((f ∙ sym y.1) i) (soonest never vs))
 
-      pub look_none :
-          (n : ℕ) (ws : List WatchedNode) → well_formed vs ≡ rising n ws → (a : Option Bool) → a ≡ roused_from n t ws → a ≡ None → None ≡ seen_of t vs
-      look_none n ws h a g d = look_unformed (h ∙ tried_unformed (rising n ws) (all_of (not_before t) ws) a g d)
+      pub examine_none :
+          (n : ℕ) (ws : List WatchedNode) → well_formed vs ≡ rising n ws → (a : Option Bool) → a ≡ active_from n t ws → a ≡ None → None ≡ seen_of t vs
+      examine_none n ws h a g d = examine_unformed (h ∙ tried_unformed (rising n ws) (all_of (not_before t) ws) a g d)
 
-      pub look_rests : well_formed vs ≡ true → all_of (rests t) vs ≡ true → (s : ℕ) → soonest never vs ≡ s → Some (seen.Resting (moment_of s)) ≡ seen_of t vs
-      look_rests h e s f = sym (λ i. seen_by (h i) (e i) (all_of (not_before t) vs) (f i))
+      pub examine_rests : well_formed vs ≡ true → all_of (rests t) vs ≡ true → (s : ℕ) → soonest never vs ≡ s → Some (seen.Resting (moment_of s)) ≡ seen_of t vs
+      examine_rests h e s f = sym (λ i. seen_by (h i) (e i) (all_of (not_before t) vs) (f i))
 
     -- well formed nodes are at most 32
     pub few : well_formed vs ≡ true → k ≤ 32

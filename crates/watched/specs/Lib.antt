@@ -1,3 +1,3 @@
 pub mod Watched
 pub mod Nodes
-pub mod Climb
+pub mod Scan

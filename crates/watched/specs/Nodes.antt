@@ -7,22 +7,23 @@ use Rattle.types.specs.Types.{is_node}
 use Rattle.entries.specs.Ring.{listed}
 use Rattle.watched.specs.declared.nodes.WatchedNode.{WatchedNode}
 use Rattle.watched.specs.declared.record.NodeRecord.{NodeRecord}
-use Rattle.watched.specs.Watched.{timed, fits, well_formed, watched_node, heard_at, place_of}
+use Rattle.watched.specs.Watched.{timed, fits, well_formed, watched_node, heard_at, place_of, watched_places}
 use Rattle.std.specs.declared.option.Option.{Option}
 use Rattle.std.specs.declared.option.Option.TheVariants.{Some, None}
 use Rattle.watched.specs.declared.nodes.Seen.{Seen}
 use Rattle.watched.specs.declared.nodes.Seen.TheVariants as seen
 
--- the node that three words stand for, and the one at place i of the words
+-- the node that a record of three words stands for
 abbrev pub node_of : NodeRecord → WatchedNode
 node_of r = watched_node r.node r.timeout r.last_heard
 
+-- the node in the three words at place i: its number, its timeout and its last-heard time
 abbrev pub node_at : List ℕ → ℕ → WatchedNode
 node_at ns i = watched_node (get_or ns (3 * i) 0) (get_or ns (3 * i + 1) 0) (get_or ns (3 * i + 2) 0)
 
 -- the nodes at the 32 places
 unfoldable pub nodes_of : List ℕ → List WatchedNode
-nodes_of ns = listed (node_at ns) 32
+nodes_of ns = listed (node_at ns) watched_places
 
 -- a node rests at t: it was heard, not after t where it has a timeout, and is not late. A tick
 -- leaves it as it is
@@ -42,22 +43,22 @@ abbrev pub rising : ℕ → List WatchedNode → Bool
 rising n [] = true
 rising n (w ∷ ws) = both (both (ltb n w.node) (fits w)) (rising w.node ws)
 
--- the nodes climb behind the number n: each number is above the one before, and all times are
--- within their limits; whether a number is a node's is not tried
-abbrev pub climbing : ℕ → List WatchedNode → Bool
-climbing n [] = true
-climbing n (w ∷ ws) = both (both (ltb n w.node) (timed w)) (climbing w.node ws)
+-- behind the number n: each number is above the one before, and all times are within their limits;
+-- whether a number is a node's is not tried
+abbrev pub well_ordered : ℕ → List WatchedNode → Bool
+well_ordered n [] = true
+well_ordered n (w ∷ ws) = both (both (ltb n w.node) (timed w)) (well_ordered w.node ws)
 
 -- the number is a node's
 abbrev pub numbered : WatchedNode → Bool
 numbered w = is_node w.node
 
--- The walks carry the earliest moment at which a node would be late as a number; 2^64 − 1, which is
--- no node's moment, stands for none.
+-- 2^64 − 1. The walks carry the earliest moment at which a node would be late as a number, where
+-- this one, which is no node's moment, stands for none
 abbrev pub never : ℕ
 never = 18446744073709551615
 
--- the moment that such a number stands for
+-- the moment that such a number stands for, or none
 abbrev pub moment_of : ℕ → Option ℕ
 moment_of n = pick (eqb n never) None (Some n)
 
@@ -77,8 +78,8 @@ soonest s (w ∷ ws) = soonest (sooner_by s w) ws
 
 -- whether t is before no last-heard time of some nodes, where these are well formed behind the
 -- number n
-abbrev pub roused_from : ℕ → ℕ → List WatchedNode → Option Bool
-roused_from n t ws = pick (rising n ws) (Some (all_of (not_before t) ws)) None
+abbrev pub active_from : ℕ → ℕ → List WatchedNode → Option Bool
+active_from n t ws = pick (rising n ws) (Some (all_of (not_before t) ws)) None
 
 -- the soonest moment of well formed nodes; none where they are not well formed
 abbrev pub nodes_tried : List WatchedNode → Option (Option ℕ)
@@ -93,5 +94,5 @@ found_of n t vs = pick (well_formed vs) (Some (place_of n vs, soonest never (hea
 abbrev pub seen_of : ℕ → List WatchedNode → Option Seen
 seen_of t vs =
     pick (well_formed vs)
-    (Some (pick (all_of (rests t) vs) (seen.Resting (moment_of (soonest never vs))) (seen.Roused (all_of (not_before t) vs))))
+    (Some (pick (all_of (rests t) vs) (seen.Resting (moment_of (soonest never vs))) (seen.Active (all_of (not_before t) vs))))
     None

@@ -2,17 +2,20 @@
 //! There are 32 places, of which the first ones, as many as the count says, are watched.
 ghost use Rattle.std.specs.Prelude.{◌≡◌, ◌≤◌, ◌<◌, ◌+◌, ◌*◌, set, true, MatchOption};
 ghost use Rattle.types.specs.Pick.{all_of};
-ghost use Rattle.watched.specs.Watched.{well_formed, no_node, watched_of};
-ghost use Rattle.watched.specs.Climb.{climbed, over, climb_of, climbed_of, heard_climbed};
-ghost use Rattle.watched.specs.Climb.{nodes_from};
-ghost use Rattle.watched.specs.Nodes.{never, moment_of, climbing, numbered, roused_from};
+ghost use Rattle.watched.specs.Watched.{well_formed, no_node, watched_of, watched_places};
+ghost use Rattle.watched.specs.Scan.{scanned, over, scan_of, scanned_of, heard_scanned};
+ghost use Rattle.watched.specs.Scan.{nodes_from};
+ghost use Rattle.watched.specs.Nodes.{never, moment_of, well_ordered, numbered, active_from};
 ghost use Rattle.watched.specs.Nodes.{nodes_tried, found_of, seen_of, node_of, nodes_of};
 
 use crate::record::NodeRecord;
 use crate::time::in_time;
 
-/// A run of watched nodes as words: 32 places of three.
-pub type NodeWords = [u64; 96];
+/// The places of a run of watched nodes.
+pub const WATCHED_PLACES: usize = 32;
+
+/// A run of watched nodes as words: three a place.
+pub type NodeWords = [u64; 3 * WATCHED_PLACES];
 
 /// A watched node.
 #[derive(Clone, Copy, PartialEq, Eq)]
@@ -52,7 +55,7 @@ pub fn moment(soonest: u64) -> Option<u64>
 
 /// Sets when the node at a place was last heard, in µs.
 pub fn set_heard(nodes: &mut NodeWords, place: usize, time: u64)
-    requires { place < 32 }
+    requires { place < watched_places }
     ensures { nodes.new ≡ set nodes.old (3 * place + 2) time }
 {
     nodes[3 * place + 2] = time;
@@ -61,20 +64,20 @@ pub fn set_heard(nodes: &mut NodeWords, place: usize, time: u64)
 // What a walk knows at the place where it stands: the last number before it, the bits of all times
 // before it, and the soonest of what is 3 µs before their moments.
 #[derive(Clone, Copy)]
-struct Climbed {
+struct Scanned {
     place: usize,
     last: u64,
     times: u64,
     soonest: u64,
 }
 
-impl Climbed {
+impl Scanned {
     // The same behind the node at its place.
     fn over(self, node: NodeRecord) -> Self
-        requires { self.place < 32 }
+        requires { self.place < watched_places }
         ensures { result ≡ over self (node_of node) }
     {
-        Climbed {
+        Scanned {
             place: self.place + 1,
             last: node.node,
             times: self.times | node.timeout | node.last_heard,
@@ -90,7 +93,7 @@ struct Ahead<'a> {
     count: usize,
     place: usize,
     last: u64,
-    ghost few: { count ≤ 32 },
+    ghost few: { count ≤ watched_places },
 }
 
 impl<'a> Ahead<'a> {
@@ -98,10 +101,10 @@ impl<'a> Ahead<'a> {
     // two cases by selects, which slows the walks.
     #[inline(always)]
     fn all(nodes: &'a NodeWords, count: usize) -> Option<Self>
-        ensures { MatchOption result (32 < count)
+        ensures { MatchOption result (watched_places < count)
             (λ a. (a.nodes.now ≡ nodes.now) × (a.count ≡ count) × (a.place ≡ 0) × (a.last ≡ 0)) }
     {
-        if 32 < count {
+        if WATCHED_PLACES < count {
             return None;
         }
         Some(Ahead {
@@ -128,12 +131,12 @@ impl<'a> Ahead<'a> {
     // Walks the nodes as long as their numbers climb and none is the one sought. The times are
     // tested all together behind the walk, which has no other test and takes the same time whatever
     // they are.
-    fn climb(self, sought: u64) -> Climbed
+    fn scan(self, sought: u64) -> Scanned
         ensures { result ≡
-            climb_of sought (climbed self.entry.place self.entry.last 0 never)
+            scan_of sought (scanned self.entry.place self.entry.last 0 never)
             (nodes_from self.entry.place self.entry.count self.entry.nodes.now) }
     {
-        let mut climbed = Climbed {
+        let mut scanned = Scanned {
             place: self.place,
             last: self.last,
             times: 0,
@@ -141,34 +144,34 @@ impl<'a> Ahead<'a> {
         };
         for i in self.place..self.count {
             let node = NodeRecord::at(self.nodes, i);
-            if node.node <= climbed.last {
-                return climbed;
+            if node.node <= scanned.last {
+                return scanned;
             }
             if node.node == sought {
-                return climbed;
+                return scanned;
             }
-            climbed = climbed.over(node);
+            scanned = scanned.over(node);
         }
-        climbed
+        scanned
     }
 
     // The soonest moment, where the nodes climb; `before` is that of the nodes before them.
-    fn climb_from(self, before: u64) -> Option<u64>
+    fn scan_from(self, before: u64) -> Option<u64>
         ensures { result ≡
-            climbed_of self.entry.last before
+            scanned_of self.entry.last before
             (nodes_from self.entry.place self.entry.count self.entry.nodes.now) }
     {
-        let climbed = self.climb(0);
-        if climbed.place < self.count {
+        let scanned = self.scan(0);
+        if scanned.place < self.count {
             return None;
         }
-        in_time(climbed.times).then_some(before.min(climbed.soonest.saturating_add(3)))
+        in_time(scanned.times).then_some(before.min(scanned.soonest.saturating_add(3)))
     }
 
     // Whether all, which climb, have a node's number: from the last one back to one of at most 240;
     // those before it have a smaller number.
     fn have_numbers(self) -> bool
-        requires { climbing self.last (nodes_from self.place self.count self.nodes.now) ≡ true }
+        requires { well_ordered self.last (nodes_from self.place self.count self.nodes.now) ≡ true }
         ensures { result ≡
             all_of numbered (nodes_from self.entry.place self.entry.count self.entry.nodes.now) }
     {
@@ -187,14 +190,14 @@ impl<'a> Ahead<'a> {
     // The soonest moment with the first of them heard at a time, where they climb.
     fn hear_first(self, before: u64, time: u64) -> Option<u64>
         ensures { result ≡
-            heard_climbed self.entry.last before time
+            heard_scanned self.entry.last before time
             (nodes_from self.entry.place self.entry.count self.entry.nodes.now) }
     {
         if self.count <= self.place {
             return Some(before);
         }
         let node = NodeRecord::at(self.nodes, self.place);
-        if !node.climbs(self.last) {
+        if !node.comes_after(self.last) {
             return None;
         }
         let heard = NodeRecord {
@@ -202,21 +205,21 @@ impl<'a> Ahead<'a> {
             ..node
         };
         let rest = self.behind(self.place + 1, node.node);
-        rest.climb_from(heard.sooner(before))
+        rest.scan_from(heard.sooner(before))
     }
 
     // From a node on that does not rest: whether the time is before none of their last-heard times.
     // No moment is worked out here; the tick does that.
-    fn roused(self, time: u64) -> Option<bool>
+    fn active(self, time: u64) -> Option<bool>
         ensures { result ≡
-            roused_from self.entry.last time
+            active_from self.entry.last time
             (nodes_from self.entry.place self.entry.count self.entry.nodes.now) }
     {
         let mut above = self.last;
         let mut heard = true;
         for i in self.place..self.count {
             let node = NodeRecord::at(self.nodes, i);
-            if !node.climbs(above) {
+            if !node.comes_after(above) {
                 return None;
             }
             heard = heard && node.heard_by(time);
@@ -232,7 +235,7 @@ pub fn try_nodes(nodes: &NodeWords, count: usize) -> Option<Option<u64>>
     ensures { result ≡ nodes_tried (watched_of (nodes_of nodes.now) count) }
 {
     let all = Ahead::all(nodes, count)?;
-    let soonest = all.climb_from(NEVER)?;
+    let soonest = all.scan_from(NEVER)?;
     all.have_numbers().then_some(moment(soonest))
 }
 
@@ -260,7 +263,7 @@ pub fn find(nodes: &NodeWords, count: usize, node: u64, time: u64) -> Option<(us
 {
     // One walk up to the node, another behind it.
     let all = Ahead::all(nodes, count)?;
-    let front = all.climb(node);
+    let front = all.scan(node);
     if !in_time(front.times) {
         return None;
     }
@@ -269,21 +272,21 @@ pub fn find(nodes: &NodeWords, count: usize, node: u64, time: u64) -> Option<(us
     all.have_numbers().then_some((front.place, soonest))
 }
 
-/// What a look at well formed nodes finds before a tick. A node rests that was heard, not after the
-/// tick's time where it has a timeout, and is not late.
+/// What a check of well formed nodes finds before a tick. A node rests that was heard, not after
+/// the tick's time where it has a timeout, and is not late.
 #[derive(Clone, Copy)]
 pub enum Seen {
     /// Some node does not rest, so that the tick has to go over all. True where the time is before
     /// no last-heard time of a node with a timeout; where it is false, BeforeHeard refuses the
     /// tick.
-    Roused(bool),
+    Active(bool),
     /// All nodes rest; the soonest moment, in µs, at which one would be late.
     Resting(Option<u64>),
 }
 
 /// Looks at the first nodes for a tick at a time in µs; none where they are not well formed. Each
 /// is read once up to one that does not rest.
-pub fn look(nodes: &NodeWords, count: usize, time: u64) -> Option<Seen>
+pub fn examine(nodes: &NodeWords, count: usize, time: u64) -> Option<Seen>
     ensures { result ≡ seen_of time (watched_of (nodes_of nodes.now) count) }
 {
     let all = Ahead::all(nodes, count)?;
@@ -295,7 +298,7 @@ pub fn look(nodes: &NodeWords, count: usize, time: u64) -> Option<Seen>
             return None;
         }
         let Some(until) = node.rest_until(soonest, time) else {
-            return Some(Seen::Roused(all.behind(i, last).roused(time)?));
+            return Some(Seen::Active(all.behind(i, last).active(time)?));
         };
         soonest = until;
         last = node.node;

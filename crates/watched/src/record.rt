@@ -1,8 +1,8 @@
 //! A watched node as three words: its number, its timeout and the time it was last heard.
 ghost use Rattle.std.specs.Prelude.{◌≡◌, ◌<◌, ◌+◌, ◌*◌, ltb, set, true};
 ghost use Rattle.types.specs.Pick.{both};
-ghost use Rattle.watched.specs.Watched.{timed, fits, no_node};
-ghost use Rattle.watched.specs.Climb.{one_less, three_before};
+ghost use Rattle.watched.specs.Watched.{timed, fits, no_node, watched_places};
+ghost use Rattle.watched.specs.Scan.{one_less, three_before};
 ghost use Rattle.watched.specs.Nodes.{not_before, numbered, sooner_by, rest_until};
 ghost use Rattle.watched.specs.Nodes.{node_of, node_at, nodes_of};
 
@@ -55,7 +55,7 @@ impl NodeRecord {
 
     /// The node at a place of the words.
     pub fn at(nodes: &NodeWords, place: usize) -> Self
-        requires { place < 32 }
+        requires { place < watched_places }
         ensures { node_of result ≡ node_at nodes.now place }
     {
         let at = 3 * place;
@@ -68,7 +68,7 @@ impl NodeRecord {
 
     /// Writes the three words of one place; all others stay.
     pub fn put(self, nodes: &mut NodeWords, place: usize)
-        requires { place < 32 }
+        requires { place < watched_places }
         ensures { (nodes.new ≡
             set (set (set nodes.old (3 * place) self.node) (3 * place + 1) self.timeout)
             (3 * place + 2) self.last_heard) ×
@@ -97,7 +97,7 @@ impl NodeRecord {
     }
 
     /// Whether the number is above the one before it, and both times are at most 2^62 - 1.
-    pub fn climbs(self, last: u64) -> bool
+    pub fn comes_after(self, last: u64) -> bool
         ensures { result ≡ both (ltb last self.node) (timed (node_of self)) }
     {
         last < self.node && in_time(self.timeout) && in_time(self.last_heard)
@@ -107,7 +107,7 @@ impl NodeRecord {
     pub fn follows(self, last: u64) -> bool
         ensures { result ≡ both (ltb last self.node) (fits (node_of self)) }
     {
-        self.climbs(last) && self.is_numbered()
+        self.comes_after(last) && self.is_numbered()
     }
 
     /// Whether a time is not before the node was last heard, where it has a timeout and was heard

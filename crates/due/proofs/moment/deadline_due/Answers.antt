@@ -13,7 +13,7 @@ use Rattle.head.specs.Words.{head_of}
 use Rattle.head.specs.declared.state.Deadline.{Deadline}
 use Rattle.head.specs.declared.state.Deadline.TheVariants.{At, Nothing}
 use Rattle.node.specs.Plain.{Plain}
-use Rattle.node.specs.Tick.{at_not_active, basic_timeout}
+use Rattle.node.specs.Deadline.{at_not_active, basic_timeout}
 use Rattle.node.specs.Due.{deadline_due}
 use Rattle.tick.specs.TickWords.{unlent}
 use Rattle.due.proofs.moment.deadline_due.Goals as goal

@@ -3,7 +3,7 @@
 use mathlib.Core.Path.{◌≡◌}
 use Rattle.watched.specs.Watched.{run}
 use Rattle.watched.specs.Nodes.{nodes_of}
-use Rattle.watched.specs.Climb.{nodes_from}
+use Rattle.watched.specs.Scan.{nodes_from}
 use Rattle.due.specs.Walk.{walked, walked_run}
 use Rattle.due.proofs.words.walk.Given as goal
 

@@ -5,4 +5,4 @@ use Rattle.examples.proofs.heads.awaiting.Goals as goal
 
 pub returns : goal.returns
 returns c =
-    awaiting_stands c.args.earliest c.args.beats c.args.beat _ c.counting.array_long c.counting.ensures _ c.set_earliest.ensures
+    awaiting_stands c.args.earliest c.args.missed c.args.missed_level _ c.counting.array_long c.counting.ensures _ c.set_earliest.ensures

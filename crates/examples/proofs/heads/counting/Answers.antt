@@ -5,4 +5,4 @@ use Rattle.examples.proofs.heads.counting.Goals as goal
 
 pub returns : goal.returns
 returns c =
-    counting_stands c.args.socs c.args.crossings c.args.soc c.args.beats c.args.beat _ (rw (c.set_counter-2.ensures, c.counter-2.ensures, c.set_counter.ensures, c.counter.ensures, c.write.ensures, c.values-od.ensures))
+    counting_stands c.args.socs c.args.crossings c.args.soc c.args.missed c.args.missed_level _ (rw (c.set_counter-2.ensures, c.counter-2.ensures, c.set_counter.ensures, c.counter.ensures, c.write.ensures, c.values-od.ensures))

@@ -20,20 +20,20 @@ pub returns-in_err-found : goal.returns-in_err-found
 returns-in_err-found c =
     let a = c.args in
     let r : c.from_residual-in_err-found.result ≡ Err WatchedNodes = search rules in
-    let n : c.survey.result ≡ None = search rules in
-    rw r (add_unformed a.head.now a.nodes.now a.number.now a.node _ c.for_heard.ensures c.survey.result c.survey.ensures n (read_known a.node _ (sym c.try_from.ensures ∙ c.in_ok-try_from.was)) a.timeout)
+    let n : c.inspect.result ≡ None = search rules in
+    rw r (add_unformed a.head.now a.nodes.now a.number.now a.node _ c.for_heard.ensures c.inspect.result c.inspect.ensures n (read_known a.node _ (sym c.try_from.ensures ∙ c.in_ok-try_from.was)) a.timeout)
 
 pub returns-in_err-try_place : goal.returns-in_err-try_place
 returns-in_err-try_place c =
     let a = c.args in
     let r : c.from_residual-in_err-try_place.result ≡ Err c.in_err-try_place.field-0.0 = search rules in
-    let s : c.survey.result ≡ Some c.in_ok-found.found = search rules in
-    rw r (add_declined a.head.now a.nodes.now a.number.now a.node _ c.for_heard.ensures c.survey.result c.survey.ensures _ s a.timeout true (sym (read_known a.node _ (sym c.try_from.ensures ∙ c.in_ok-try_from.was)))
+    let s : c.inspect.result ≡ Some c.in_ok-found.found = search rules in
+    rw r (add_declined a.head.now a.nodes.now a.number.now a.node _ c.for_heard.ensures c.inspect.result c.inspect.ensures _ s a.timeout true (sym (read_known a.node _ (sym c.try_from.ensures ∙ c.in_ok-try_from.was)))
     c.try_place.result (c.try_place.ensures true _ refl) _ c.in_err-try_place.was)
 
 pub returns : goal.returns
 returns c =
     let a = c.args in
-    let s : c.survey.result ≡ Some c.in_ok-found.found = search rules in
-    add_taken a.head.now a.nodes.now a.number.now a.node _ c.for_heard.ensures c.survey.result c.survey.ensures _ s a.timeout true (sym (read_known a.node _ (sym c.try_from.ensures ∙ c.in_ok-try_from.was)))
+    let s : c.inspect.result ≡ Some c.in_ok-found.found = search rules in
+    add_taken a.head.now a.nodes.now a.number.now a.node _ c.for_heard.ensures c.inspect.result c.inspect.ensures _ s a.timeout true (sym (read_known a.node _ (sym c.try_from.ensures ∙ c.in_ok-try_from.was)))
     c.try_place.result (c.try_place.ensures true _ refl) c.in_ok-try_place.was c.told-head _ c.carry.ensures c.moment.result c.moment.ensures _ c.set_earliest.ensures

@@ -14,8 +14,8 @@ pub returns-in_err-ok_or : goal.returns-in_err-ok_or
 returns-in_err-ok_or c =
     let a = c.args in
     let r : c.from_residual.result ≡ Err WatchedNodes = search rules in
-    let n : c.survey.result ≡ None = search rules in
-    rw r (turned_away_lem (run a.nodes.now a.number) a.bytes.now (declined a.nodes.now a.number _ c.for_nodes.ensures c.survey.result c.survey.ensures n))
+    let n : c.inspect.result ≡ None = search rules in
+    rw r (turned_away_lem (run a.nodes.now a.number) a.bytes.now (declined a.nodes.now a.number _ c.for_nodes.ensures c.inspect.result c.inspect.ensures n))
 
 pub loop-w-init : goal.loop-w-init
 unfolding bytes_of listed
@@ -31,8 +31,8 @@ pub returns : goal.returns
 returns c =
     let l = c.loop-w in
     let a = c.args in
-    let s : c.survey.result ≡ Some c.in_ok-ok_or.field-0 = search rules in
+    let s : c.inspect.result ≡ Some c.in_ok-ok_or.field-0 = search rules in
     written (run a.nodes.now a.number) a.bytes.now _ c.count_bits.result
-    (taken a.nodes.now a.number _ c.for_nodes.ensures c.survey.result c.survey.ensures _ s)
-    (all_set a.nodes.now a.number _ c.for_nodes.ensures c.survey.result c.survey.ensures _ s (take a.number a.nodes.now) l.w-index l.bytes refl (omega arith) l.invariant)
+    (taken a.nodes.now a.number _ c.for_nodes.ensures c.inspect.result c.inspect.ensures _ s)
+    (all_set a.nodes.now a.number _ c.for_nodes.ensures c.inspect.result c.inspect.ensures _ s (take a.number a.nodes.now) l.w-index l.bytes refl (omega arith) l.invariant)
     c.count_bits.ensures

@@ -7,7 +7,7 @@ use native.Mathlib.Omega.{arith}
 use mir.Syntax.{w64}
 use mir.Val.{to_z, of_z}
 use lib.IntN.{◌-ℤ◌}
-use Rattle.node.specs.Tick.{elapsed}
+use Rattle.node.specs.Deadline.{elapsed}
 use Rattle.node.specs.Range.{margin_of}
 use Rattle.node.proofs.Signed.{difference_fits, difference_is}
 use Rattle.node.proofs.Ranging.{head_in, margin_taken, margin_read}

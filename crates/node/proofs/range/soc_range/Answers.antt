@@ -3,7 +3,7 @@
 use Prim.Native.Nat.{◌≤◌}
 use mathlib.Core.Path.{ap, sym, ◌∙◌}
 use native.Mathlib.Omega.{arith}
-use Rattle.node.specs.Tick.{is_loss}
+use Rattle.node.specs.Deadline.{is_loss}
 use Rattle.node.proofs.Ranging.{head_in, lost_end, kept_ends, open_ends, range_taken}
 use Rattle.node.proofs.range.soc_range.Goals as goal
 

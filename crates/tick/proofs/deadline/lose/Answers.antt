@@ -5,14 +5,14 @@ use Rattle.head.specs.Words.{head_of}
 use Rattle.tick.proofs.Passings.{lost_ends, lost_goes_on}
 use Rattle.tick.proofs.deadline.lose.Goals as goal
 
-pub deal_all-dealt-requires : goal.deal_all-dealt-requires
-deal_all-dealt-requires c =
+pub on_dll_errors-outcome-requires : goal.on_dll_errors-outcome-requires
+on_dll_errors-outcome-requires c =
     loses_quiet (head_of c.args.head.now) _ c.soc_timeout-errors.result c.soc_timeout-errors.ensures.loses
 
-pub returns-then-dealt : goal.returns-then-dealt
-returns-then-dealt c =
-    lost_ends c.args.head.now c.args.queue.now c.args.history.now c.args.time.us c.soc_timeout-errors.result _ c.soc_timeout-errors.ensures c.deal_all-dealt.result _ _ _ c.deal_all-dealt.ensures c.if-dealt.true
+pub returns-then-outcome : goal.returns-then-outcome
+returns-then-outcome c =
+    lost_ends c.args.head.now c.args.queue.now c.args.history.now c.args.time.us c.soc_timeout-errors.result _ c.soc_timeout-errors.ensures c.on_dll_errors-outcome.result _ _ _ c.on_dll_errors-outcome.ensures c.if-outcome.true
 
 pub returns : goal.returns
 returns c =
-    lost_goes_on c.args.head.now c.args.queue.now c.args.history.now c.args.time.us c.soc_timeout-errors.result _ c.soc_timeout-errors.ensures c.deal_all-dealt.result _ _ _ c.deal_all-dealt.ensures c.if-dealt.false _ c.reschedule.ensures
+    lost_goes_on c.args.head.now c.args.queue.now c.args.history.now c.args.time.us c.soc_timeout-errors.result _ c.soc_timeout-errors.ensures c.on_dll_errors-outcome.result _ _ _ c.on_dll_errors-outcome.ensures c.if-outcome.false _ c.reschedule.ensures

@@ -17,4 +17,4 @@ pub returns : goal.returns
 returns c =
     let a = c.args in
     still_accepted a.head.now a.queue.now a.history.now a.time a.late c.in_ok-time.ensures.1
-    c.by_deadline-dealt.result _ _ _ (rw c.in_ok-time.ensures.0 at c.by_deadline-dealt.ensures) c.by_deadline-dealt.array_long _ c.set_earliest.ensures
+    c.by_deadline-outcome.result _ _ _ (rw c.in_ok-time.ensures.0 at c.by_deadline-outcome.ensures) c.by_deadline-outcome.array_long _ c.set_earliest.ensures

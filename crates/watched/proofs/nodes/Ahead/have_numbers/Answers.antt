@@ -2,7 +2,7 @@
 -- Assumes nothing.
 use mathlib.Core.Path.{sym}
 use Rattle.watched.specs.Nodes.{node_of}
-use Rattle.watched.proofs.Climbing.{numbers_rest, numbers_stop, numbers_next}
+use Rattle.watched.proofs.ScanLaws.{numbers_rest, numbers_stop, numbers_next}
 use Rattle.watched.proofs.nodes.Ahead.have_numbers.Goals as goal
 
 pub returns-then-node-le240 : goal.returns-then-node-le240

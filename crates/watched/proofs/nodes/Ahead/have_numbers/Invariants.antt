@@ -5,7 +5,7 @@ use mathlib.Core.Path.{◌≡◌}
 use lib.ListN.{take}
 use Rattle.types.specs.Pick.{all_of}
 use Rattle.watched.specs.Nodes.{numbered}
-use Rattle.watched.specs.Climb.{nodes_from}
+use Rattle.watched.specs.Scan.{nodes_from}
 use Rattle.watched.proofs.nodes.Ahead.have_numbers.Given as goal
 
 abbrev pub invariant-loop-i : goal.invariant-loop-i

@@ -1,9 +1,0 @@
--- `head::parts::set_option` meets its contract: what `write` leaves.
--- Assumes nothing.
-use mathlib.Core.Path.{refl}
-use Rattle.std.proofs.Common.{rules}
-use Rattle.head.proofs.parts.set_option.Goals as goal
-
-pub returns-in-Some : goal.returns-in-Some
-returns-in-Some g c =
-    rw c.in-Some.is (record { shown = _; left = _; called = c.write.ensures; shows = search rules; leaves = refl })

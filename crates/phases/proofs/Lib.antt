@@ -1,0 +1,3 @@
+pub mod PartLaws
+pub mod Turns
+pub mod Handled
