@@ -55,11 +55,12 @@ Reply = Result Answer Refusal
 abbrev pub said : Reply → plain.Answer
 said = answered says
 
--- an answer that names states which were entered tells of a reset (RULES 4.4)
+-- whether some states were entered
 abbrev pub enters_some : List NmtState → Bool
 enters_some [] = false
 enters_some (s ∷ ss) = true
 
+-- whether an answer tells of a reset: it names the states that were entered (RULES 4.4)
 abbrev pub tells_reset : plain.Answer → Bool
 tells_reset (plain.nmt_answer es r) = enters_some r.states
 tells_reset plain.taken = false

@@ -1,6 +1,6 @@
-mod Resets
-mod Places
-mod Lists
-mod Changes
+mod AnswerTells
+mod RecipePlaces
+mod WeighLists
+mod PlaceChanges
 mod Weights
-pub mod Driven
+pub mod ClaimHolds

@@ -13,11 +13,11 @@ use Rattle.head.proofs.Laws.{state_is}
 use Rattle.trace.specs.Visits.{nmt_state}
 use Rattle.recipes.specs.declared.Component.{Component}
 use Rattle.recipes.specs.Recipe.{is_recipe, places_of, no_places}
-use Rattle.weigh.specs.Plain.{Weigh, Call, load_recipe, weight, Answer, weight_answer, refused, weight_in, weight_told, step}
-use Rattle.dosing.specs.Loaded.{step_all, loads, is_reset, NoneLoaded, NoReset, Loaded, last, Weighed, told, withheld, Forgotten, since}
-use Rattle.dosing.proofs.Places.{no_weight, weight_behind, weight_there}
-use Rattle.dosing.proofs.Lists.{again, at_end, run_behind, run_then, none_loaded_then, no_reset_then}
-use Rattle.dosing.proofs.Changes.{Changes, empties, fills, leaves, changes, all_leave, all_empty}
+use Rattle.weigh.specs.PlainWeigh.{Weigh, Call, load_recipe, weight, Answer, weight_answer, refused, weight_in, weight_told, step}
+use Rattle.dosing.specs.LastRecipe.{step_all, loads, is_reset, NoneLoaded, NoReset, Loaded, last, Weighed, told, withheld, Forgotten, since}
+use Rattle.dosing.proofs.RecipePlaces.{no_weight, weight_behind, weight_there}
+use Rattle.dosing.proofs.WeighLists.{again, at_end, run_behind, run_then, none_loaded_then, no_reset_then}
+use Rattle.dosing.proofs.PlaceChanges.{Changes, empties, fills, leaves, changes, all_leave, all_empty}
 
 module _ (w : Weigh) where
   -- the places after the calls cs

@@ -1,3 +1,3 @@
-pub mod Driven
-pub mod Loaded
-pub mod Claim
+pub mod WeighDriven
+pub mod LastRecipe
+pub mod DosingClaim

@@ -10,6 +10,18 @@ ghost use Rattle.recipes.specs.Recipe.{read_recipe, places_of};
 use std::marker::Model;
 use types::refusals::Refusal;
 
+/// The places of a weigh head, which is the most that a recipe may have.
+pub const PLACES: usize = 16;
+
+/// The last of the bins, which are numbered from 1 on.
+pub const LAST_BIN: u8 = 64;
+
+/// The most that a component may weigh, in grams.
+pub const MOST_GRAMS: u16 = 30_000;
+
+/// The places of a weigh head.
+pub type Places = [Component; PLACES];
+
 /// A component of a recipe, or what stands in a place: bin 0 and 0 grams where no component does.
 #[repr(C)]
 #[derive(Clone, Copy, PartialEq, Eq)]
@@ -28,9 +40,12 @@ impl Component {
     fn is_within_limits(self) -> bool
         ensures { result ≡ is_component self }
     {
-        (1..=64).contains(&self.bin) && (1..=30_000).contains(&self.grams)
+        (1..=LAST_BIN).contains(&self.bin) && (1..=MOST_GRAMS).contains(&self.grams)
     }
 }
+
+/// The places without a recipe.
+pub const NO_PLACES: Places = [Component::NONE; PLACES];
 
 fn are_within_limits(components: &[Component]) -> bool
     ensures { result ≡ list_all is_component components.now }
@@ -58,7 +73,7 @@ fn has_no_bin_twice(components: &[Component]) -> bool
 fn is_recipe(components: &[Component]) -> bool
     ensures { result ≡ is_recipe components.now }
 {
-    (1..=16).contains(&components.len())
+    (1..=PLACES).contains(&components.len())
         && are_within_limits(components)
         && has_no_bin_twice(components)
 }
@@ -98,13 +113,13 @@ impl<'a> TryFrom<&'a [Component]> for Recipe<'a> {
 }
 
 impl Recipe<'_> {
-    /// All 16 places of a weigh head that has this recipe: its components in their order, and none
+    /// The places of a weigh head that has this recipe: its components in their order, and none
     /// behind them.
-    pub fn places(&self) -> [Component; 16]
+    pub fn places(&self) -> Places
         ensures within_limits { is_recipe self.now ≡ true }
         ensures filled { result ≡ places_of self.now }
     {
-        let mut places = [Component::NONE; 16];
+        let mut places = NO_PLACES;
         places[..self.components.len()].copy_from_slice(self.components);
         places
     }

@@ -26,11 +26,11 @@ use Rattle.recipes.specs.Recipe.{is_recipe, places_of, no_places}
 use Rattle.weigh.specs.declared.WeighCall.{WeighCall}
 use Rattle.weigh.specs.declared.WeighCall.TheVariants as call
 use Rattle.weigh.specs.declared.WeighAnswer.TheVariants as answer
-use Rattle.weigh.specs.Parts.{Parts}
-use Rattle.weigh.specs.Plain.{Weigh, weigh, node_answer, refused, Step, answers, load_tests, load_taken, weight_told, load_recipe, step}
-use Rattle.weigh.specs.Held.{held, held_with, plain_at}
-use Rattle.weigh.specs.Values.{call_of, Reply, said}
-use Rattle.weigh.specs.Made.{Asked, none, one, Made}
+use Rattle.weigh.specs.WeighParts.{Parts}
+use Rattle.weigh.specs.PlainWeigh.{Weigh, weigh, node_answer, refused, Step, answers, load_tests, load_taken, weight_told, load_recipe, step}
+use Rattle.weigh.specs.WeighHeld.{held, held_with, plain_at}
+use Rattle.weigh.specs.WeighValues.{call_of, Reply, said}
+use Rattle.weigh.specs.WeighMade.{Asked, none, one, Made}
 
 -- a call on the node
 module _ {v w : Parts} {q m : List ℕ} {r : Run} (e : w ≡ v) where

@@ -1,6 +1,6 @@
-pub mod Parts
-pub mod Plain
-pub mod Held
-pub mod Values
-pub mod Made
-pub mod Played
+pub mod WeighParts
+pub mod PlainWeigh
+pub mod WeighHeld
+pub mod WeighValues
+pub mod WeighMade
+pub mod WeighPlayed

@@ -10,16 +10,17 @@ ghost use Rattle.std.specs.Prelude.{◌≡◌};
 ghost use Rattle.watched.specs.Watched.{run};
 ghost use Rattle.head.specs.Words.{head_of};
 ghost use Rattle.node.specs.Steps.{tried};
-ghost use Rattle.weigh.specs.Plain.{load_tests, weight_told};
-ghost use Rattle.weigh.specs.Values.{said};
-ghost use Rattle.weigh.specs.Held.{held};
-ghost use Rattle.weigh.specs.Made.{Made, Started};
+ghost use Rattle.weigh.specs.PlainWeigh.{load_tests, weight_told};
+ghost use Rattle.weigh.specs.WeighValues.{said};
+ghost use Rattle.weigh.specs.WeighHeld.{held};
+ghost use Rattle.weigh.specs.WeighMade.{Made, Started};
 
 use calling::nodes::Nodes;
 use calling::{Answer, Call, make};
-use head::parts::state_at;
+use entries::sizes::{HistoryBytes, QueueBytes};
+use head::machines::state_at;
 use head::state::Head;
-use recipes::{Component, Recipe};
+use recipes::{Component, NO_PLACES, Places, Recipe};
 use start::start::Setup;
 use std::marker::Model;
 use types::nmt::events::NmtEvent;
@@ -31,11 +32,11 @@ use types::refusals::Refusal;
 #[derive(Drop)]
 pub struct WeighHead {
     node: Head,
-    places: [Component; 16],
+    places: Places,
 }
 
 impl Model for WeighHead {
-    ghost use Rattle.weigh.specs.Parts.{Parts};
+    ghost use Rattle.weigh.specs.WeighParts.{Parts};
 
     ghost Value = { Parts };
 
@@ -83,7 +84,7 @@ impl WeighHead {
         nodes.start(&mut node, number, setup)?;
         Ok(WeighHead {
             node,
-            places: [Component::NONE; 16],
+            places: NO_PLACES,
         })
     }
 
@@ -92,8 +93,8 @@ impl WeighHead {
     /// refusal that applies and changes nothing (RULES 2).
     pub fn make<N: Nodes>(
         &mut self,
-        queue: &mut [u8; 640],
-        history: &mut [u8; 5080],
+        queue: &mut QueueBytes,
+        history: &mut HistoryBytes,
         nodes: &mut N,
         number: &mut usize,
         call: WeighCall<'_>,
@@ -108,7 +109,7 @@ impl WeighHead {
             WeighCall::Node(call) => {
                 let answer = make(&mut self.node, queue, history, nodes, number, call)?;
                 if answer.tells_reset() {
-                    self.places = [Component::NONE; 16];
+                    self.places = NO_PLACES;
                 }
                 Ok(WeighAnswer::Node(answer))
             }
@@ -139,7 +140,7 @@ impl WeighHead {
     }
 
     /// A copy of its places.
-    pub fn places(&self) -> [Component; 16]
+    pub fn places(&self) -> Places
         ensures { result ≡ self.now.places }
     {
         self.places

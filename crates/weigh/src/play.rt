@@ -1,13 +1,14 @@
 //! A list of actions on a weigh head, each on what the last one left.
 ghost use Rattle.std.specs.Prelude.{◌≡◌};
 ghost use Rattle.watched.specs.Watched.{run};
-ghost use Rattle.weigh.specs.Held.{held};
-ghost use Rattle.weigh.specs.Played.{Acted, PlayedInto};
+ghost use Rattle.weigh.specs.WeighHeld.{held};
+ghost use Rattle.weigh.specs.WeighPlayed.{Acted, PlayedInto};
 
 use crate::{WeighAnswer, WeighCall, WeighHead};
 use calling::Answer;
 use calling::nodes::Nodes;
 use calling::play::put;
+use entries::sizes::{HistoryBytes, QueueBytes};
 use types::refusals::Refusal;
 use watched::nodes::WatchedNode;
 
@@ -31,8 +32,8 @@ impl WeighHead {
     /// node that has nothing to tell.
     pub fn act<N: Nodes>(
         &mut self,
-        queue: &mut [u8; 640],
-        history: &mut [u8; 5080],
+        queue: &mut QueueBytes,
+        history: &mut HistoryBytes,
         nodes: &mut N,
         number: &mut usize,
         action: WeighAction<'_>,
@@ -61,8 +62,8 @@ impl WeighHead {
     /// that reaches; what `out` has beyond them stays.
     pub fn play<N: Nodes>(
         &mut self,
-        queue: &mut [u8; 640],
-        history: &mut [u8; 5080],
+        queue: &mut QueueBytes,
+        history: &mut HistoryBytes,
         nodes: &mut N,
         number: &mut usize,
         actions: &[WeighAction<'_>],

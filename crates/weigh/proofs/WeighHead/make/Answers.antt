@@ -6,7 +6,7 @@ use Rattle.types.specs.Pick.{pick}
 use Rattle.recipes.specs.Recipe.{no_places}
 use Rattle.watched.specs.Watched.{run}
 use Rattle.weigh.specs.declared.WeighCall.{WeighCall}
-use Rattle.weigh.specs.Values.{call_of}
+use Rattle.weigh.specs.WeighValues.{call_of}
 use Rattle.weigh.proofs.Making.{node_done, load_refused, load_done, ready_taken, weight_done}
 use Rattle.weigh.proofs.WeighHead.make.Goals as goal
 

@@ -3,8 +3,8 @@
 use Rattle.std.proofs.Common.{refl, ◌∙◌}
 use Rattle.watched.specs.Watched.{run}
 use Rattle.calling.proofs.Playing.{none_yet, one_more}
-use Rattle.weigh.specs.Held.{held}
-use Rattle.weigh.specs.Played.{Acted}
+use Rattle.weigh.specs.WeighHeld.{held}
+use Rattle.weigh.specs.WeighPlayed.{Acted}
 use Rattle.weigh.proofs.WeighHead.play.Goals as goal
 
 pub loop-i-init : goal.loop-i-init

@@ -2,8 +2,8 @@
 -- Assumes nothing.
 use Rattle.std.proofs.Common.{take, ◌≡◌}
 use Rattle.watched.specs.Watched.{run}
-use Rattle.weigh.specs.Held.{held}
-use Rattle.weigh.specs.Played.{PlayedInto}
+use Rattle.weigh.specs.WeighHeld.{held}
+use Rattle.weigh.specs.WeighPlayed.{PlayedInto}
 use Rattle.weigh.proofs.WeighHead.play.Given as goal
 
 abbrev pub invariant-loop-i : goal.invariant-loop-i

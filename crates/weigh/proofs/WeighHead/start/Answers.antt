@@ -5,7 +5,7 @@ use Rattle.std.specs.declared.result.Result.TheVariants.{Err}
 use Rattle.start.specs.Started.{StartedOn}
 use Rattle.watched.specs.Watched.{run}
 use Rattle.calling.proofs.Starting.{refused_lent}
-use Rattle.weigh.specs.Made.{blank}
+use Rattle.weigh.specs.WeighMade.{blank}
 use Rattle.weigh.proofs.WeighHead.start.Goals as goal
 
 pub returns-clause-started : goal.returns-clause-started

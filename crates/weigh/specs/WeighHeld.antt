@@ -4,14 +4,15 @@ use Rattle.std.specs.Prelude.{ℕ, List}
 use Rattle.watched.specs.Watched.{Run}
 use Rattle.calling.specs.Held as node
 use Rattle.recipes.specs.declared.Component.{Component}
-use Rattle.weigh.specs.Parts.{Parts}
-use Rattle.weigh.specs.Plain.{Weigh, weigh}
+use Rattle.weigh.specs.WeighParts.{Parts}
+use Rattle.weigh.specs.PlainWeigh.{Weigh, weigh}
 
 -- what its node's calls are made on, and its places
 pub record Held : Type 0 where
   pub node : node.Held
   pub places : List Component
 
+-- of its two parts
 abbrev pub held_with : node.Held → List Component → Held
 held_with x ps = record { node = x; places = ps }
 

@@ -17,18 +17,18 @@ use Rattle.trace.specs.Driven as trace
 use Rattle.trace.specs.Claim as node_claim
 use Rattle.trace.proofs.Driven as node_driven_proofs
 use Rattle.trace.proofs.Follows.{begins_fresh}
-use Rattle.weigh.specs.Parts.{Parts}
-use Rattle.weigh.specs.Plain.{Weigh, weigh, Call, weight, Answer, step}
-use Rattle.weigh.specs.Held.{Held, held, plain_at, relent}
-use Rattle.weigh.specs.Values.{Reply}
-use Rattle.weigh.specs.Made.{Asked, none, one, step_of, Started}
-use Rattle.weigh.specs.Played.{Played}
+use Rattle.weigh.specs.WeighParts.{Parts}
+use Rattle.weigh.specs.PlainWeigh.{Weigh, weigh, Call, weight, Answer, step}
+use Rattle.weigh.specs.WeighHeld.{Held, held, plain_at, relent}
+use Rattle.weigh.specs.WeighValues.{Reply}
+use Rattle.weigh.specs.WeighMade.{Asked, none, one, step_of, Started}
+use Rattle.weigh.specs.WeighPlayed.{Played}
 use Rattle.weigh.specs.declared.play.WeighAction.{WeighAction}
 use Rattle.weigh.specs.declared.play.WeighAction.TheVariants as action
-use Rattle.dosing.specs.Driven.{Driven, stop, call, lend, calls_of, answers_of, asked_then, node_driven}
-use Rattle.dosing.specs.Loaded.{step_all, said_all, asked_all, Weighed}
-use Rattle.dosing.specs.Claim.{fresh, Stands, Claim}
-use Rattle.dosing.proofs.Lists.{said_there}
+use Rattle.dosing.specs.WeighDriven.{Driven, stop, call, lend, calls_of, answers_of, asked_then, node_driven}
+use Rattle.dosing.specs.LastRecipe.{step_all, said_all, asked_all, Weighed}
+use Rattle.dosing.specs.DosingClaim.{fresh, Stands, Claim}
+use Rattle.dosing.proofs.WeighLists.{said_there}
 use Rattle.dosing.proofs.Weights.{weighed, forgotten}
 
 -- what the plain weigh head does at these calls

@@ -3,8 +3,8 @@
 use Rattle.std.proofs.Common.{◌≡◌, refl, ap, false, List, [], ◌∷◌, ◌++◌, length}
 use Rattle.std.specs.List.{slice_get}
 use Rattle.std.specs.declared.option.Option.TheVariants.{Some}
-use Rattle.weigh.specs.Plain.{Weigh, Call, step}
-use Rattle.dosing.specs.Loaded.{step_all, said_all, loads, is_reset, NoneLoaded, NoReset}
+use Rattle.weigh.specs.PlainWeigh.{Weigh, Call, step}
+use Rattle.dosing.specs.LastRecipe.{step_all, said_all, loads, is_reset, NoneLoaded, NoReset}
 
 pub again : (xs ys zs : List Call) → (xs ++ ys) ++ zs ≡ xs ++ (ys ++ zs)
 again [] ys zs = refl

@@ -10,9 +10,9 @@ use Rattle.node.specs.Steps as node
 use Rattle.node.specs.Run.{Said}
 use Rattle.trace.specs.Claim as trace
 use Rattle.recipes.specs.Recipe.{no_places}
-use Rattle.weigh.specs.Plain.{Weigh, weigh, Call, weight, Answer, refused}
-use Rattle.weigh.specs.Held.{Held, plain_at}
-use Rattle.dosing.specs.Loaded.{step_all, said_all, asked_all, Weighed, Forgotten}
+use Rattle.weigh.specs.PlainWeigh.{Weigh, weigh, Call, weight, Answer, refused}
+use Rattle.weigh.specs.WeighHeld.{Held, plain_at}
+use Rattle.dosing.specs.LastRecipe.{step_all, said_all, asked_all, Weighed, Forgotten}
 
 -- a fresh weigh head: a fresh node, and no recipe
 abbrev pub fresh : Start → Weigh

@@ -10,7 +10,7 @@ use Rattle.node.specs.Run as node
 use Rattle.trace.specs.Visits.{resets, nmt_state}
 use Rattle.trace.specs.Visits as visits
 use Rattle.recipes.specs.declared.Component.{Component}
-use Rattle.weigh.specs.Plain.{Weigh, Call, node_call, load_recipe, weight, Answer, node_answer, weight_answer, refused, step}
+use Rattle.weigh.specs.PlainWeigh.{Weigh, Call, node_call, load_recipe, weight, Answer, node_answer, weight_answer, refused, step}
 
 -- a list of calls, each on the weigh head that the last one left: the weigh head after it
 unfoldable pub step_all : Weigh → List Call → Weigh
@@ -62,7 +62,8 @@ pub data Loaded (w : Weigh) (r : List Component) : List Call → Type 0 where
       NoReset (step (step_all w before) (load_recipe r)).head after →
       Loaded w r (before ++ (load_recipe r ∷ after))
 
--- The answer of a weight for the place i, wanted behind the calls `before` from the weigh head w on.
+-- The answer of a weight for the place i that is wanted behind the calls `before` from the weigh
+-- head w on.
 pub data Weighed (w : Weigh) (before : List Call) (i : ℕ) : Answer → Type 0 where
   -- in Operational, with r the recipe last loaded since the last reset: the grams of its component
   -- at i

@@ -15,9 +15,9 @@ use Rattle.calling.specs.Values.{tells_reset}
 use Rattle.trace.specs.Visits.{resets}
 use Rattle.recipes.specs.declared.Component.{Component}
 use Rattle.recipes.specs.Recipe.{is_recipe, places_of, no_places}
-use Rattle.weigh.specs.Plain.{Weigh, Call, node_call, load_recipe, weight, refused, Step, answers, ready_word, load_taken, step}
-use Rattle.dosing.specs.Loaded.{step_all, is_taken, loads, is_reset, NoneLoaded, NoReset}
-use Rattle.dosing.proofs.Resets.{answer_tells}
+use Rattle.weigh.specs.PlainWeigh.{Weigh, Call, node_call, load_recipe, weight, refused, Step, answers, ready_word, load_taken, step}
+use Rattle.dosing.specs.LastRecipe.{step_all, is_taken, loads, is_reset, NoneLoaded, NoReset}
+use Rattle.dosing.proofs.AnswerTells.{answer_tells}
 
 -- of a call c on w, the places ps after it
 pub data Changes (w : Weigh) (c : Call) (ps : List Component) : Type 0 where

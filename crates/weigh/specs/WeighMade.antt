@@ -14,10 +14,10 @@ use Rattle.calling.specs.Values as calling
 use Rattle.calling.specs.Made as node_made
 use Rattle.recipes.specs.Recipe.{no_places}
 use Rattle.weigh.specs.declared.WeighCall.{WeighCall}
-use Rattle.weigh.specs.Parts.{Parts}
-use Rattle.weigh.specs.Plain.{Step, step}
-use Rattle.weigh.specs.Held.{Held, plain_at}
-use Rattle.weigh.specs.Values.{call_of, Reply, said}
+use Rattle.weigh.specs.WeighParts.{Parts}
+use Rattle.weigh.specs.PlainWeigh.{Step, step}
+use Rattle.weigh.specs.WeighHeld.{Held, plain_at}
+use Rattle.weigh.specs.WeighValues.{call_of, Reply, said}
 
 -- The calls that were made on the node: none, or one, as `calling` made it; every word of the
 -- node, every byte and every watched node is then known.

@@ -25,6 +25,7 @@ pub record Weigh : Type 0 where
   pub node : plain.Plain
   pub places : List Component
 
+-- a weigh head of its two parts
 abbrev pub weigh : plain.Plain → List Component → Weigh
 weigh p ps = record { node = p; places = ps }
 
@@ -40,6 +41,7 @@ pub data Answer : Type 0 where
   node_answer : plain.Answer → Answer
   weight_answer : ℕ → Answer
 
+-- a refusal, by its number
 abbrev pub refused : Refusal → Answer
 refused r = node_answer (plain.refused (refusal_number r))
 
@@ -80,12 +82,12 @@ load_taken w cs =
       asked = ready_word ∷ [];
     }
 
--- A weight: the grams of a place in Operational; NoWeight in every other state, past the places,
--- and where no component stands.
+-- the weight of what a place has: grams, or NoWeight past the places and where no component stands
 abbrev pub weight_in : Option Component → Answer
 weight_in None = refused NoWeight
 weight_in (Some c) = pick (eqb c.bin 0) (refused NoWeight) (weight_answer c.grams)
 
+-- A weight, in a state: that of the place in Operational, NoWeight in every other state.
 abbrev pub weight_told : NmtState → List Component → ℕ → Answer
 weight_told s ps i = pick (same_state s NmtOperational) (weight_in (slice_get ps i)) (refused NoWeight)
 

@@ -8,7 +8,7 @@ use Rattle.types.specs.Pick.{pick}
 use Rattle.types.specs.declared.refusals.Refusal.TheVariants.{NoWeight}
 use Rattle.recipes.specs.declared.Component.{Component}
 use Rattle.recipes.specs.Recipe.{is_component, is_recipe, no_bin_twice, no_component, no_places, places_of}
-use Rattle.weigh.specs.Plain.{weight_answer, refused, weight_in}
+use Rattle.weigh.specs.PlainWeigh.{weight_answer, refused, weight_in}
 
 pub and_first : (a b : Bool) → (a && b) ≡ true → a ≡ true
 and_first true b h = refl

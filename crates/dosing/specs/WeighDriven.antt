@@ -1,16 +1,16 @@
--- Any list of calls on a weigh head, each on what the last one left (RULES 12.6): nobody else writes
--- head, queue or history meanwhile. The watched nodes are the owner's, who may lend others between
--- two calls.
+-- Any list of calls on a weigh head, each on what the last one left (RULES 12.6): nobody else
+-- writes head, queue or history meanwhile. The watched nodes are the owner's, who may lend others
+-- between two calls.
 -- Assumes nothing.
 use Rattle.std.specs.Prelude.{◌≡◌, List, [], ◌∷◌}
 use Rattle.node.specs.Plain as plain
 use Rattle.calling.specs.Held as node
 use Rattle.trace.specs.Driven as trace
 use Rattle.weigh.specs.declared.WeighCall.{WeighCall}
-use Rattle.weigh.specs.Plain.{Call, Answer}
-use Rattle.weigh.specs.Held.{Held, relent}
-use Rattle.weigh.specs.Values.{Reply, call_of, said}
-use Rattle.weigh.specs.Made.{Asked, none, one, Made}
+use Rattle.weigh.specs.PlainWeigh.{Call, Answer}
+use Rattle.weigh.specs.WeighHeld.{Held, relent}
+use Rattle.weigh.specs.WeighValues.{Reply, call_of, said}
+use Rattle.weigh.specs.WeighMade.{Asked, none, one, Made}
 
 -- the first is what the calls were made on, the second what they left
 pub data Driven : Held → Held → Type 0 where
