@@ -18,6 +18,7 @@ use Rattle.calling.specs.Values as calling
 use Rattle.calling.specs.Values.{tells_reset}
 use Rattle.calling.specs.Made as node_made
 use Rattle.calling.proofs.Declines as node_declines
+use Rattle.recipes.specs.declared.Component.{Component}
 use Rattle.recipes.specs.Recipe.{is_recipe, no_places}
 use Rattle.weigh.specs.declared.WeighCall.{WeighCall}
 use Rattle.weigh.specs.declared.WeighCall.TheVariants as call
@@ -55,6 +56,11 @@ asked_one c n (one {x} {x'} {c = d} {o = o} t) e h = by o t
         apart (sym (t.refines.answer ∙ f ∙ h)) refl (not_refused a)
     by (Err r) t = (node_declines.refused_changes_nothing r d t).same
 
+-- a load, by its two tests
+abbrev load_by : Weigh → List Component → Bool → Bool → Step
+load_by w cs a b =
+    pick a (pick b (load_taken w cs) (answers w (refused NotPreOperational2))) (answers w (refused RecipeLimits))
+
 -- the answer of the node, from one of the weigh head
 node_part : weigh.Answer → plain.Answer
 node_part (node_answer a) = a
@@ -75,16 +81,11 @@ module _ {y y' : Held} (r : Refusal) where
       (ap (λ (w : Weigh). w.places) m.head ∙ ap (λ (a : plain.Answer). pick (tells_reset a) no_places y.places) h)
   refused_changes_nothing (call.LoadRecipe cs) m = by (is_recipe cs.now) (same_state (plain_at y).node.nmt.current_state NmtPreOperational2) refl refl
     where
-      chosen : Bool → Bool → Step
-      chosen a b =
-          pick a (pick b (load_taken (plain_at y) cs.now) (answers (plain_at y) (refused NotPreOperational2)))
-          (answers (plain_at y) (refused RecipeLimits))
-
       by :
           (a b : Bool) → is_recipe cs.now ≡ a → same_state (plain_at y).node.nmt.current_state NmtPreOperational2 ≡ b → y' ≡ y
       by true true f g =
-          let e : step_of y (call.LoadRecipe cs) ≡ chosen true true = (λ i. chosen (f i) (g i)) in
+          let e : step_of y (call.LoadRecipe cs) ≡ load_by (plain_at y) cs.now true true = (λ i. load_by (plain_at y) cs.now (f i) (g i)) in
           apart (ap node_part (m.answer ∙ ap (λ (s : Step). s.answer) e)) refl refl
-      by true false f g = idle (call.LoadRecipe cs) _ (λ i. chosen (f i) (g i)) m
-      by false b f g = idle (call.LoadRecipe cs) _ (λ i. chosen (f i) (same_state (plain_at y).node.nmt.current_state NmtPreOperational2)) m
+      by true false f g = idle (call.LoadRecipe cs) _ (λ i. load_by (plain_at y) cs.now (f i) (g i)) m
+      by false b f g = idle (call.LoadRecipe cs) _ (λ i. load_by (plain_at y) cs.now (f i) (same_state (plain_at y).node.nmt.current_state NmtPreOperational2)) m
   refused_changes_nothing (call.Weight i) m = idle (call.Weight i) _ refl m
