@@ -17,16 +17,20 @@ use Rattle.trace.specs.Driven as trace
 use Rattle.trace.specs.Claim as node_claim
 use Rattle.trace.proofs.Driven as node_driven_proofs
 use Rattle.trace.proofs.Follows.{begins_fresh}
+use Rattle.types.specs.declared.refusals.Refusal.TheVariants.{NoWeight}
+use Rattle.recipes.specs.declared.Component.{Component}
 use Rattle.weigh.specs.WeighParts.{Parts}
-use Rattle.weigh.specs.PlainWeigh.{Weigh, weigh, Call, weight, Answer, step}
+use Rattle.weigh.specs.declared.WeighCall.TheVariants as calls
+use Rattle.weigh.specs.declared.WeighAnswer.TheVariants as answer
+use Rattle.weigh.specs.PlainWeigh.{Weigh, weigh, Call, weight, Answer, weight_answer, refused, step}
 use Rattle.weigh.specs.WeighHeld.{Held, held, plain_at, relent}
 use Rattle.weigh.specs.WeighValues.{Reply}
-use Rattle.weigh.specs.WeighMade.{Asked, none, one, step_of, Started}
-use Rattle.weigh.specs.WeighPlayed.{Played}
+use Rattle.weigh.specs.WeighMade.{Asked, none, one, Made, step_of, Started}
+use Rattle.weigh.specs.WeighPlayed.{Played, PlayedInto}
 use Rattle.weigh.specs.declared.play.WeighAction.{WeighAction}
 use Rattle.weigh.specs.declared.play.WeighAction.TheVariants as action
 use Rattle.dosing.specs.WeighDriven.{Driven, stop, call, lend, calls_of, answers_of, asked_then, node_driven}
-use Rattle.dosing.specs.LastRecipe.{step_all, said_all, asked_all, Weighed}
+use Rattle.dosing.specs.LastRecipe.{step_all, said_all, asked_all, Loaded, Weighed, told, withheld}
 use Rattle.dosing.specs.DosingClaim.{fresh, Stands, Claim}
 use Rattle.dosing.proofs.WeighLists.{said_there}
 use Rattle.dosing.proofs.Weights.{weighed, forgotten}
@@ -106,3 +110,33 @@ driven_of played.stop = stop
 driven_of (played.next {a = action.Call c} t p) = call t (driven_of p)
 driven_of {y = y} (played.next {x₁ = y₁} {a = action.Lend i v k} t p) =
     lend (t.1 ∙ ap (λ (z : Held). relent y z.node.lent) (sym t.1)) (driven_of p)
+
+-- OF A WEIGHT THAT WAS TOLD, behind any list of calls: the recipe last loaded since the last reset has
+-- a component at the place, of these grams.
+pub record Last (s : Start) (cs : List Call) (i g : ℕ) : Type 0 where
+  pub recipe : List Component
+  pub component : Component
+  pub loaded : Loaded (fresh s) recipe cs
+  pub stands : slice_get recipe i ≡ Some component
+  pub grams : component.grams ≡ g
+
+weighs : {s : Start} {cs : List Call} {i : ℕ} (g : ℕ) (o : Answer) → Weighed (fresh s) cs i o → o ≡ weight_answer g → Last s cs i g
+weighs g o (told r c op l e) h = record { recipe = r; component = c; loaded = l; stands = e; grams = cc }
+weighs g o (withheld f) h = absurd (let z : refused NoWeight ≡ weight_answer g = h in cc)
+
+pub told_is_last :
+    {s : Setup} {v : Parts} {r r' : Run} {q m : List ℕ} {y y' : Held} {i g : ℕ} → Started r s (Ok v) r' →
+    (d : Driven (held v q m r') y) → Made y (calls.Weight i) (Ok (answer.Weight g)) y' →
+    Last (start_of s r) (calls_of d) i g
+told_is_last {s} {r = r} {i = i} {g = g} b d m =
+    let k = claim_holds b d in
+    weighs g _ (weighed (fresh (start_of s r)) refl (calls_of d) i)
+    (ap (λ (w : Weigh). (step w (weight i)).answer) (sym k.alike) ∙ sym m.answer)
+
+-- and so of all that `play` plays
+pub claim_holds_played :
+    {s : Setup} {v : Parts} {r r' : Run} {q m : List ℕ} {y' : Held} {acts : List WeighAction} {out out' : List Reply} →
+    Started r s (Ok v) r' → (p : PlayedInto (held v q m r') acts out y' out') →
+    let d = driven_of p.played in
+    Claim (start_of s r) (calls_of d) (answers_of d) (trace.said_by (node_driven d)) y'
+claim_holds_played b p = claim_holds b (driven_of p.played)
