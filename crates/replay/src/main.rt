@@ -23,11 +23,13 @@ const TRACE: &str = "Print each change of the NMT state behind the line that mad
 const SCRIPT: &str = "The script, a file; none or - for standard input";
 
 const AFTER: &str = "\
-A script has a call in each line; docs/CALLS.md lists them. This one starts a head, makes
-the first NMT event and shows the head:
+A script has a call in each line; docs/CALLS.md lists them. This one starts a head, resets
+it, makes the event of a SoC, asks what the head waits for, and shows it:
 
-  start 7 0 5000 2 0 1000 100000 0 0 0 0
-  nmt 1
+  start node=7 queue=2 cycle=1000 tolerance=100000
+  nmt SwReset
+  nmt SocReceived
+  why
   show
 
 Exit status: 0 where each line could be read and played, 1 where one could not or the file
