@@ -38,12 +38,12 @@ pub record Made (y : Held) (c : WeighCall) (o : Reply) (y' : Held) : Type 0 wher
   pub answer : said o ≡ (step_of y c).answer
   pub node : Asked y.node (step_of y c).asked y'.node
 
--- what stands in a node's words before a start
-abbrev pub blank : List ℕ
-blank = replicate 60 0
+-- a weigh head before its start
+abbrev pub blank : Parts
+blank = record { node = replicate 60 0; places = no_places }
 
 -- A start on the run r, which gave a weigh head or a refusal and left the run r': its node is as
 -- the node's start leaves one, and all places are empty; a refused start leaves the run.
 abbrev pub Started : Run → Setup → Result Parts Refusal → Run → Type 0
-Started r s (Ok v) r' = StartedOn blank r s (Ok tt) v.node r' × (v.places ≡ no_places)
-Started r s (Err e) r' = StartedOn blank r s (Err e) blank r' × (r' ≡ r)
+Started r s (Ok v) r' = StartedOn blank.node r s (Ok tt) v.node r' × (v.places ≡ no_places)
+Started r s (Err e) r' = StartedOn blank.node r s (Err e) blank.node r' × (r' ≡ r)

@@ -13,9 +13,9 @@ ghost use Rattle.node.specs.Steps.{tried};
 ghost use Rattle.weigh.specs.PlainWeigh.{load_tests, weight_told};
 ghost use Rattle.weigh.specs.WeighValues.{said};
 ghost use Rattle.weigh.specs.WeighHeld.{held};
-ghost use Rattle.weigh.specs.WeighMade.{Made, Started};
+ghost use Rattle.weigh.specs.WeighMade.{blank, Made, Started};
 
-use calling::nodes::Nodes;
+use calling::nodes::{Nodes, Records};
 use calling::{Answer, Call, make};
 use entries::sizes::{HistoryBytes, QueueBytes};
 use head::machines::state_at;
@@ -26,6 +26,7 @@ use std::marker::Model;
 use types::nmt::events::NmtEvent;
 use types::nmt::states::NmtState;
 use types::refusals::Refusal;
+use watched::nodes::WatchedNode;
 
 /// A weigh head. Its node's words and its places are written by its own calls alone.
 #[repr(C)]
@@ -72,6 +73,16 @@ pub enum WeighAnswer {
 }
 
 impl WeighHead {
+    /// A weigh head before its start: each word of its node is 0, and all places are empty.
+    pub fn blank() -> WeighHead
+        ensures { result ≡ blank }
+    {
+        WeighHead {
+            node: [0; 60],
+            places: NO_PLACES,
+        }
+    }
+
     /// A weigh head with a fresh node (RULES 1.9) and no recipe; each watched node counts as never
     /// heard. Refused by NodeNumber, QueueCapacity, WatchedNodes or ThresholdLimit, in this order;
     /// then nothing changes.
@@ -86,6 +97,18 @@ impl WeighHead {
             node,
             places: NO_PLACES,
         })
+    }
+
+    /// `start` with a run of records, of any length.
+    pub fn start_over_records(
+        nodes: &mut [WatchedNode],
+        number: usize,
+        setup: Setup,
+    ) -> Result<WeighHead, Refusal>
+        ensures { Started (run nodes.old number) setup result (run nodes.new number) }
+    {
+        let mut records = Records { run: nodes };
+        WeighHead::start(&mut records, number, setup)
     }
 
     /// Makes a call on a weigh head, with the memory of its node's queue and history and the
@@ -122,6 +145,23 @@ impl WeighHead {
             }
             WeighCall::Weight(place) => self.weight(place),
         }
+    }
+
+    /// `make` with a run of records, of any length; the caller's run is then what the call left.
+    pub fn make_over_records(
+        &mut self,
+        queue: &mut QueueBytes,
+        history: &mut HistoryBytes,
+        nodes: &mut [WatchedNode],
+        number: &mut usize,
+        call: WeighCall<'_>,
+    ) -> Result<WeighAnswer, Refusal>
+        ensures { Made (held self.old queue.old history.old (run nodes.old number.old))
+            call.entry result
+            (held self.new queue.new history.new (run nodes.new number.new)) }
+    {
+        let mut records = Records { run: nodes };
+        self.make(queue, history, &mut records, number, call)
     }
 
     /// The node's NMT state.

@@ -19,6 +19,6 @@ returns-in_err-start-clause-started g c =
     let old = run (places c.args.nodes.now) c.args.number in
     let new = run (places c.start.new.self) c.args.number in
     rw e (
-      subst (λ (ws : List ℕ). StartedOn blank old c.args.setup (Err c.in_err-start.field-0.0) ws new) s.words s,
+      subst (λ (ws : List ℕ). StartedOn blank.node old c.args.setup (Err c.in_err-start.field-0.0) ws new) s.words s,
       refused_lent s,
     )
