@@ -24,7 +24,7 @@ pub type Places = [Component; PLACES];
 
 /// A component of a recipe, or what stands in a place: bin 0 and 0 grams where no component does.
 #[repr(C)]
-#[derive(Clone, Copy, PartialEq, Eq)]
+#[derive(Clone, Copy, Default, PartialEq, Eq)]
 pub struct Component {
     /// The bin that it is taken from; of a recipe 1 to 64.
     pub bin: u8,

@@ -38,3 +38,7 @@ unfolding components_from
 done zero cs [] e = refl
 done (suc most) cs [] e = refl
 done most cs (c ∷ text) e = cc
+
+pub at_end : (text : List ℕ) → ends text ≡ Some tt → text ≡ []
+at_end [] e = refl
+at_end (c ∷ text) e = cc

@@ -22,14 +22,14 @@ impl Words<'_> {
     /// Components to the end of the line, at most 20.
     pub(crate) fn components<'a>(
         &mut self,
-        components: &'a mut LineComponents,
+        memory: &'a mut LineComponents,
     ) -> Option<&'a [Component]>
         ensures { gives (option_copied result) self.new.rest.now ≡ components self.old.rest.now }
     {
-        components.clear();
+        memory.clear();
         while self.end().is_none() {
-            components.try_push(self.component()?).ok()?;
+            memory.try_push(self.component()?).ok()?;
         }
-        Some(components.as_slice())
+        Some(memory.as_slice())
     }
 }
