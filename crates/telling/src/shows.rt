@@ -170,7 +170,8 @@ impl Display for RecipeLine<'_> {
     ghost output = { λ x. Some (recipe_line x.0.now) };
 
     fn fmt<W: fmt::Write>(&self, f: &mut fmt::Formatter<W>) -> fmt::Result {
-        writeln!(f, "(recipe{})", Components(self.0))
+        let places = self.0;
+        writeln!(f, "(recipe{})", Components(places))
     }
 }
 
