@@ -146,7 +146,7 @@ def text(parts):
 
 
 names = open(NAMES, encoding='utf-8').read()
-stored = open(STORED, encoding='utf-8').read()
+stored = open(STORED, encoding='utf-8', newline='').read()
 
 hold(f'{NAMES} and the same in numbers', play(names)[0], play('\n'.join(map(in_numbers, names.split('\n'))))[0])
 plain = play(stored)

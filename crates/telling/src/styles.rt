@@ -1,5 +1,5 @@
 //! States, events, kinds, codes and refusals as they are printed: by number or by name.
-ghost use Rattle.std.specs.Prelude.{◌≡◌, Some};
+ghost use Rattle.std.specs.Prelude.{◌≡◌, Some, []};
 ghost use Rattle.types.specs.Names.{kind_name};
 ghost use Rattle.types.specs.Kinds.{read_kind};
 ghost use Rattle.telling.specs.Styles.{state_form, cs_state_name, cs_state_form, command_form};
