@@ -12,7 +12,7 @@ import re
 import sys
 
 CRATES = """types nmt dll counters entries head watched bitmap node partners start phases heartbeats tick
-due lentlaws lent calling trace forms shift shiftreport reach positions readings transitions
+due lentlaws lent calling recipes weigh trace dosing forms shift shiftreport reach positions readings transitions
 counting entry_bytes chart examples script telling replay""".split()
 ROOT = pathlib.Path(__file__).resolve().parent.parent
 ITEM = re.compile(r'^ *pub(?:\(crate\))? (?:const |static |extern "C" )*(?:fn|struct|enum|trait|type|(?=[A-Z_]+:)) ?(\w+)')

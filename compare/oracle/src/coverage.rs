@@ -1,10 +1,12 @@
 //! Counts what a script reached, from the head's answers and from the head before and after each line.
 
 mod partners;
+mod recipes;
 
 use crate::places::{ERRORS, kind_behind};
 use crate::view::{COUNTER_NAMES, HEARTBEAT, HIGHEST_THRESHOLD, Lent, View};
 use partners::Arrivals;
+use recipes::Recipes;
 use std::io::{self, Write};
 
 /// Whether a script has ticks.
@@ -291,6 +293,8 @@ pub struct Coverage {
     run_lines: u64,
     /// Of RULES 8.
     arrivals: Arrivals,
+    /// Of RULES 12.
+    recipes: Recipes,
 }
 
 /// Ready and enabled.
@@ -368,7 +372,7 @@ impl Coverage {
     }
 
     pub fn total_calls(&self) -> u64 {
-        self.calls.iter().sum::<u64>() + self.arrivals.total_calls()
+        self.calls.iter().sum::<u64>() + self.arrivals.total_calls() + self.recipes.total_calls()
     }
 
     /// Counts one line.
@@ -387,13 +391,14 @@ impl Coverage {
         match CALLS.iter().position(|c| *c == call) {
             Some(place) => self.count_call(place, answer),
             None if call == "show" => self.shows += 1,
-            None if partners::LINES.contains(&call) => {}
+            None if partners::LINES.contains(&call) || recipes::LINES.contains(&call) => {}
             None => self.run_lines += 1,
         }
         if call == "start" {
             self.count_start(step, answer);
         }
         self.arrivals.count(step, answer);
+        self.recipes.count(step, answer);
         if let Some(after) = step.after {
             self.states[state_place(after.nmt)] += 1;
         }
@@ -743,6 +748,7 @@ impl Coverage {
     fn groups(&self) -> Vec<(&'static str, Vec<Count>)> {
         let mut groups = self.all_groups();
         groups.extend(self.arrivals.groups());
+        groups.extend(self.recipes.groups());
         if self.script == Ticks::Without {
             for (_, counts) in &mut groups {
                 counts.retain(|count| !count.by_tick);

@@ -4,8 +4,9 @@ use crate::dictionary;
 use crate::head::Head;
 use crate::places::{action_number, error_form, level, named_form, threshold};
 use crate::reset::Range;
+use crate::recipes::PLACES;
 use crate::run::Run;
-use crate::script::Watched;
+use crate::script::{Component, Watched};
 use crate::view::COUNTER_NAMES;
 use powerlink_rs::frame::DllError;
 use powerlink_rs::frame::error::{ErrorEntry, NmtAction, seven};
@@ -85,8 +86,8 @@ pub fn digits(bytes: &[u8]) -> String {
     bytes.iter().map(|byte| format!("{byte:02X}")).collect()
 }
 
-/// The head, the lent run and the desk's buffer.
-pub fn show(head: &Head, run: &Run, desk: &[u8]) -> Vec<String> {
+/// The head, the lent run, the desk's buffer and the recipe.
+pub fn show(head: &Head, run: &Run, desk: &[u8], recipe: &[Component]) -> Vec<String> {
     let context = &head.context;
     let mut lines = vec![
         nmt(context),
@@ -104,6 +105,7 @@ pub fn show(head: &Head, run: &Run, desk: &[u8]) -> Vec<String> {
         crossings(context),
         named_form("desk", (!desk.is_empty()).then(|| digits(desk)).into_iter()),
         thresholds(context),
+        places(recipe),
     ]);
     lines
 }
@@ -190,6 +192,13 @@ fn lent(run: &Run) -> String {
     let (places, number) = (run.places(), run.number());
     let rest = named_form("rest", run.rest().iter().map(watched));
     format!("(run (places {places}) (number {number}) {rest})")
+}
+
+/// All places, with bin 0 and 0 grams behind the components (RULES 12.3).
+fn places(recipe: &[Component]) -> String {
+    let components = recipe.iter().copied().chain(std::iter::repeat((0, 0)));
+    let place = |(bin, grams)| format!("({bin} {grams})");
+    named_form("recipe", components.take(PLACES).map(place))
 }
 
 /// A moment, or none.

@@ -3,6 +3,7 @@
 //! deadline, a level of 14, a full queue.
 
 mod partners;
+mod recipes;
 
 use crate::coverage::{
     BASIC_ETHERNET, CYCLIC, Coverage, NOT_ACTIVE, PRE_OPERATIONAL_2, READY_TO_OPERATE, Step, Ticks,
@@ -112,6 +113,7 @@ pub fn generate(
         now: 0,
     };
     script.partners_before_the_first_start()?;
+    script.recipes_before_the_first_start()?;
     script.before_the_first_start()?;
     while script.coverage.total_calls() < calls {
         script.life(calls)?;
@@ -160,6 +162,10 @@ impl Script<'_> {
         self.give(line)?;
         if self.random.one_in(16) {
             self.give("due")?;
+        }
+        if self.random.one_in(64) {
+            let place = self.random.below(4);
+            self.give(&format!("weight {place}"))?;
         }
         let (view, _) = &self.seen;
         let long = view.as_ref().is_some_and(|view| view.history_length > 40);
@@ -285,10 +291,10 @@ impl Script<'_> {
             if self.coverage.total_calls() >= calls {
                 break;
             }
-            if self.random.one_in(6) {
-                self.partners()?;
-            } else {
-                self.scenario()?;
+            match self.random.below(18) {
+                0..3 => self.partners()?,
+                3 => self.recipes()?,
+                _ => self.scenario()?,
             }
         }
         Ok(())
@@ -462,7 +468,11 @@ impl Script<'_> {
                 self.start()?;
             } else {
                 let event = self.event_towards(&view, target);
-                self.nmt(event)?;
+                if event == CONFIGURATION_COMPLETE && self.random.one_in(3) {
+                    self.recipe()?;
+                } else {
+                    self.nmt(event)?;
+                }
             }
         }
         Ok(())

@@ -3,7 +3,7 @@
 //! lets a reset forget. Behind `cumulative` stand the errors that reached a counter of the original,
 //! and its own cumulative values are the crossings (RULES 6.2). Thresholds that a start names
 //! are given to its counters (RULES 6.1). The run of watched nodes is set as its heartbeat consumers, which an
-//! add and a removal change (RULES 8).
+//! add and a removal change (RULES 8). Recipes are kept beside the original, which has none (RULES 12); by `original` a reset leaves them too.
 //!
 //!     oracle [replay] < SCRIPT     the answers
 //!     oracle original < SCRIPT     the answers of the original as it is, whose resets forget nothing
@@ -36,6 +36,7 @@ mod kinds;
 mod modes;
 mod oracle;
 mod partners;
+mod recipes;
 mod run;
 mod script;
 mod view;

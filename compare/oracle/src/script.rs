@@ -41,6 +41,9 @@ impl Start {
     }
 }
 
+/// A bin, and grams from it.
+pub type Component = (u8, u16);
+
 /// The values that a load names. A cycle or tolerance that it names may be missing.
 pub struct Load {
     pub register: Option<u8>,
@@ -86,6 +89,8 @@ pub enum Call {
     Kind(u64),
     Range { earliest: u64, latest: u64 },
     Margin(u64),
+    Recipe(Vec<Component>),
+    Weight(u64),
 }
 
 pub enum Line {
@@ -105,6 +110,8 @@ pub enum Line {
 const LONGEST_LINE: usize = 16_384;
 const LONGEST_HISTORY: usize = 300;
 const LONGEST_DESK: usize = 100;
+/// More than a recipe may have, so that one that is too long can be tried.
+const MOST_COMPONENTS: usize = 20;
 
 /// What a line says; none: it is unreadable.
 pub fn read(line: &[u8]) -> Option<Line> {
@@ -169,6 +176,8 @@ fn read_call(name: &[u8], words: &mut Words) -> Option<Call> {
             latest: words.number()?,
         },
         b"margin" => Call::Margin(words.number()?),
+        b"recipe" => Call::Recipe(words.components()?),
+        b"weight" => Call::Weight(words.number()?),
         _ => return None,
     })
 }
@@ -298,6 +307,14 @@ impl<'a> Words<'a> {
         }
         let bytes = bytes(word)?;
         (1..=LONGEST_DESK).contains(&bytes.len()).then_some(bytes)
+    }
+
+    fn components(&mut self) -> Option<Vec<Component>> {
+        let mut components = Vec::new();
+        while self.rest.is_some() {
+            components.push((self.number()?, self.number()?));
+        }
+        (components.len() <= MOST_COMPONENTS).then_some(components)
     }
 
     fn entries(&mut self) -> Option<Vec<[u8; 20]>> {

@@ -49,6 +49,8 @@ pub struct View {
     pub queue_length: usize,
     pub history_length: usize,
     pub earliest: Option<u64>,
+    /// Bin and grams of each component of the recipe that is loaded; empty where there is none.
+    pub recipe: Vec<(u8, u16)>,
 }
 
 /// The run of watched nodes that is lent: each place has node, timeout and last heard.

@@ -3,4 +3,5 @@ pub mod Values
 pub mod Table
 pub mod Made
 pub mod Declined
+pub mod Chain
 pub mod Played

@@ -1,7 +1,7 @@
 -- A list of actions, each on what the last one left, and what each answered; and a start with a
 -- list from there.
 -- Assumes nothing.
-use Rattle.std.specs.Prelude.{ℕ, ◌≡◌, List, [], ◌∷◌, set}
+use Rattle.std.specs.Prelude.{ℕ, ◌≡◌, List, set}
 use Rattle.std.specs.declared.result.Result.{Result}
 use Rattle.std.specs.declared.result.Result.TheVariants.{Ok, Err}
 use Rattle.types.specs.declared.refusals.Refusal.{Refusal}
@@ -14,6 +14,7 @@ use Rattle.calling.specs.declared.play.Action.TheVariants.{Call, Lend}
 use Rattle.calling.specs.Held.{Held, held, relent}
 use Rattle.calling.specs.Values.{Reply}
 use Rattle.calling.specs.Made.{Made}
+use Rattle.calling.specs.Chain.{Chain, ChainInto}
 
 -- One action: a call as it was made, or another run.
 abbrev pub Acted : Held → Action → Reply → Held → Type 0
@@ -21,30 +22,12 @@ Acted x (Call c) o x' = Made x c o x'
 Acted x (Lend i v k) o x' = (o ≡ Ok Taken) × (x' ≡ relent x (run (set x.lent.places i v) k))
 
 -- The actions, what each answered, and what they left.
-pub data Played : Held → List Action → List Reply → Held → Type 0 where
-  -- no action
-  stop : {x : Held} → Played x [] [] x
-  -- the first action, and those behind it
-  next :
-      {x x₁ x' : Held} {a : Action} {o : Reply} {acts : List Action} {os : List Reply} →
-      Acted x a o x₁ → Played x₁ acts os x' → Played x (a ∷ acts) (o ∷ os) x'
-
--- answers written over a list from its first place on, as far as it reaches
-unfoldable pub written_over : List Reply → List Reply → List Reply
-written_over [] out = out
-written_over (o ∷ os) [] = []
-written_over (o ∷ os) (p ∷ out) = o ∷ written_over os out
+abbrev pub Played : Held → List Action → List Reply → Held → Type 0
+Played = Chain Acted
 
 -- A list that was played, and its answers in `out`.
-pub record PlayedInto
-    (x : Held)
-    (acts : List Action)
-    (out : List Reply)
-    (x' : Held)
-    (out' : List Reply) : Type 0 where
-  pub answers : List Reply
-  pub played : Played x acts answers x'
-  pub written : out' ≡ written_over answers out
+abbrev pub PlayedInto : Held → List Action → List Reply → Held → List Reply → Type 0
+PlayedInto = ChainInto Acted
 
 -- A start that was taken, the head and the run that it left, and a list from there.
 pub record StartedThen

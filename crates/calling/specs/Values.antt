@@ -1,6 +1,8 @@
 -- Which of the plain head's calls a value of `Call` is, with the run that is lent, and what an
 -- answer says.
 -- Assumes nothing.
+use Rattle.std.specs.Prelude.{Bool, true, false, List, [], ◌∷◌}
+use Rattle.types.specs.declared.nmt.states.NmtState.{NmtState}
 use Rattle.types.specs.declared.refusals.Refusal.{Refusal}
 use Rattle.std.specs.declared.result.Result.{Result}
 use Rattle.watched.specs.Watched.{Run}
@@ -52,3 +54,22 @@ Reply = Result Answer Refusal
 -- what a reply says, as the plain head's answer
 abbrev pub said : Reply → plain.Answer
 said = answered says
+
+-- whether some states were entered
+abbrev pub enters_some : List NmtState → Bool
+enters_some [] = false
+enters_some (s ∷ ss) = true
+
+-- whether an answer tells of a reset: it names the states that were entered (RULES 4.4)
+abbrev pub tells_reset : plain.Answer → Bool
+tells_reset (plain.nmt_answer es r) = enters_some r.states
+tells_reset plain.taken = false
+tells_reset (plain.refused n) = false
+tells_reset (plain.dll_answer es) = false
+tells_reset (plain.error_answer a s es) = false
+tells_reset (plain.cycle_answer b) = false
+tells_reset (plain.hand_out_answer e) = false
+tells_reset (plain.tick_answer es) = false
+tells_reset (plain.range_answer v) = false
+tells_reset (plain.margin_answer z) = false
+tells_reset (plain.due_answer d) = false

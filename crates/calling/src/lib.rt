@@ -12,6 +12,7 @@ ghost use Rattle.watched.specs.Watched.{run};
 ghost use Rattle.watched.specs.Nodes.{nodes_of};
 ghost use Rattle.partners.specs.Partners.{words_of};
 ghost use Rattle.calling.specs.Held.{held};
+ghost use Rattle.calling.specs.Values.{says, tells_reset};
 ghost use Rattle.calling.specs.Made.{Made, lent_after};
 
 use crate::nodes::{Nodes, Records};
@@ -19,6 +20,7 @@ use counters::counters::ErrorTaken;
 use entries::sizes::{HistoryBytes, QueueBytes};
 use entries::status_response::ErrorEntry;
 use head::state::Head;
+use nmt::state_machine::ResetSequence;
 use node::calls::{
     NmtTaken, arm, dll_event, hand_out, handle_error, nmt_event, on_cycle_complete, withdraw,
 };
@@ -129,6 +131,26 @@ pub enum Answer {
     Margin(i64),
     /// A moment in µs, 0 meaning at once; where it is none, no tick finds anything to do.
     Due(Option<u64>),
+}
+
+impl Answer {
+    /// Whether a reset was passed (RULES 4.4): the answer then names the states that it entered.
+    pub fn tells_reset(self) -> bool
+        ensures { result ≡ tells_reset (says self) }
+    {
+        match self {
+            Answer::Nmt(taken) => taken.reset != ResetSequence::None,
+            Answer::Taken
+            | Answer::Dll(_)
+            | Answer::Error(_)
+            | Answer::Cycle(_)
+            | Answer::HandedOut(_)
+            | Answer::Tick(_)
+            | Answer::Range(_)
+            | Answer::Margin(_)
+            | Answer::Due(_) => false,
+        }
+    }
 }
 
 /// Makes a call on a head with the memory of its queue and history and the watched nodes, which are

@@ -56,8 +56,8 @@ pub fn act<N: Nodes>(
     }
 }
 
-// Writes an answer at a place; past the end it is not written.
-fn put(out: &mut [Result<Answer, Refusal>], place: usize, answer: Result<Answer, Refusal>)
+/// Writes an answer at a place, from 0; past the end it is not written.
+pub fn put<T: Copy + Drop>(out: &mut [T], place: usize, answer: T)
     ensures { out.new ≡ set out.old place answer }
 {
     if place < out.len() {

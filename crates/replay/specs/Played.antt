@@ -20,12 +20,14 @@ use Rattle.watched.specs.Watched.{Run, run, no_node}
 use Rattle.watched.specs.declared.nodes.WatchedNode.{WatchedNode}
 use Rattle.bitmap.specs.Bitmap.{BitsWritten, bitmap_said, bitmap_reply}
 use Rattle.start.specs.declared.start.Setup.{Setup}
-use Rattle.start.specs.Started.{StartedOn}
-use Rattle.calling.specs.declared.Call.{Call}
-use Rattle.calling.specs.declared.Answer.{Answer}
 use Rattle.calling.specs.declared.Answer.TheVariants as answer
-use Rattle.calling.specs.Held.{Held, held}
-use Rattle.calling.specs.Made.{Made}
+use Rattle.weigh.specs.declared.WeighCall.{WeighCall}
+use Rattle.weigh.specs.declared.WeighAnswer.{WeighAnswer}
+use Rattle.weigh.specs.declared.WeighAnswer.TheVariants as weighing
+use Rattle.weigh.specs.WeighParts.{Parts}
+use Rattle.weigh.specs.WeighHeld.{Held, held}
+use Rattle.weigh.specs.WeighValues.{Reply}
+use Rattle.weigh.specs.WeighMade.{blank, Made, Started}
 use Rattle.script.specs.declared.Line.{Line}
 use Rattle.script.specs.declared.Line.TheVariants as line
 use Rattle.script.specs.Grammar.{says, line_says}
@@ -58,7 +60,7 @@ abbrev pub fresh : Station
 fresh =
     record {
       started = false;
-      head = replicate 60 0;
+      head = blank;
       queue = replicate 640 0;
       history = replicate 5080 0;
       run = replicate 40 no_node;
@@ -101,7 +103,7 @@ pub record Beside (x y : Station) : Type 0 where
   pub desk : y.desk ≡ x.desk
 
 -- A call, as it was made.
-pub record Called (c : Call) (x : Station) (o : Result Answer Refusal) (y : Station) : Type 0 where
+pub record Called (c : WeighCall) (x : Station) (o : Reply) (y : Station) : Type 0 where
   pub made : Made (held_of x) c o (held_of y)
   pub started : y.started ≡ x.started
   pub beside : Beside x y
@@ -111,9 +113,20 @@ abbrev pub begun_by : Bool → Result (Unit {0}) Refusal → Bool
 begun_by started (Ok u) = true
 begun_by started (Err r) = started
 
+-- what a start gave that left this head
+abbrev pub given_by : Result (Unit {0}) Refusal → Parts → Result Parts Refusal
+given_by (Ok u) v = Ok v
+given_by (Err r) v = Err r
+
+-- the head is another behind a start that is taken alone
+abbrev pub HeadKept : Result (Unit {0}) Refusal → Parts → Parts → Type 0
+HeadKept (Ok u) v w = Unit {0}
+HeadKept (Err r) v w = w ≡ v
+
 -- a start at the station x, which answered o and left y
 pub record Began (s : Setup) (x : Station) (o : Result (Unit {0}) Refusal) (y : Station) : Type 0 where
-  pub on : StartedOn x.head (lent_of x) s o y.head (lent_of y)
+  pub on : Started (lent_of x) s (given_by o y.head) (lent_of y)
+  pub head : HeadKept o x.head y.head
   pub started : y.started ≡ begun_by x.started o
   pub queue : y.queue ≡ x.queue
   pub history : y.history ≡ x.history
@@ -138,13 +151,13 @@ Tells kind P said.Why = ⊥
 Tells kind P (said.Reply r) = MatchResult r.0 (λ t. MatchOption (kind t) ⊥ (λ a. P (Ok a))) (λ e. P (Err e))
 
 -- the answer that a reply tells, if any
-abbrev pub answer_in : Told → Option Answer
+abbrev pub answer_in : Told → Option WeighAnswer
 answer_in (told.Answer a) = Some a
 answer_in t = None
 
 -- that a reply tells no more than that the call was taken
 abbrev pub taken_in : Told → Option (Unit {0})
-taken_in (told.Answer answer.Taken) = Some tt
+taken_in (told.Answer (weighing.Node answer.Taken)) = Some tt
 taken_in t = None
 
 -- the watched nodes as bits that a reply tells, if any
@@ -174,7 +187,7 @@ kind_in t = None
 
 -- an answer that tells nothing
 abbrev pub taken_by : Result (Unit {0}) Refusal → Result Told Refusal
-taken_by (Ok u) = Ok (told.Answer answer.Taken)
+taken_by (Ok u) = Ok (told.Answer (weighing.Node answer.Taken))
 taken_by (Err r) = Err r
 
 -- whether a line can be played as things stand: a watch where there is a place, and what reaches
@@ -230,7 +243,7 @@ station_text y x = show_text y x.head x.queue x.history (take x.places x.run) x.
 
 -- what `why` prints at a station
 abbrev pub standing_text : Station → List ℕ
-standing_text x = why_text (position_of (nmt_of x.head))
+standing_text x = why_text (position_of (nmt_of x.head.node))
 
 -- what a line is answered, which is the n-th of the script, counted from 1, and left the station x
 abbrev pub said_text : Style → Said → ℕ → Station → List ℕ
@@ -242,13 +255,13 @@ said_text y said.Why n x = standing_text x
 
 -- where moves are traced, the machine that a line finds
 abbrev pub found_by : Bool → Station → Option CnNmtStateMachine
-found_by true x = Some (nmt_of x.head)
+found_by true x = Some (nmt_of x.head.node)
 found_by false x = None
 
 -- how the line moved that machine
 abbrev pub moved_from : Option CnNmtStateMachine → Line → Station → Option Moved
 moved_from None l y = None
-moved_from (Some m) l y = moved l m (nmt_of y.head)
+moved_from (Some m) l y = moved l m (nmt_of y.head.node)
 
 -- what the trace prints of it
 abbrev pub trace_text : Option Moved → List ℕ

@@ -8,9 +8,10 @@ use Rattle.types.specs.Events.{read_event}
 use Rattle.types.specs.States.{same_state}
 use Rattle.types.specs.declared.refusals.Refusal.{Refusal}
 use Rattle.types.specs.declared.nmt.events.NmtEvent.{NmtEvent}
-use Rattle.types.specs.declared.nmt.events.NmtEvent.TheVariants.{Timeout, Error}
+use Rattle.types.specs.declared.nmt.events.NmtEvent.TheVariants.{Timeout, Error, CnConfigurationComplete}
 use Rattle.nmt.specs.declared.cn_state_machine.CnNmtStateMachine.{CnNmtStateMachine}
 use Rattle.calling.specs.declared.Call.TheVariants as calls
+use Rattle.weigh.specs.declared.WeighCall.TheVariants as weighing
 use Rattle.script.specs.declared.Line.{Line}
 use Rattle.script.specs.declared.Line.TheVariants as line
 use Rattle.telling.specs.declared.moves.Cause.{Cause}
@@ -28,10 +29,12 @@ abbrev pub read_or : Result NmtEvent Refusal → NmtEvent → NmtEvent
 read_or (Ok e) d = e
 read_or (Err r) d = d
 
--- what moved a machine by a line: a start, the event that the line names, or that of a tick
+-- what moved a machine by a line: a start, the event that the line names, the ready word of a load,
+-- or the event of a tick
 abbrev pub cause_of : Line → CnNmtStateMachine → CnNmtStateMachine → Cause
 cause_of (line.Start s) m m' = cause.Start
-cause_of (line.Call (calls.NmtEvent n)) m m' = cause.Event (read_or (read_event n) (event_of m m'))
+cause_of (line.Call (weighing.Node (calls.NmtEvent n))) m m' = cause.Event (read_or (read_event n) (event_of m m'))
+cause_of (line.Call (weighing.LoadRecipe cs)) m m' = cause.Event CnConfigurationComplete
 cause_of l m m' = cause.Event (event_of m m')
 
 -- how a line moved the machine of a node, where its state is another behind it

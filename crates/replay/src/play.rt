@@ -9,7 +9,7 @@ ghost use Rattle.replay.specs.Played.{Script};
 use crate::station::{Said, Station};
 use crate::trace::moved;
 use nmt::cn_state_machine::CnNmtStateMachine;
-use script::{Line, LineBytes, read};
+use script::{Line, LineMemory, read};
 use std::alloc::Global;
 use std::fmt::Display;
 use std::io::{BufRead, BufReader, ErrorKind, Read, Write};
@@ -120,7 +120,7 @@ pub fn play<R: Read, W: Write>(
 {
     let mut station = Station::new();
     let mut line = Vec::new(alloc);
-    let mut bytes = LineBytes::new();
+    let mut memory = LineMemory::new();
     let mut all_played = true;
     for place in 1..u64::MAX {
         flush_before_reading(script, out)?;
@@ -130,7 +130,7 @@ pub fn play<R: Read, W: Write>(
             return Ok(all_played);
         }
         let before = options.before(&station);
-        let read_line = read(without_newline(&line), &mut bytes);
+        let read_line = read(without_newline(&line), &mut memory);
         let said = station.play(read_line);
         all_played &= said.is_played();
         let traced = Traced(moved_from(before, read_line, &station));

@@ -1,19 +1,16 @@
 //! What the lines of a script are played on, and what each does there.
 ghost use Rattle.std.specs.Prelude.{◌≡◌, take, drop};
 ghost use Rattle.watched.specs.Watched.{run as run_of};
-ghost use Rattle.start.specs.Started.{StartedOn};
-ghost use Rattle.calling.specs.Held.{held};
-ghost use Rattle.calling.specs.Made.{Made};
+ghost use Rattle.weigh.specs.WeighHeld.{held};
+ghost use Rattle.weigh.specs.WeighMade.{Made, Started};
 
 use arrayvec::ArrayVec;
-use calling::{Answer, Call, make_over_records};
+use calling::Answer;
 use entries::desk::{read_at, write_at};
 use entries::sizes::{HistoryBytes, QueueBytes};
 use entries::status_response::ErrorEntry;
 use head::machines::nmt_of;
-use head::state::Head;
 use lent::bits::bitmap;
-use lent::calls::start;
 use nmt::cn_state_machine::CnNmtStateMachine;
 use script::Line;
 use start::start::Setup;
@@ -26,15 +23,16 @@ use types::nmt::events::NmtStateCommand;
 use types::nmt::states::NmtState;
 use types::refusals::Refusal;
 use watched::nodes::WatchedNode;
+use weigh::{WeighAnswer, WeighCall, WeighHead};
 
-/// A head with its memory, the run of watched nodes, of which so many places are lent with their
-/// number, and the bytes of the desk.
+/// A weigh head with its memory, the run of watched nodes, of which so many places are lent with
+/// their number, and the bytes of the desk.
 #[derive(Drop)]
 pub struct Station {
     /// Whether a start was taken: before that no line reaches the head.
     pub started: bool,
-    /// The words of the head.
-    pub head: Head,
+    /// The weigh head.
+    pub head: WeighHead,
     /// The bytes of its emergency queue.
     pub queue: QueueBytes,
     /// The bytes of its history.
@@ -77,14 +75,14 @@ impl Said {
 
 // A call that is lent the first so many of some places.
 fn make_over_places(
-    head: &mut Head,
+    head: &mut WeighHead,
     queue: &mut QueueBytes,
     history: &mut HistoryBytes,
     run: &mut [WatchedNode; 40],
     places: usize,
     number: &mut usize,
-    call: Call<'_>,
-) -> Result<Answer, Refusal>
+    call: WeighCall<'_>,
+) -> Result<WeighAnswer, Refusal>
     ensures made { Made
         (held head.old queue.old history.old (run_of (take places run.old) number.old))
         call.entry result
@@ -92,22 +90,21 @@ fn make_over_places(
     ensures past { drop places run.new ≡ drop places run.old }
 {
     let lent = &mut run[..places.min(40)];
-    make_over_records(head, queue, history, lent, number, call)
+    head.make_over_records(queue, history, lent, number, call)
 }
 
 // A start over them.
 fn start_over_places(
-    head: &mut Head,
     run: &mut [WatchedNode; 40],
     places: usize,
     number: usize,
     setup: Setup,
-) -> Result<(), Refusal>
-    ensures started { StartedOn head.old (run_of (take places run.old) number) setup result
-        head.new (run_of (take places run.new) number) }
+) -> Result<WeighHead, Refusal>
+    ensures started { Started (run_of (take places run.old) number) setup result
+        (run_of (take places run.new) number) }
     ensures past { drop places run.new ≡ drop places run.old }
 {
-    start(head, &mut run[..places.min(40)], number, setup)
+    WeighHead::start_over_records(&mut run[..places.min(40)], number, setup)
 }
 
 impl Said {
@@ -123,7 +120,7 @@ impl Said {
     fn taken(answer: Result<(), Refusal>) -> Said
         ensures { result ≡ said.Reply (record { 0 = taken_by answer }) }
     {
-        Said::reply(answer.map(|()| Told::Answer(Answer::Taken)))
+        Said::reply(answer.map(|()| Told::Answer(WeighAnswer::Node(Answer::Taken))))
     }
 }
 
@@ -141,7 +138,7 @@ impl Station {
     {
         Station {
             started: false,
-            head: [0; 60],
+            head: WeighHead::blank(),
             queue: [0; 640],
             history: [0; 5080],
             run: [WatchedNode::NONE; 40],
@@ -158,7 +155,7 @@ impl Station {
         &self.run[..self.places.min(40)]
     }
 
-    fn call(&mut self, call: Call<'_>) -> Result<Answer, Refusal>
+    fn call(&mut self, call: WeighCall<'_>) -> Result<WeighAnswer, Refusal>
         ensures { Called call.entry self.old result self.new }
     {
         make_over_places(
@@ -175,13 +172,7 @@ impl Station {
     fn start(&mut self, setup: Setup) -> Result<(), Refusal>
         ensures { Began setup self.old result self.new }
     {
-        start_over_places(
-            &mut self.head,
-            &mut self.run,
-            self.places,
-            self.number,
-            setup,
-        )?;
+        self.head = start_over_places(&mut self.run, self.places, self.number, setup)?;
         self.started = true;
         Ok(())
     }
@@ -309,8 +300,8 @@ impl Station {
 
     /// The NMT machine of its head.
     pub fn machine(&self) -> CnNmtStateMachine
-        ensures { result ≡ nmt_of self.now.head }
+        ensures { result ≡ nmt_of self.now.head.node }
     {
-        nmt_of(&self.head)
+        nmt_of(&self.head.words())
     }
 }

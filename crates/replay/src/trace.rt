@@ -8,6 +8,7 @@ use script::Line;
 use telling::moves::{Cause, Moved};
 use telling::why::{left_by, position_of};
 use types::nmt::events::NmtEvent;
+use weigh::WeighCall;
 
 // The event that moved a machine at a tick: a tick gives it Timeout or Error, of which the table
 // leads at most one to the state in which it stands behind it.
@@ -22,16 +23,18 @@ fn event_of(before: CnNmtStateMachine, after: CnNmtStateMachine) -> NmtEvent
     }
 }
 
-// What moved a machine by a line: a start, the event that the line names, or that of a tick.
+// What moved a machine by a line: a start, the event that the line names, the ready word of a load,
+// or the event of a tick.
 fn cause_of(line: Line<'_>, before: CnNmtStateMachine, after: CnNmtStateMachine) -> Cause
     ensures { result ≡ cause_of line.entry before after }
 {
     match line {
         Line::Start(_) => Cause::Start,
-        Line::Call(Call::NmtEvent(number)) => match NmtEvent::try_from(number) {
+        Line::Call(WeighCall::Node(Call::NmtEvent(number))) => match NmtEvent::try_from(number) {
             Ok(event) => Cause::Event(event),
             Err(_) => Cause::Event(event_of(before, after)),
         },
+        Line::Call(WeighCall::LoadRecipe(_)) => Cause::Event(NmtEvent::CnConfigurationComplete),
         _ => Cause::Event(event_of(before, after)),
     }
 }

@@ -1,3 +1,4 @@
+pub mod Collecting
 pub mod Names
 pub mod Reading
 pub mod Spellings

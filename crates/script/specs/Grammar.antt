@@ -17,19 +17,25 @@ use Rattle.node.specs.Loaded.{bytes_named}
 use Rattle.start.specs.declared.start.Setup.{Setup}
 use Rattle.calling.specs.declared.Call.{Call}
 use Rattle.calling.specs.declared.Call.TheVariants as calls
+use Rattle.recipes.specs.declared.Component.{Component}
+use Rattle.weigh.specs.declared.WeighCall.{WeighCall}
+use Rattle.weigh.specs.declared.WeighCall.TheVariants as weighing
 use Rattle.script.specs.declared.Line.{Line}
 use Rattle.script.specs.declared.Line.TheVariants as line
 use Rattle.script.specs.Reads.{Reads, just, only, ◌>>=◌, optional, ends, first_word, behind_word, up_to, bits8, bits16, bits32, bits64, flag, object}
 use Rattle.script.specs.Numerals.{numeral, event_named, cs_event_named, kind_named, state_named, command_named}
 use Rattle.script.specs.Keys.{by_place, setup_by_keys}
 use Rattle.script.specs.Bytes.{history, desk_bytes, entry_bytes}
+use Rattle.script.specs.Components.{components}
 
--- what a line says: a `Line`, with its bytes themselves
+-- what a line says: a `Line`, with its bytes and components themselves
 pub data Reading : Type 0 where
   nothing : Reading
   unreadable : Reading
   call : Call → Reading
   load : DictionaryUpdate → Option (List ℕ) → Reading
+  recipe : List Component → Reading
+  weight : ℕ → Reading
   start : Setup → Reading
   watch : WatchedNode → Reading
   unwatch : Reading
@@ -44,10 +50,16 @@ pub data Reading : Type 0 where
   show : Reading
   why : Reading
 
--- what a line says that is a call: of a load its bytes themselves
-abbrev pub call_says : Call → Reading
-call_says (calls.Load u h) = load u (bytes_named h)
-call_says c = call c
+-- what a line says that is a call on the node: of a load its bytes themselves
+abbrev pub node_says : Call → Reading
+node_says (calls.Load u h) = load u (bytes_named h)
+node_says c = call c
+
+-- what a line says that is a call: of a recipe its components themselves
+abbrev pub call_says : WeighCall → Reading
+call_says (weighing.Node c) = node_says c
+call_says (weighing.LoadRecipe cs) = recipe cs.now
+call_says (weighing.Weight i) = weight i
 
 -- what a `Line` says
 abbrev pub says : Line → Reading
@@ -184,7 +196,7 @@ abbrev pub named : {A : Type 0} → List (Row A) → List ℕ → Reads A → Re
 named [] name other = other
 named (row ∷ rows) name other = if bytes_eq name row.0 then row.1 else named rows name other
 
--- the calls on a head but for the load
+-- the calls on the node but for the load
 abbrev pub call_rows : List (Row Call)
 call_rows =
     (codes "nmt", one (numeral event_named) calls.NmtEvent) ∷
@@ -211,6 +223,8 @@ abbrev pub line_rows : List (Row Reading)
 line_rows =
     (codes "start", one setup start) ∷
     (codes "load", two update history load) ∷
+    (codes "recipe", one components recipe) ∷
+    (codes "weight", one bits64 weight) ∷
     (codes "watch", one watched watch) ∷
     (codes "unwatch", just unwatch) ∷
     (codes "lend", two (up_to 40) bits64 lend) ∷
@@ -226,7 +240,7 @@ line_rows =
 
 -- what the line of this name says, by the words behind it
 unfoldable pub line_named : List ℕ → Reads Reading
-line_named name = named line_rows name (one (call_named name) call_says)
+line_named name = named line_rows name (one (call_named name) node_says)
 
 -- the words of a line, which are all there and no more
 unfoldable pub words_say : List ℕ → Option Reading

@@ -2,4 +2,5 @@ pub mod Reads
 pub mod Numerals
 pub mod Keys
 pub mod Bytes
+pub mod Components
 pub mod Grammar

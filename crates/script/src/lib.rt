@@ -13,6 +13,7 @@ ghost use Rattle.script.specs.Numerals.{NamesRead};
 ghost use Rattle.script.specs.Grammar.{says, call_named, line_named, words_say, line_says};
 
 mod bytes;
+mod components;
 mod fields;
 mod keys;
 mod numerals;
@@ -21,17 +22,38 @@ mod words;
 use arrayvec::ArrayVec;
 use calling::Call;
 use entries::status_response::ErrorEntry;
+use recipes::Component;
 use start::start::Setup;
 use std::str;
 use types::frame::cs_state_machine::DllCsEvent;
 use types::nmt::events::{NmtEvent, NmtStateCommand};
 use types::nmt::states::NmtState;
 use watched::nodes::WatchedNode;
+use weigh::WeighCall;
 use words::Words;
 
-/// The bytes that a line gives, lent to be read into: as many as the 300 entries have that a load
-/// may name.
-pub type LineBytes = ArrayVec<u8, 6000>;
+// The bytes that a line gives: as many as the 300 entries have that a load may name.
+type LineBytes = ArrayVec<u8, 6000>;
+
+// The components that a line gives: more than a recipe may have, so that such a one can be tried.
+type LineComponents = ArrayVec<Component, 20>;
+
+/// The memory that a line is read into, which lends what the line gives.
+#[derive(Drop)]
+pub struct LineMemory {
+    bytes: LineBytes,
+    components: LineComponents,
+}
+
+impl LineMemory {
+    /// Memory that no line was read into.
+    pub fn new() -> LineMemory {
+        LineMemory {
+            bytes: LineBytes::new(),
+            components: LineComponents::new(),
+        }
+    }
+}
 
 /// What a line says. Any number of its width may stand in it; the calls refuse what they do not
 /// take.
@@ -41,8 +63,8 @@ pub enum Line<'a> {
     Nothing,
     /// No line of the format.
     Unreadable,
-    /// A call on the head.
-    Call(Call<'a>),
+    /// A call on the weigh head.
+    Call(WeighCall<'a>),
     /// The start of a head.
     Start(Setup),
     /// One node more is watched in the lent run.
@@ -121,16 +143,24 @@ fn read_call<'a>(name: &str, words: &mut Words<'_>) -> Option<Call<'a>>
 
 // What a line says that begins with a name, with the words behind it.
 #[tactic(auto, unfolding(crate::specs::Grammar::line_named))]
-fn read_named<'a>(name: &str, words: &mut Words<'_>, bytes: &'a mut LineBytes) -> Option<Line<'a>>
+fn read_named<'a>(
+    name: &str,
+    words: &mut Words<'_>,
+    memory: &'a mut LineMemory,
+) -> Option<Line<'a>>
     ensures { gives (option_map says result) words.new.rest.now
         ≡ line_named name.now words.old.rest.now }
 {
     match name {
         "start" => Some(Line::Start(words.setup()?)),
-        "load" => Some(Line::Call(Call::Load {
+        "load" => Some(Line::Call(WeighCall::Node(Call::Load {
             values: words.update()?,
-            history: words.history(bytes)?,
-        })),
+            history: words.history(&mut memory.bytes)?,
+        }))),
+        "recipe" => Some(Line::Call(WeighCall::LoadRecipe(
+            words.components(&mut memory.components)?,
+        ))),
+        "weight" => Some(Line::Call(WeighCall::Weight(words.bits64()? as usize))),
         "watch" => Some(Line::Watch(words.watched()?)),
         "unwatch" => Some(Line::Unwatch),
         "lend" => Some(Line::Lend {
@@ -138,42 +168,43 @@ fn read_named<'a>(name: &str, words: &mut Words<'_>, bytes: &'a mut LineBytes) -
             number: words.bits64()? as usize,
         }),
         "bitmap" => Some(Line::Bitmap),
-        "desk" => Some(Line::Desk(words.desk(bytes)?)),
+        "desk" => Some(Line::Desk(words.desk(&mut memory.bytes)?)),
         "entrywrite" => Some(Line::EntryWrite {
             place: words.bits64()?,
             entry: words.entry()?,
         }),
-        "entryread" => Some(Line::EntryRead(words.entry_bytes(bytes)?)),
+        "entryread" => Some(Line::EntryRead(words.entry_bytes(&mut memory.bytes)?)),
         "state" => Some(Line::State(words.numeral::<NmtState>()?)),
         "command" => Some(Line::Command(words.numeral::<NmtStateCommand>()?)),
         "kind" => Some(Line::Kind(words.bits64()?)),
         "show" => Some(Line::Show),
         "why" => Some(Line::Why),
-        _ => Some(Line::Call(read_call(name, words)?)),
+        _ => Some(Line::Call(WeighCall::Node(read_call(name, words)?))),
     }
 }
 
 // What the words of a line say, where they are all there and no more.
 #[tactic(auto, using(crate::proofs::Names::no_text), unfolding(crate::specs::Grammar::words_say))]
-fn read_words<'a>(line: &[u8], bytes: &'a mut LineBytes) -> Option<Line<'a>>
+fn read_words<'a>(line: &[u8], memory: &'a mut LineMemory) -> Option<Line<'a>>
     ensures { option_map says result ≡ words_say line.now }
 {
     let (name, mut words) = Words::of(line);
     let Ok(name) = str::from_utf8(name) else {
         return None;
     };
-    let read = read_named(name, &mut words, bytes)?;
+    let read = read_named(name, &mut words, memory)?;
     words.end()?;
     Some(read)
 }
 
-/// Reads a line, which has no newline at its end. The bytes that it gives are in the buffer.
-pub fn read<'a>(line: &[u8], bytes: &'a mut LineBytes) -> Line<'a>
+/// Reads a line, which has no newline at its end. The bytes or components that it gives are in the
+/// memory.
+pub fn read<'a>(line: &[u8], memory: &'a mut LineMemory) -> Line<'a>
     ensures { says result ≡ line_says line.now }
 {
     match line {
         [] | [b'#', ..] => Line::Nothing,
         _ if LONGEST < line.len() => Line::Unreadable,
-        _ => read_words(line, bytes).unwrap_or(Line::Unreadable),
+        _ => read_words(line, memory).unwrap_or(Line::Unreadable),
     }
 }

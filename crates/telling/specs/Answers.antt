@@ -27,6 +27,8 @@ use Rattle.node.specs.declared.range.SocVerdict.{SocVerdict}
 use Rattle.node.specs.declared.range.SocVerdict.TheVariants as verdict
 use Rattle.calling.specs.declared.Answer.{Answer}
 use Rattle.calling.specs.declared.Answer.TheVariants as answer
+use Rattle.weigh.specs.declared.WeighAnswer.{WeighAnswer}
+use Rattle.weigh.specs.declared.WeighAnswer.TheVariants as weighing
 use Rattle.forms.specs.Hex.{hex_form}
 use Rattle.telling.specs.declared.answers.Bitmap.{Bitmap}
 use Rattle.telling.specs.declared.answers.Told.{Told}
@@ -96,6 +98,12 @@ answer_text y (answer.Range v) = verdict_text v
 answer_text y (answer.Margin z) = joined (codes " " ∷ signed_decimal z ∷ [])
 answer_text y (answer.Due d) = due_text d
 
+-- what a call on a weigh head answers
+abbrev pub weigh_answer_text : Style → WeighAnswer → List ℕ
+weigh_answer_text y (weighing.Node a) = answer_text y a
+weigh_answer_text y weighing.Loaded = []
+weigh_answer_text y (weighing.Weight g) = joined (codes " " ∷ decimal g ∷ [])
+
 -- the type of an entry that is read: its marks, its mode's number and its profile
 abbrev pub type_text : EntryType → List ℕ
 type_text t =
@@ -116,7 +124,7 @@ bitmap_text b = joined (codes " (nodes " ∷ decimal b.number ∷ codes ")" ∷ 
 
 -- what a line tells that is taken
 abbrev pub told_text : Style → Told → List ℕ
-told_text y (told.Answer a) = answer_text y a
+told_text y (told.Answer a) = weigh_answer_text y a
 told_text y (told.Bitmap b) = bitmap_text b
 told_text y (told.Entry e) = joined (codes " (entry " ∷ read_text y e ∷ codes ")" ∷ [])
 told_text y (told.State s) = joined (codes " " ∷ state_form y s ∷ [])

@@ -1,4 +1,4 @@
--- What `show` prints: a head, its queue and history, the lent run and the desk.
+-- What `show` prints: a weigh head, its queue and history, the lent run and the desk.
 -- Assumes nothing.
 use Rattle.std.specs.Prelude.{ℕ, ◌==◌, ◌&&◌, Bool, List, [], ◌∷◌, codes, length, take, drop, min, if◌then◌else◌}
 use Rattle.std.specs.List.{flat_map}
@@ -14,6 +14,8 @@ use Rattle.telling.specs.declared.shows.Shown.{Shown}
 use Rattle.head.specs.Places as at
 use Rattle.head.specs.Words.{nmt_of, dll_state, word, errors_of, soc_of, od_of, queue_of, history_of, earliest_of}
 use Rattle.watched.specs.declared.nodes.WatchedNode.{WatchedNode}
+use Rattle.recipes.specs.declared.Component.{Component}
+use Rattle.weigh.specs.WeighParts.{Parts}
 use Rattle.telling.specs.declared.styles.Style.{Style}
 use Rattle.telling.specs.Texts.{joined, bytes_text, entries_text}
 use Rattle.telling.specs.Heads.{nmt_line, dll_line, error_lines, moment_text, soc_line, dictionary_line, each_text}
@@ -95,13 +97,22 @@ unfoldable pub threshold_line : List ℕ → List ℕ
 threshold_line ws =
     joined (codes "(thresholds " ∷ each_text (each_of (λ (c : ThresholdCounter). c.threshold) (errors_of ws)) ∷ codes ")\n" ∷ [])
 
--- all of it: of the words of a head, the bytes of its queue and history, the run that is lent, its
--- number, and the desk's bytes
-unfoldable pub show_text : Style → List ℕ → List ℕ → List ℕ → List WatchedNode → ℕ → List ℕ → List ℕ
-show_text y ws q m places n desk =
+-- the places of a recipe, each a bin and grams
+abbrev pub components_text : List Component → List ℕ
+components_text cs = flat_map (λ (c : Component). joined (codes " (" ∷ decimal c.bin ∷ codes " " ∷ decimal c.grams ∷ codes ")" ∷ [])) cs
+
+-- their line
+unfoldable pub recipe_line : List Component → List ℕ
+recipe_line cs = joined (codes "(recipe" ∷ components_text cs ∷ codes ")\n" ∷ [])
+
+-- all of it: of the words and the places of a weigh head, the bytes of its queue and history, the
+-- run that is lent, its number, and the desk's bytes
+unfoldable pub show_text : Style → Parts → List ℕ → List ℕ → List WatchedNode → ℕ → List ℕ → List ℕ
+show_text y head q m places n desk =
+    let ws = head.node in
     joined
     (head_lines y ws ∷ queue_line q (queue_of ws) ∷ history_line m (history_of ws) ∷ run_lines places n ∷ crossing_lines ws ∷ desk_line desk
-    ∷ threshold_line ws ∷ [])
+    ∷ threshold_line ws ∷ recipe_line head.places ∷ [])
 
 -- what `show` prints of what it is lent
 abbrev pub shown_text : Shown → List ℕ

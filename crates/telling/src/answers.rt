@@ -2,8 +2,8 @@
 ghost use Rattle.std.specs.Prelude.{Some};
 ghost use Rattle.forms.specs.Hex.{hex_form};
 ghost use Rattle.telling.specs.Answers.{entered_text, restored_text, nmt_text, error_taken_text};
-ghost use Rattle.telling.specs.Answers.{answer_text, type_text, read_text, bitmap_text, told_text};
-ghost use Rattle.telling.specs.Answers.{reply_text};
+ghost use Rattle.telling.specs.Answers.{answer_text, weigh_answer_text, type_text, read_text};
+ghost use Rattle.telling.specs.Answers.{bitmap_text, told_text, reply_text};
 
 use crate::styles::{
     CodeForm, CommandForm, Errors, KindForm, Machine, RefusalForm, StateForm, Style,
@@ -21,12 +21,13 @@ use types::frame::error::kinds::DllErrorKind;
 use types::nmt::events::NmtStateCommand;
 use types::nmt::states::NmtState;
 use types::refusals::Refusal;
+use weigh::WeighAnswer;
 
 /// What a line tells that is taken.
 #[derive(Clone, Copy)]
 pub enum Told {
-    /// What a call on a head answers.
-    Answer(Answer),
+    /// What a call on a weigh head answers.
+    Answer(WeighAnswer),
     /// The watched nodes as bits.
     Bitmap(Bitmap),
     /// An entry that was read.
@@ -82,7 +83,7 @@ impl Display for ToldForm {
     fn fmt<W: fmt::Write>(&self, f: &mut fmt::Formatter<W>) -> fmt::Result {
         let ToldForm(style, told) = *self;
         match told {
-            Told::Answer(answer) => write!(f, "{}", AnswerForm(style, answer)),
+            Told::Answer(answer) => write!(f, "{}", WeighAnswerForm(style, answer)),
             Told::Bitmap(bitmap) => write!(f, "{bitmap}"),
             Told::Entry(entry) => write!(f, " (entry {})", EntryForm(style, entry)),
             Told::State(state) => write!(f, " {}", StateForm(style, state)),
@@ -93,6 +94,23 @@ impl Display for ToldForm {
 }
 
 // What a call answers.
+#[derive(Clone, Copy)]
+struct WeighAnswerForm(Style, WeighAnswer);
+
+impl Display for WeighAnswerForm {
+    ghost output = { λ x. Some (weigh_answer_text x.0 x.1) };
+
+    fn fmt<W: fmt::Write>(&self, f: &mut fmt::Formatter<W>) -> fmt::Result {
+        let WeighAnswerForm(style, answer) = *self;
+        match answer {
+            WeighAnswer::Node(answer) => write!(f, "{}", AnswerForm(style, answer)),
+            WeighAnswer::Loaded => Ok(()),
+            WeighAnswer::Weight(grams) => write!(f, " {grams}"),
+        }
+    }
+}
+
+// What a call on the node answers.
 #[derive(Clone, Copy)]
 struct AnswerForm(Style, Answer);
 

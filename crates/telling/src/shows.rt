@@ -6,7 +6,7 @@ ghost use Rattle.head.specs.Words.{errors_of};
 ghost use Rattle.telling.specs.Texts.{entries_text};
 ghost use Rattle.telling.specs.Shows.{queue_line, history_line, nodes_text, filled, run_lines};
 ghost use Rattle.telling.specs.Shows.{each_of, desk_line, head_lines, crossing_lines};
-ghost use Rattle.telling.specs.Shows.{threshold_line, shown_text};
+ghost use Rattle.telling.specs.Shows.{threshold_line, components_text, recipe_line, shown_text};
 
 use crate::heads::{DictionaryLine, DllLine, Each, ErrorLines, Moment, NmtLine, SocLine};
 use crate::styles::Style;
@@ -21,16 +21,18 @@ use head::machines::{dll_of, nmt_of};
 use head::memory::{history_of, queue_of};
 use head::state::Head;
 use head::watch::{earliest_of, soc_of};
+use recipes::{Component, Places};
 use std::fmt;
 use std::fmt::Display;
 use watched::nodes::WatchedNode;
+use weigh::WeighHead;
 
-/// How it is printed, a head, the memory of its queue and its history, the run of watched nodes
-/// that is lent with its number, and the bytes on the desk.
+/// How it is printed, a weigh head, the memory of its queue and its history, the run of watched
+/// nodes that is lent with its number, and the bytes on the desk.
 #[derive(Clone, Copy)]
 pub struct Shown<'a> {
     pub style: Style,
-    pub head: &'a Head,
+    pub head: &'a WeighHead,
     pub queue: &'a QueueBytes,
     pub history: &'a HistoryBytes,
     pub run: &'a [WatchedNode],
@@ -43,16 +45,19 @@ impl Display for Shown<'_> {
     ghost output = { λ x. Some (shown_text x) };
 
     fn fmt<W: fmt::Write>(&self, f: &mut fmt::Formatter<W>) -> fmt::Result {
+        let head = self.head.words();
+        let places = self.head.places();
         write!(
             f,
-            "{}{}{}{}{}{}{}",
-            HeadLines(self.style, self.head),
-            QueueLine(queue_of(self.head), self.queue),
-            HistoryLine(history_of(self.head), self.history),
+            "{}{}{}{}{}{}{}{}",
+            HeadLines(self.style, &head),
+            QueueLine(queue_of(&head), self.queue),
+            HistoryLine(history_of(&head), self.history),
             RunLines(self.run, self.number),
-            CrossingLines(self.head),
+            CrossingLines(&head),
             DeskLine(self.desk),
-            ThresholdLine(self.head)
+            ThresholdLine(&head),
+            RecipeLine(&places)
         )
     }
 }
@@ -138,6 +143,35 @@ impl Display for ThresholdLine<'_> {
 
     fn fmt<W: fmt::Write>(&self, f: &mut fmt::Formatter<W>) -> fmt::Result {
         writeln!(f, "(thresholds {})", Each(thresholds(self.0)))
+    }
+}
+
+// The places of a recipe, each behind a space.
+#[derive(Clone, Copy)]
+struct Components<'a>(&'a [Component]);
+
+impl Display for Components<'_> {
+    ghost output = { λ x. Some (components_text x.0.now) };
+
+    fn fmt<W: fmt::Write>(&self, f: &mut fmt::Formatter<W>) -> fmt::Result {
+        for component in self.0 {
+            write!(f, " ({} {})", component.bin, component.grams)?;
+        }
+        Ok(())
+    }
+}
+
+// All places.
+#[derive(Clone, Copy)]
+struct RecipeLine<'a>(&'a Places);
+
+#[tactic(auto, unfolding(crate::specs::Shows::recipe_line))]
+impl Display for RecipeLine<'_> {
+    ghost output = { λ x. Some (recipe_line x.0.now) };
+
+    fn fmt<W: fmt::Write>(&self, f: &mut fmt::Formatter<W>) -> fmt::Result {
+        let places = self.0;
+        writeln!(f, "(recipe{})", Components(places))
     }
 }
 

@@ -14,7 +14,7 @@ use Rattle.calling.specs.declared.play.Action.{Action}
 use Rattle.calling.specs.declared.play.Action.TheVariants as action
 use Rattle.calling.specs.Held.{Held, held, plain_at, relent}
 use Rattle.calling.specs.Values.{Reply, call_of}
-use Rattle.calling.specs.Played as played
+use Rattle.calling.specs.Chain as played
 use Rattle.calling.specs.Played.{Played, StartedThen}
 use Rattle.trace.specs.Claim.{Claim}
 use Rattle.trace.specs.Driven.{Driven, stop, call, lend, calls_of, says, said_by}

@@ -1,0 +1,3 @@
+pub mod WeighDriven
+pub mod LastRecipe
+pub mod DosingClaim

@@ -1,0 +1,2 @@
+mod Making
+pub mod Refusing
