@@ -1,0 +1,74 @@
+-- What bytes are read as a frame (RULES 13.1, 13.2), and what others are refused for, in the order
+-- of the tests.
+-- Assumes nothing.
+use Rattle.std.specs.Prelude.{ℕ, List, [], ◌∷◌, eqb, drop}
+use Rattle.types.specs.Pick.{pick, both}
+use Rattle.types.specs.Frames.{read_message}
+use Rattle.types.specs.Events.{read_command}
+use Rattle.types.specs.declared.types.MessageType.{MessageType}
+use Rattle.types.specs.declared.types.MessageType.TheVariants as kind
+use Rattle.types.specs.declared.types.UnknownMessageType.{UnknownMessageType}
+use Rattle.types.specs.declared.refusals.Refusal.{Refusal}
+use Rattle.types.specs.declared.refusals.Refusal.TheVariants.{FrameTooShort, OtherEtherType, OtherMessageType}
+use Rattle.types.specs.declared.nmt.events.NmtStateCommand.{NmtStateCommand}
+use Rattle.std.specs.declared.result.Result.{Result}
+use Rattle.std.specs.declared.result.Result.TheVariants.{Ok, Err}
+use Rattle.frames.specs.declared.frame.Service.{Service}
+use Rattle.frames.specs.declared.frame.Service.TheVariants.{NmtCommand, Other}
+use Rattle.frames.specs.declared.frame.Message.{Message}
+use Rattle.frames.specs.declared.frame.Message.TheVariants.{SoC, PReq, PRes, SoA, ASnd}
+use Rattle.frames.specs.declared.frame.Frame.{Frame}
+
+-- the message type of a message
+abbrev pub message_type : Message → MessageType
+message_type SoC = kind.SoC
+message_type PReq = kind.PReq
+message_type PRes = kind.PRes
+message_type SoA = kind.SoA
+message_type (ASnd s) = kind.ASnd
+
+-- service 4, NMTCommand: the state command in the next byte
+abbrev nmt_command : Result NmtStateCommand Refusal → Result Service Refusal
+nmt_command (Ok c) = Ok (NmtCommand c)
+nmt_command (Err r) = Err r
+
+abbrev read_nmt_command : List ℕ → Result Service Refusal
+read_nmt_command [] = Err FrameTooShort
+read_nmt_command (command ∷ rest) = nmt_command (read_command command)
+
+-- an ASnd from its byte 17 on: the service's ID, and what is read of it
+unfoldable pub read_service : List ℕ → Result Service Refusal
+read_service [] = Err FrameTooShort
+read_service (service ∷ rest) = pick (eqb service 4) (read_nmt_command rest) (Ok (Other service))
+
+abbrev asnd : Result Service Refusal → Result Message Refusal
+asnd (Ok s) = Ok (ASnd s)
+asnd (Err r) = Err r
+
+-- a message from its type and the bytes from 17 on
+abbrev read_payload : MessageType → List ℕ → Result Message Refusal
+read_payload kind.SoC payload = Ok SoC
+read_payload kind.PReq payload = Ok PReq
+read_payload kind.PRes payload = Ok PRes
+read_payload kind.SoA payload = Ok SoA
+read_payload kind.ASnd payload = asnd (read_service payload)
+
+abbrev by_type : Result MessageType UnknownMessageType → List ℕ → Result Message Refusal
+by_type (Ok m) payload = read_payload m payload
+by_type (Err r) payload = Err OtherMessageType
+
+abbrev addressed : ℕ → ℕ → Result Message Refusal → Result Frame Refusal
+addressed destination source (Ok m) =
+    Ok (record { message = m; destination = destination; source = source })
+addressed destination source (Err r) = Err r
+
+-- from byte 12 on: the EtherType in two bytes, the message type, the destination, the source, and
+-- what the message carries
+abbrev from_ether_type : List ℕ → Result Frame Refusal
+from_ether_type (high ∷ low ∷ type ∷ destination ∷ source ∷ payload) =
+    pick (both (eqb high 0x88) (eqb low 0xAB))
+    (addressed destination source (by_type (read_message type) payload)) (Err OtherEtherType)
+from_ether_type short = Err FrameTooShort
+
+unfoldable pub read_frame : List ℕ → Result Frame Refusal
+read_frame bytes = from_ether_type (drop 12 bytes)
