@@ -13,11 +13,11 @@ use Rattle.types.specs.declared.refusals.Refusal.TheVariants.{FrameTooShort, Oth
 use Rattle.types.specs.declared.nmt.events.NmtStateCommand.{NmtStateCommand}
 use Rattle.std.specs.declared.result.Result.{Result}
 use Rattle.std.specs.declared.result.Result.TheVariants.{Ok, Err}
-use Rattle.frames.specs.declared.frame.Service.{Service}
-use Rattle.frames.specs.declared.frame.Service.TheVariants.{NmtCommand, Other}
-use Rattle.frames.specs.declared.frame.Message.{Message}
-use Rattle.frames.specs.declared.frame.Message.TheVariants.{SoC, PReq, PRes, SoA, ASnd}
-use Rattle.frames.specs.declared.frame.Frame.{Frame}
+use Rattle.frames.specs.declared.Service.{Service}
+use Rattle.frames.specs.declared.Service.TheVariants.{NmtCommand, Other}
+use Rattle.frames.specs.declared.Message.{Message}
+use Rattle.frames.specs.declared.Message.TheVariants.{SoC, PReq, PRes, SoA, ASnd}
+use Rattle.frames.specs.declared.Frame.{Frame}
 
 -- the message type of a message
 abbrev pub message_type : Message → MessageType
@@ -28,11 +28,11 @@ message_type SoA = kind.SoA
 message_type (ASnd s) = kind.ASnd
 
 -- service 4, NMTCommand: the state command in the next byte
-abbrev nmt_command : Result NmtStateCommand Refusal → Result Service Refusal
+abbrev pub nmt_command : Result NmtStateCommand Refusal → Result Service Refusal
 nmt_command (Ok c) = Ok (NmtCommand c)
 nmt_command (Err r) = Err r
 
-abbrev read_nmt_command : List ℕ → Result Service Refusal
+abbrev pub read_nmt_command : List ℕ → Result Service Refusal
 read_nmt_command [] = Err FrameTooShort
 read_nmt_command (command ∷ rest) = nmt_command (read_command command)
 
@@ -41,30 +41,30 @@ unfoldable pub read_service : List ℕ → Result Service Refusal
 read_service [] = Err FrameTooShort
 read_service (service ∷ rest) = pick (eqb service 4) (read_nmt_command rest) (Ok (Other service))
 
-abbrev asnd : Result Service Refusal → Result Message Refusal
+abbrev pub asnd : Result Service Refusal → Result Message Refusal
 asnd (Ok s) = Ok (ASnd s)
 asnd (Err r) = Err r
 
 -- a message from its type and the bytes from 17 on
-abbrev read_payload : MessageType → List ℕ → Result Message Refusal
+abbrev pub read_payload : MessageType → List ℕ → Result Message Refusal
 read_payload kind.SoC payload = Ok SoC
 read_payload kind.PReq payload = Ok PReq
 read_payload kind.PRes payload = Ok PRes
 read_payload kind.SoA payload = Ok SoA
 read_payload kind.ASnd payload = asnd (read_service payload)
 
-abbrev by_type : Result MessageType UnknownMessageType → List ℕ → Result Message Refusal
+abbrev pub by_type : Result MessageType UnknownMessageType → List ℕ → Result Message Refusal
 by_type (Ok m) payload = read_payload m payload
 by_type (Err r) payload = Err OtherMessageType
 
-abbrev addressed : ℕ → ℕ → Result Message Refusal → Result Frame Refusal
+abbrev pub addressed : ℕ → ℕ → Result Message Refusal → Result Frame Refusal
 addressed destination source (Ok m) =
     Ok (record { message = m; destination = destination; source = source })
 addressed destination source (Err r) = Err r
 
 -- from byte 12 on: the EtherType in two bytes, the message type, the destination, the source, and
 -- what the message carries
-abbrev from_ether_type : List ℕ → Result Frame Refusal
+abbrev pub from_ether_type : List ℕ → Result Frame Refusal
 from_ether_type (high ∷ low ∷ type ∷ destination ∷ source ∷ payload) =
     pick (both (eqb high 0x88) (eqb low 0xAB))
     (addressed destination source (by_type (read_message type) payload)) (Err OtherEtherType)
