@@ -8,7 +8,7 @@ import pathlib
 import re
 import sys
 
-CRATES = """types nmt dll counters entries frames head watched bitmap node partners start heartbeats tick
+CRATES = """types nmt dll counters entries frames head watched bitmap node partners start reception heartbeats tick
 due lentlaws lent calling trace forms shift shiftreport reach positions readings transitions
 counting entry_bytes chart examples script telling replay""".split()
 ROOT = pathlib.Path(__file__).resolve().parent.parent

@@ -9,8 +9,9 @@ use Rattle.node.specs.Refines.{history_update}
 use Rattle.node.specs.InPlace.{answered, nmt_says, dll_says, error_says}
 use Rattle.node.specs.Loaded.{bytes_named}
 use Rattle.tick.specs.TickIn.{tick_says}
+use Rattle.reception.specs.FrameIn.{frame_says}
 use Rattle.calling.specs.declared.Call.{Call}
-use Rattle.calling.specs.declared.Call.TheVariants.{NmtEvent, DllEvent, Error, CycleComplete, Withdraw, Heard, HandOut, Load, Arm, Tick, Range, Margin, Add, Remove, NextDue}
+use Rattle.calling.specs.declared.Call.TheVariants.{NmtEvent, DllEvent, Error, CycleComplete, Withdraw, Heard, HandOut, Load, Arm, Tick, Range, Margin, Add, Remove, NextDue, Frame}
 use Rattle.calling.specs.declared.Answer.{Answer}
 use Rattle.calling.specs.declared.Answer.TheVariants as answer
 
@@ -30,6 +31,7 @@ call_of (Margin t) r = plain.margin t
 call_of (Add n o) r = plain.add n o r
 call_of (Remove n) r = plain.remove n r
 call_of NextDue r = plain.next_due r
+call_of (Frame t b) r = plain.frame t b.now
 
 abbrev pub says : Answer → plain.Answer
 says answer.Taken = plain.taken
@@ -42,6 +44,7 @@ says (answer.Tick es) = tick_says es
 says (answer.Range v) = plain.range_answer v
 says (answer.Margin z) = plain.margin_answer z
 says (answer.Due d) = plain.due_answer d
+says (answer.Frame a) = frame_says a
 
 -- what comes back from a call
 abbrev pub Reply : Type 0

@@ -24,6 +24,7 @@ use node::calls::{
 };
 use node::load::{DictionaryUpdate, load};
 use node::range::{SocVerdict, soc_margin, soc_range};
+use reception::{FrameAnswer, process_frame};
 use types::frame::error::types::DllErrors;
 use types::refusals::Refusal;
 use watched::nodes::{NodeWords, WatchedNode};
@@ -102,6 +103,15 @@ pub enum Call<'a> {
     /// When the next tick is due (RULES 7.13): a tick that is taken before then finds nothing to
     /// do. Head and nodes are only read. Refused by WatchedNodes. Answers `Due`.
     NextDue,
+    /// A frame that arrived at a time: the bytes of an Ethernet frame, from its destination's
+    /// address on (RULES 13). Refused by FrameTooShort below 17 bytes, then by OtherEtherType, then
+    /// by OtherMessageType, then by FrameTooShort where an ASnd ends before its service or its
+    /// command, then by UnknownNumber where service 4 has no state command, then by TimeLimit.
+    /// Answers `Frame`.
+    Frame {
+        time: u64,
+        bytes: &'a [u8],
+    },
 }
 
 /// What a call answers that is not refused.
@@ -129,6 +139,9 @@ pub enum Answer {
     Margin(i64),
     /// A moment in µs, 0 meaning at once; where it is none, no tick finds anything to do.
     Due(Option<u64>),
+    /// That the frame is for another node, and nothing changed; or what was logged, and what its
+    /// NMT event answers, where one came.
+    Frame(FrameAnswer),
 }
 
 /// Makes a call on a head with the memory of its queue and history and the watched nodes, which are
@@ -178,6 +191,9 @@ pub fn make<N: Nodes>(
             .map(|()| Answer::Taken),
         Call::Remove(node) => nodes.remove(head, number, node).map(|()| Answer::Taken),
         Call::NextDue => nodes.next_due(head, *number).map(Answer::Due),
+        Call::Frame { time, bytes } => {
+            process_frame(head, queue, history, time, bytes).map(Answer::Frame)
+        }
     }
 }
 

@@ -3,14 +3,17 @@
 -- Assumes nothing.
 use Rattle.std.specs.Prelude.{ℕ, List, [], ◌∷◌, eqb, drop}
 use Rattle.types.specs.Pick.{pick, both}
-use Rattle.types.specs.Frames.{read_message}
-use Rattle.types.specs.Events.{read_command}
+use Rattle.types.specs.Frames.{read_message, frame_nmt_event}
+use Rattle.types.specs.Events.{read_command, command_event}
 use Rattle.types.specs.declared.types.MessageType.{MessageType}
 use Rattle.types.specs.declared.types.MessageType.TheVariants as kind
 use Rattle.types.specs.declared.types.UnknownMessageType.{UnknownMessageType}
 use Rattle.types.specs.declared.refusals.Refusal.{Refusal}
 use Rattle.types.specs.declared.refusals.Refusal.TheVariants.{FrameTooShort, OtherEtherType, OtherMessageType}
+use Rattle.types.specs.declared.nmt.events.NmtEvent.{NmtEvent}
 use Rattle.types.specs.declared.nmt.events.NmtStateCommand.{NmtStateCommand}
+use Rattle.std.specs.declared.option.Option.{Option}
+use Rattle.std.specs.declared.option.Option.TheVariants.{Some}
 use Rattle.std.specs.declared.result.Result.{Result}
 use Rattle.std.specs.declared.result.Result.TheVariants.{Ok, Err}
 use Rattle.frames.specs.declared.Service.{Service}
@@ -26,6 +29,11 @@ message_type PReq = kind.PReq
 message_type PRes = kind.PRes
 message_type SoA = kind.SoA
 message_type (ASnd s) = kind.ASnd
+
+-- the NMT event of a message: that of its type, or of the command that it carries
+abbrev pub nmt_event_of : Message → Option NmtEvent
+nmt_event_of (ASnd (NmtCommand c)) = Some (command_event c)
+nmt_event_of other = frame_nmt_event (message_type other)
 
 -- service 4, NMTCommand: the state command in the next byte
 abbrev pub nmt_command : Result NmtStateCommand Refusal → Result Service Refusal

@@ -4,10 +4,10 @@
 #![tactic(auto)]
 
 ghost use Rattle.std.specs.Prelude.{◌≡◌, ◌≢◌, ◌↔◌, ◌++◌, ℕ, List, Ok, Err, drop};
-ghost use Rattle.frames.specs.Frame.{message_type, read_service, read_frame};
+ghost use Rattle.frames.specs.Frame.{message_type, nmt_event_of, read_service, read_frame};
 ghost use Rattle.frames.specs.Reading.{IsFrame, IsRefused};
 
-use types::nmt::events::NmtStateCommand;
+use types::nmt::events::{NmtEvent, NmtStateCommand};
 use types::refusals::Refusal;
 use types::types::MessageType;
 
@@ -46,6 +46,16 @@ impl Message {
             Message::PRes => MessageType::PRes,
             Message::SoA => MessageType::SoA,
             Message::ASnd(_) => MessageType::ASnd,
+        }
+    }
+
+    /// The NMT event that it is, if any: that of its type (RULES 5.3), or of an ASnd's command.
+    pub fn nmt_event(self) -> Option<NmtEvent>
+        ensures { result ≡ nmt_event_of self }
+    {
+        match self {
+            Message::ASnd(Service::NmtCommand(command)) => Some(NmtEvent::from(command)),
+            _ => self.message_type().nmt_event(),
         }
     }
 }

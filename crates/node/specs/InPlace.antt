@@ -110,9 +110,23 @@ abbrev pub nmt_words : List ℕ → Result NmtEvent Refusal → List ℕ
 nmt_words ws (Ok e) = processed_words ws e
 nmt_words ws (Err r) = ws
 
+-- a DLL event in the head's own NMT state writes the machine's state
+abbrev pub dll_outcome_of : List ℕ → DllCsEvent → Bool → Dll.CsOutcome
+dll_outcome_of ws e expected =
+    Dll.cs_processed (dll_state (word ws at.dll)) e (state_of (word ws at.state)) expected
+
+abbrev pub dll_event_words : List ℕ → DllCsEvent → Bool → List ℕ
+dll_event_words ws e expected =
+    set ws at.dll (Dll.cs_state_number (dll_outcome_of ws e expected).state)
+
+-- Of a DLL event e on the words ws, which reported es and left ws': the machine's errors, and every
+-- word.
+pub record DllProcessed (ws : List ℕ) (e : DllCsEvent) (expected : Bool) (es : DllErrors) (ws' : List ℕ) : Type 0 where
+  pub errors : reported es ≡ (dll_outcome_of ws e expected).errors
+  pub words : ws' ≡ dll_event_words ws e expected
+
 abbrev pub dll_words : List ℕ → Bool → Result DllCsEvent Refusal → List ℕ
-dll_words ws expected (Ok e) =
-    set ws at.dll (Dll.cs_state_number (Dll.cs_processed (dll_state (word ws at.dll)) e (state_of (word ws at.state)) expected).state)
+dll_words ws expected (Ok e) = dll_event_words ws e expected
 dll_words ws expected (Err r) = ws
 
 -- only the counter that an error counts for changes, or the count of lost links
@@ -129,8 +143,12 @@ error_words ws (Err r) = ws
 abbrev pub cycle_words : List ℕ → List ℕ
 cycle_words ws = levels_written ws (Counters.lowered (errors_of ws))
 
+-- an SoC at t
+abbrev pub armed_words : List ℕ → ℕ → List ℕ
+armed_words ws t = soc_written ws (armed (soc_of ws) (od_of ws) t)
+
 abbrev pub arm_words : List ℕ → ℕ → List ℕ
-arm_words ws t = pick (in_time t) (soc_written ws (armed (soc_of ws) (od_of ws) t)) ws
+arm_words ws t = pick (in_time t) (armed_words ws t) ws
 
 abbrev pub hand_out_words : List ℕ → List ℕ → List ℕ
 hand_out_words ws q = queue_written ws (handed_out q (queue_of ws)).queue

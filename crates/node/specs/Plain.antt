@@ -65,6 +65,8 @@ pub data Call : Type 0 where
   -- a node
   remove : ℕ → Run → Call
   next_due : Run → Call
+  -- a frame's time of arrival, and its bytes
+  frame : ℕ → List ℕ → Call
 
 -- what start is given
 pub record Start : Type 0 where
@@ -75,6 +77,12 @@ pub record Start : Type 0 where
   pub od : Dictionary
   pub thresholds : Thresholds
   pub watched : Run
+
+-- what the NMT event of a frame answers: the errors reported, the states entered and the ranges to
+-- restore
+pub record NmtReply : Type 0 where
+  pub errors : List DllError
+  pub reset : Passed
 
 -- what a call answers: the number of its refusal, or, where it is taken, one of the others
 pub data Answer : Type 0 where
@@ -97,6 +105,10 @@ pub data Answer : Type 0 where
   margin_answer : ℤ → Answer
   -- the moment of the next tick, or none
   due_answer : Option ℕ → Answer
+  -- a frame for another node
+  not_ours : Answer
+  -- what a frame logged, and what its NMT event answered, where one came
+  frame_answer : List DllError → Option NmtReply → Answer
 
 -- the NMT event that a call gave the machine, or none
 pub data EventMade : Type 0 where

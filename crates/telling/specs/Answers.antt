@@ -25,6 +25,9 @@ use Rattle.entries.specs.declared.status_response.ErrorEntry.{ErrorEntry}
 use Rattle.node.specs.declared.calls.NmtTaken.{NmtTaken}
 use Rattle.node.specs.declared.range.SocVerdict.{SocVerdict}
 use Rattle.node.specs.declared.range.SocVerdict.TheVariants as verdict
+use Rattle.reception.specs.declared.FrameTaken.{FrameTaken}
+use Rattle.reception.specs.declared.FrameAnswer.{FrameAnswer}
+use Rattle.reception.specs.declared.FrameAnswer.TheVariants.{NotOurs, Ours}
 use Rattle.calling.specs.declared.Answer.{Answer}
 use Rattle.calling.specs.declared.Answer.TheVariants as answer
 use Rattle.forms.specs.Errors.{errors_text}
@@ -74,6 +77,17 @@ abbrev pub due_text : Option ℕ → List ℕ
 due_text None = codes " none"
 due_text (Some t) = joined (codes " " ∷ decimal t ∷ [])
 
+-- a frame: that it is for another node, or what was logged and what its NMT event answers; without
+-- one there are no errors
+abbrev pub reply_to_text : Option NmtTaken → List ℕ
+reply_to_text (Some t) = nmt_text t
+reply_to_text None = codes " (errors)"
+
+abbrev pub frame_text : FrameAnswer → List ℕ
+frame_text NotOurs = codes " not_ours"
+frame_text (Ours d) =
+    joined (codes " (logged" ∷ errors_text d.logged ∷ codes ")" ∷ reply_to_text d.nmt ∷ [])
+
 -- what a call answers that is taken
 abbrev pub answer_text : Answer → List ℕ
 answer_text answer.Taken = []
@@ -86,6 +100,7 @@ answer_text (answer.Tick es) = joined (codes " (logged" ∷ errors_text es ∷ c
 answer_text (answer.Range v) = verdict_text v
 answer_text (answer.Margin z) = joined (codes " " ∷ signed_decimal z ∷ [])
 answer_text (answer.Due d) = due_text d
+answer_text (answer.Frame a) = frame_text a
 
 -- what an entry says that is read
 abbrev pub type_text : EntryType → List ℕ

@@ -3,7 +3,7 @@ ghost use Rattle.std.specs.Prelude.{Some};
 ghost use Rattle.forms.specs.Hex.{hex_form};
 ghost use Rattle.telling.specs.Answers.{entered_text, restored_text, nmt_text, error_taken_text};
 ghost use Rattle.telling.specs.Answers.{answer_text, type_text, read_text, bitmap_text, told_text};
-ghost use Rattle.telling.specs.Answers.{reply_text};
+ghost use Rattle.telling.specs.Answers.{reply_text, frame_text};
 
 use crate::texts::{Digits, EntryBytes, Flag, text_of};
 use calling::Answer;
@@ -14,6 +14,7 @@ use forms::hex::HexByte;
 use nmt::state_machine::{IndexRange, ResetSequence};
 use node::calls::NmtTaken;
 use node::range::SocVerdict;
+use reception::{FrameAnswer, FrameTaken};
 use std::fmt;
 use std::fmt::Display;
 use types::frame::error::kinds::DllErrorKind;
@@ -104,6 +105,28 @@ impl Display for AnswerForm {
             Answer::Margin(margin) => write!(f, " {margin}"),
             Answer::Due(Some(moment)) => write!(f, " {moment}"),
             Answer::Due(None) => write!(f, " none"),
+            Answer::Frame(answer) => write!(f, "{}", FrameForm(answer)),
+        }
+    }
+}
+
+// What a frame answers: what was logged, and what its NMT event answers, or no errors.
+#[derive(Clone, Copy)]
+struct FrameForm(FrameAnswer);
+
+impl Display for FrameForm {
+    ghost output = { λ x. Some (frame_text x.0) };
+
+    fn fmt<W: fmt::Write>(&self, f: &mut fmt::Formatter<W>) -> fmt::Result {
+        match self.0 {
+            FrameAnswer::NotOurs => write!(f, " not_ours"),
+            FrameAnswer::Ours(FrameTaken {
+                logged,
+                nmt: Some(nmt),
+            }) => write!(f, " (logged{}){}", ErrorsForm(logged), NmtForm(nmt)),
+            FrameAnswer::Ours(FrameTaken { logged, nmt: None }) => {
+                write!(f, " (logged{}) (errors)", ErrorsForm(logged))
+            }
         }
     }
 }
