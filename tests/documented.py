@@ -1,19 +1,24 @@
 #!/usr/bin/env python3
-"""The code of the crates below is documented, and its lines fit.
+"""The code and the definitions of the crates below are documented, and their lines fit.
 
   - each file of src/ begins with `//!`
   - each item that is `pub`, and each conversion (`From`, `TryFrom`), has a `///` above it; attributes may stand between
-  - no line has more than 100 characters, but for an attribute and a text alone on its line, which `rt fmt` does not break"""
+  - no line has more than 100 characters, but for an attribute and a text alone on its line, which `rt fmt` does not break
+  - each public definition of specs/ has a comment of its own, `--`, directly above it; the line that makes it an operator
+    may stand between
+  - no comment of specs/ has a line of more than 100 characters"""
 import pathlib
 import re
 import sys
 
-CRATES = """types nmt dll counters entries frames head watched bitmap node partners start reception heartbeats tick
+CRATES = """types nmt dll counters entries frames head watched bitmap node partners start phases heartbeats tick reception
 due lentlaws lent calling trace forms shift shiftreport reach positions readings transitions
 counting entry_bytes chart examples script telling replay""".split()
 ROOT = pathlib.Path(__file__).resolve().parent.parent
 ITEM = re.compile(r'^ *pub(?:\(crate\))? (?:const |static |extern "C" )*(?:fn|struct|enum|trait|type|(?=[A-Z_]+:)) ?(\w+)')
 CONVERSION = re.compile(r'^ *impl\b.*\b(?:Try)?From<.* for (\w+)')
+DEFINITION = re.compile(r'^ *(?:(?:abbrev|unfoldable) pub|pub (?:record|data)) (\S+)')
+OPERATOR = re.compile(r'^ *infix[lr]? ')
 UNBROKEN = re.compile(r'^ *(?:#!?\[.*\]|b?".*"[,;)]*)$')
 WIDTH = 100
 
@@ -24,6 +29,24 @@ def has_doc(lines, at):
     while at >= 0 and lines[at].lstrip().startswith('#['):
         at -= 1
     return at >= 0 and lines[at].lstrip().startswith('///')
+
+
+def has_comment(lines, at):
+    """A `--` stands above the line, or above the line there that makes it an operator. The head of the file is another's."""
+    at -= 1
+    if at >= 0 and OPERATOR.match(lines[at]):
+        at -= 1
+    return at >= 0 and lines[at].lstrip().startswith('--') and lines[at] != '-- Assumes nothing.'
+
+
+def wrong_in_specs(file):
+    lines = file.read_text().split('\n')
+    for at, line in enumerate(lines):
+        definition = DEFINITION.match(line)
+        if definition and not has_comment(lines, at):
+            yield at + 1, f'{definition.group(1)} has no --'
+        if line.lstrip().startswith('--') and len(line) > WIDTH:
+            yield at + 1, f'{len(line)} characters'
 
 
 def wrong_in(file):
@@ -38,9 +61,15 @@ def wrong_in(file):
             yield at + 1, f'{len(line)} characters'
 
 
+def files_of(folder, ending):
+    return [file for crate in CRATES for file in sorted((ROOT / 'crates' / crate / folder).rglob(ending))]
+
+
 def main():
-    files = [file for crate in CRATES for file in sorted((ROOT / 'crates' / crate / 'src').rglob('*.rt'))]
-    wrong = [f'{file.relative_to(ROOT)}:{number}: {what}' for file in files for number, what in wrong_in(file)]
+    looked_at = [(wrong_in, files_of('src', '*.rt')), (wrong_in_specs, files_of('specs', '*.antt'))]
+    files = [file for _, some in looked_at for file in some]
+    wrong = [f'{file.relative_to(ROOT)}:{number}: {what}'
+             for look, some in looked_at for file in some for number, what in look(file)]
     for line in wrong:
         print(line)
     if not wrong:

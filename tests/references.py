@@ -4,9 +4,10 @@
   - a link of a document leads to a file
   - a file that a document or a comment names, by its path or by the end of it, is there; of `file:name` the file has the name
   - another name between backquotes stands in the code, and that of a comment not in comments alone
-  - in docs/CLAIMS.md a file is named by enough of its path, and a name alone in a cell is of the file before it there
+  - in docs/CLAIMS.md and tests/WRONG-PROGRAMS.md a file is named by enough of its path, and a name alone in a cell is of
+    the file before it there
 
-A name is looked up whole: one that is cut short is not there. docs/CHANGES.md tells of each landing by
+A name is looked up whole: one that is cut short is not there. CHANGES.md tells of each landing by
 the names of its time, so names alone are not looked up there. docs/history is passed over, and nothing
 else may name a file of it."""
 import os
@@ -106,7 +107,7 @@ def look(place, words, names, everywhere):
 
 
 def look_at_cell(place, cell):
-    """What a cell of docs/CLAIMS.md refers to, beside what each line does."""
+    """What a cell of these two refers to, beside what each line does."""
     before = []
     for word in re.findall(r'`([^`]+)`', cell):
         path, _, name = word.partition(':')
@@ -127,8 +128,8 @@ for file in FILES:
                 found += 1
                 if not re.match(r'[a-z]+:', target) and not os.path.exists(os.path.join(os.path.dirname(file), target)):
                     wrong.append(f'{file}:{number}: the link to {target} leads nowhere')
-            found += look(f'{file}:{number}', re.sub(r'\]\([^)]*\)', ']', line), file != 'docs/CHANGES.md', True)
-            if file == 'docs/CLAIMS.md':
+            found += look(f'{file}:{number}', re.sub(r'\]\([^)]*\)', ']', line), file != 'CHANGES.md', True)
+            if file in ('docs/CLAIMS.md', 'tests/WRONG-PROGRAMS.md'):
                 for cell in line.split('|'):
                     look_at_cell(f'{file}:{number}', cell)
         else:

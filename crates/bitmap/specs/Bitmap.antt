@@ -25,7 +25,7 @@ is_set byte j = eqb (byte / 2 ^ j % 2) 1
 abbrev pub byte_of : List WatchedNode → ℕ → ℕ
 byte_of ws i = lowest_first (listed (λ j. is_watched (8 * i + j) ws) 8)
 
--- the 32 bytes
+-- the 32 bytes, in which the bit of the node n is bit n mod 8 of byte n / 8
 unfoldable pub bytes_of : List WatchedNode → List ℕ
 bytes_of ws = listed (byte_of ws) 32
 
@@ -37,7 +37,7 @@ with_bit n s = set s (n / 8) (bit_or (get_or s (n / 8) 0) (2 ^ (n % 8)))
 abbrev pub ones_of : List ℕ → ℕ
 ones_of bytes = sum_by ones bytes
 
--- the answer of `bitmap`
+-- the answer of `bitmap`, from what the function returned
 abbrev pub bitmap_said : Result ℕ Refusal → Reply ℕ
 bitmap_said (Ok n) = Reply.gives n
 bitmap_said (Err r) = Reply.turned_away (refusal_number r)
@@ -47,7 +47,8 @@ bitmap_said (Err r) = Reply.turned_away (refusal_number r)
 unfoldable pub bitmap_reply : Run → Reply ℕ
 bitmap_reply r = pick (well_lent r) (Reply.gives (ones_of (bytes_of (watching r)))) (Reply.turned_away 3)
 
--- what the call leaves of the 32 bytes s
+-- what the call leaves of the 32 bytes s: those of the watched nodes, or s itself where it is
+-- turned away
 unfoldable pub bytes_after : Run → List ℕ → List ℕ
 bytes_after r s = unless_turned_away (bitmap_reply r) s (bytes_of (watching r))
 

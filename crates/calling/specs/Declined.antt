@@ -9,6 +9,7 @@ use Rattle.calling.specs.Values.{call_of}
 use Rattle.calling.specs.Table.{row_of}
 use Rattle.calling.specs.Made.{step_of}
 
+-- the number n is one of some
 abbrev pub is_among : ℕ → List ℕ → Bool
 is_among n ns = any_of (eqb n) ns
 

@@ -6,14 +6,15 @@ use Rattle.watched.specs.Watched.{Run}
 use Rattle.node.specs.Plain.{Plain}
 use Rattle.node.specs.Refines as refines
 
--- the words of the head, the bytes of queue and history, and the run of watched nodes that is
--- lent, in whatever form
+-- the words of the head, the bytes of queue and history, and the run of watched nodes that is lent,
+-- in whatever form
 pub record Held : Type 0 where
   pub head : List ℕ
   pub queue : List ℕ
   pub history : List ℕ
   pub lent : Run
 
+-- what a call is made on, by its parts
 abbrev pub held : List ℕ → List ℕ → List ℕ → Run → Held
 held ws q m r = record { head = ws; queue = q; history = m; lent = r }
 

@@ -33,7 +33,7 @@ module _ (x : Held) where
   abbrev pub step_of : Call → plain.Step
   step_of c = step (plain_at x) (call_of c x.lent)
 
-  -- the first of a call that is lent no run, the second of one that is
+  -- y for a call that is lent no run, z for one that is
   abbrev pub by_lent : {A : Type 0} → Call → A → A → A
   by_lent c y z = if_lent (row_of (call_of c x.lent)).lends y z
 
@@ -79,7 +79,8 @@ module _ (x : Held) where
       (earliest_written (tick_words x.head x.queue x.history t (watching x.lent))
       (earliest (watching r)))) s
 
-  -- behind a call which answered o and left the run r; one that is refused leaves all as it was
+  -- what is stored behind a call which answered o and left the run r; one that is refused leaves
+  -- all as it was
   abbrev pub stored_after : Call → Reply → Run → Stored
   stored_after (NmtEvent n) o r = words_only (nmt_words x.head (read_event n))
   stored_after (DllEvent n b) o r = words_only (dll_words x.head b (read_cs_event n))

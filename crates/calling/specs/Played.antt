@@ -22,7 +22,9 @@ Acted x (Lend i v k) o x' = (o ≡ Ok Taken) × (x' ≡ relent x (run (set x.len
 
 -- The actions, what each answered, and what they left.
 pub data Played : Held → List Action → List Reply → Held → Type 0 where
+  -- no action
   stop : {x : Held} → Played x [] [] x
+  -- the first action, and those behind it
   next :
       {x x₁ x' : Held} {a : Action} {o : Reply} {acts : List Action} {os : List Reply} →
       Acted x a o x₁ → Played x₁ acts os x' → Played x (a ∷ acts) (o ∷ os) x'
@@ -57,7 +59,7 @@ pub record StartedThen
   pub started : StartedOn x.head x.lent s (Ok tt) head lent
   pub played : PlayedInto (held head x.queue x.history lent) acts out x' out'
 
--- And of a start that was refused: all is as it was.
+-- A start that was taken, with a list from there; or one that was refused: all is as it was.
 abbrev pub StartedInto :
     Setup → List Action → Result (Unit {0}) Refusal → Held → List Reply → Held → List Reply → Type 0
 StartedInto s acts (Ok _) x out x' out' = StartedThen s acts x out x' out'

@@ -33,17 +33,22 @@ pub data Stores : Type 0 where
   -- the entries of its crossings join queue and history
   crossings : Stores
 
--- A call's row: the numbers that it may be refused with, in the order in which they are tried, and
--- what it is lent and may do.
+-- a call's row: how it may be refused, what it is lent, and what it may do
 pub record Row : Type 0 where
+  -- the numbers that it may be refused with, in the order in which they are tried
   pub refusals : List ℕ
+  -- the watched nodes that it is lent
   pub lends : Lends
+  -- what it tells the node
   pub tells : Tells
+  -- what it does to dictionary values, queue and history
   pub stores : Stores
 
+-- the row of these parts
 abbrev pub row : List ℕ → Lends → Tells → Stores → Row
 row ns l w t = record { refusals = ns; lends = l; tells = w; stores = t }
 
+-- the table: a row for each call of the plain head (RULES 3)
 abbrev pub row_of : Call → Row
 row_of (nmt_event n) = row (4 ∷ []) no_nodes event none
 row_of (dll_event n x) = row (4 ∷ []) no_nodes nothing none

@@ -15,6 +15,7 @@ use Rattle.calling.specs.declared.Call.TheVariants.{NmtEvent, DllEvent, Error, C
 use Rattle.calling.specs.declared.Answer.{Answer}
 use Rattle.calling.specs.declared.Answer.TheVariants as answer
 
+-- the plain head's call that a value of `Call` is, with the run r, where it is lent one
 abbrev pub call_of : Call → Run → plain.Call
 call_of (NmtEvent n) r = plain.nmt_event n
 call_of (DllEvent n b) r = plain.dll_event n b
@@ -33,6 +34,7 @@ call_of (Remove n) r = plain.remove n r
 call_of NextDue r = plain.next_due r
 call_of (Frame t b) r = plain.frame t b.now
 
+-- what an answer says, as the plain head's
 abbrev pub says : Answer → plain.Answer
 says answer.Taken = plain.taken
 says (answer.Nmt t) = nmt_says t
@@ -46,9 +48,10 @@ says (answer.Margin z) = plain.margin_answer z
 says (answer.Due d) = plain.due_answer d
 says (answer.Frame a) = frame_says a
 
--- what comes back from a call
+-- what comes back from a call: its answer or its refusal
 abbrev pub Reply : Type 0
 Reply = Result Answer Refusal
 
+-- what a reply says, as the plain head's answer
 abbrev pub said : Reply → plain.Answer
 said = answered says

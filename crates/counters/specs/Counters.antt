@@ -22,7 +22,7 @@ use Rattle.counters.specs.declared.counters.ErrorEffect.TheVariants as an-effect
 abbrev pub counter_kinds : List CounterKind
 counter_kinds = Collision ∷ LossOfSoc ∷ LossOfSoa ∷ LossOfPreq ∷ SoCJitter ∷ Crc ∷ HeartbeatTimeout ∷ []
 
--- a kind's place among them, from 0
+-- a kind's place among the seven, from 0
 abbrev pub place : CounterKind → ℕ
 place Collision = 0
 place LossOfSoc = 1
@@ -84,6 +84,7 @@ new_counter t = counter_of 0 0 t 0
 abbrev pub Thresholds : Type 0
 Thresholds = ByKind ℕ
 
+-- the threshold of a kind
 abbrev pub threshold_for : CounterKind → Thresholds → ℕ
 threshold_for k t = of_kind k t
 
@@ -99,10 +100,11 @@ same_for_all n = for_each (λ (k : CounterKind). n)
 unfoldable pub thresholds_fit : Thresholds → Bool
 thresholds_fit t = all_of (λ (k : CounterKind). leb (threshold_for k t) 1000000) counter_kinds
 
--- 2^32 - 1, and a sum that stops there
+-- 2^32 - 1, where counts and levels stop
 abbrev pub top : ℕ
 top = 4294967295
 
+-- the sum of a and b, which stops at 2^32 - 1
 abbrev pub add_top : ℕ → ℕ → ℕ
 add_top a b = min (a + b) top
 
@@ -130,12 +132,14 @@ after_check c =
     (record { counter = counter_of c.cumulative_cnt 0 c.threshold (add_top c.crossings_cnt 1); reached = true })
     (record { counter = c; reached = false })
 
--- the counters after an error, and its answer: the action that the NMT machine is asked for,
--- whether the error is signalled, and what is logged
+-- what the counters make of an error: the counters after it, and its answer (RULES 6.3, 6.5)
 pub record HandledError : Type 0 where
   pub counters : CnErrorCounters
+  -- what the NMT machine is asked for
   pub action : NmtAction
+  -- whether the error is signalled (RULES 7.9)
   pub signal : Bool
+  -- the error, where it is logged
   pub logged : DllErrors
 
 -- the answer without the counters
@@ -154,10 +158,12 @@ unsignalled s = record { counters = s; action = action.None; signal = false; log
 unfoldable pub after_error : ThresholdCounter → ThresholdCheck
 after_error c = after_check (incremented c)
 
--- the counters after an error was given to that of kind k, and its answer: a crossing, or nothing
+-- the counters after an error was given to that of the kind k
 abbrev pub raised : CounterKind → CnErrorCounters → CnErrorCounters
 raised k s = replaced k (after_error (counter k s)).counter s
 
+-- an error that goes to the counter of the kind k: the counters after it, and the answer of a
+-- crossing or of none
 unfoldable pub counted_error : CounterKind → CnErrorCounters → DllError → HandledError
 counted_error k s e = pick (after_error (counter k s)).reached (crossed_answer (raised k s) e) (unsignalled (raised k s))
 
@@ -194,12 +200,15 @@ link_lost s = by_kind (λ (k : CounterKind). counter k s) (add_top s.loss_of_lin
 abbrev pub signalled_answer : CnErrorCounters → DllError → HandledError
 signalled_answer s e = record { counters = s; action = action.None; signal = true; logged = errors.One e }
 
--- what an error does: it goes to the counter of a kind, it is a lost link, it is only signalled and
--- logged, or it changes nothing
+-- what an error does to the counters (RULES 6)
 pub data Effect : Type 0 where
+  -- it goes to the counter of this kind
   counts : CounterKind → Effect
+  -- it raises the count of lost links, and is signalled and logged
   loses_link : Effect
+  -- it is signalled and logged alone
   is_logged : Effect
+  -- it changes nothing
   nothing : Effect
 
 -- what an error of each kind does
@@ -227,7 +236,7 @@ effect (error.PdoMapVersion n) = is_logged
 effect (error.PdoPayloadShort n) = is_logged
 effect (error.HeartbeatTimeout n) = counts HeartbeatTimeout
 
--- the effect that the function `effect_of` answers
+-- the effect that a value of `ErrorEffect` stands for
 abbrev pub effect_of : ErrorEffect → Effect
 effect_of (an-effect.Counts k) = counts k
 effect_of an-effect.LosesLink = loses_link

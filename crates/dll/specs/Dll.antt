@@ -21,18 +21,18 @@ use Rattle.dll.specs.declared.cs_state_machine.DllCsState.TheVariants.{NonCyclic
 use Rattle.dll.specs.declared.cs_state_machine.DllCsStateMachine.{DllCsStateMachine}
 use Rattle.dll.specs.declared.cs_state_machine.DllAnswer.{DllAnswer}
 
--- a state's number is its place in the enum, from 0
+-- a DLL state's number: its place in the enum, from 0 (RULES 5.4)
 abbrev pub cs_state_number : DllCsState → ℕ
 cs_state_number NonCyclic = 0
 cs_state_number WaitSoc = 1
 cs_state_number WaitPreq = 2
 cs_state_number WaitSoa = 3
 
--- all states, in the order of the enum
+-- all DLL states, in the order of the enum
 abbrev pub cs_states : List DllCsState
 cs_states = NonCyclic ∷ WaitSoc ∷ WaitPreq ∷ WaitSoa ∷ []
 
--- the state at a place, or the refusal UnknownNumber
+-- the DLL state of a number, or the refusal UnknownNumber
 abbrev pub read_cs_state : ℕ → Result DllCsState Refusal
 read_cs_state n = read_by cs_state_number Ok (Err UnknownNumber) cs_states n
 
@@ -41,6 +41,7 @@ pub record CsOutcome : Type 0 where
   pub state : DllCsState
   pub errors : List DllError
 
+-- an event leads to the state s and reports the errors es
 abbrev pub goes : DllCsState → List DllError → CsOutcome
 goes s es = record { state = s; errors = es }
 
@@ -101,8 +102,10 @@ is_cyclic s =
 unfoldable pub cs_processed : DllCsState → DllCsEvent → NmtState → Bool → CsOutcome
 cs_processed s e nmt expected = pick (is_cyclic nmt) (cyclic s e expected) (goes NonCyclic [])
 
+-- a fresh DLL machine is at NonCyclic
 abbrev pub fresh_machine : DllCsStateMachine
 fresh_machine = record { state = NonCyclic }
 
+-- what an answer of the machine stands for
 abbrev pub cs_outcome : DllAnswer → CsOutcome
 cs_outcome a = record { state = a.machine.state; errors = reported a.errors }

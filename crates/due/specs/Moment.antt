@@ -12,5 +12,7 @@ use Rattle.watched.specs.Watched.{Run, watching, well_lent}
 use Rattle.node.specs.Due.{due}
 use Rattle.tick.specs.TickWords.{unlent}
 
+-- the moment of the next tick in µs, 0 for at once, or none; WatchedNodes where the run is not well
+-- formed
 abbrev pub next_due : List ℕ → Run → Result (Option ℕ) Refusal
 next_due ws r = pick (well_lent r) (Ok (due (unlent ws) (watching r))) (Err WatchedNodes)

@@ -33,8 +33,9 @@ pub record SameDeadlineAndRun (ws : List ℕ) (r : Run) (ws' : List ℕ) (r' : R
 
 -- Of such a tick at the time t, where d is the moment that `next_due` gave before it.
 pub record Waits (d : Option ℕ) (ws q m : List ℕ) (r : Run) (t : ℕ) (es : DllErrors) (ws' q' m' : List ℕ) (r' : Run) : Type 0 where
-  -- before the moment it finds nothing to do, and behind it `next_due` gives the same moment
+  -- before the moment it finds nothing to do
   pub before : IsBefore t d → Idle ws q m r es ws' q' m' r'
+  -- and behind it `next_due` gives the same moment
   pub stays : IsBefore t d → next_due ws' r' ≡ Ok d
   -- the moment is no earlier than it has to be: a tick from it on, at a time above 0, changes the
   -- deadline or the run

@@ -19,24 +19,26 @@ use Rattle.node.specs.Due.{deadline_due, was_heard}
 use Rattle.tick.specs.TickWords.{unlent}
 use Rattle.due.specs.declared.moment.Walk.{Walk}
 
--- before the first node
+-- what the walk carries before the first node
 abbrev pub start : Walk
 start = record { last = 0; heard = true; soonest = never }
 
--- with one more node
+-- what the walk carries behind one more node, which is not tried
 abbrev pub with_node : Walk → WatchedNode → Walk
 with_node a w = record { last = w.node; heard = both a.heard (was_heard w); soonest = sooner_by a.soonest w }
 
--- none where the node's number is not above the last one's, or it is outside its limits
+-- what the walk carries behind one more node; none where its number is not above the last one's, or
+-- it is outside its limits
 abbrev pub over : Walk → WatchedNode → Option Walk
 over a w = pick (both (ltb a.last w.node) (fits w)) (Some (with_node a w)) None
 
--- with these nodes; none where one is not above the one before or is outside its limits
+-- what the walk carries behind these nodes; none where one is not above the one before or is
+-- outside its limits
 unfoldable pub walked : Walk → List WatchedNode → Option Walk
 walked a [] = Some a
 walked a (w ∷ ws) = pick (both (ltb a.last w.node) (fits w)) (walked (with_node a w) ws) None
 
--- with the watched nodes of a run; none where it is not well formed
+-- what the walk carries behind the watched nodes of a run; none where it is not well formed
 abbrev pub walked_run : Run → Option Walk
 walked_run r = pick (both (eqb (length r.places) watched_places) (leb r.number watched_places)) (walked start (take r.number r.places)) None
 

@@ -17,11 +17,12 @@ pub data Reply (A : Type 0) : Type 0 where
   turned_away : ℕ → Reply A
   gives : A → Reply A
 
--- the answer of a write, and that of a read
+-- the answer of a write, from what the function returned
 abbrev pub write_said : Result (Unit {0}) Refusal → Reply Unit
 write_said (Ok _) = Reply.gives tt
 write_said (Err r) = Reply.turned_away (refusal_number r)
 
+-- the answer of a read, from what the function returned
 abbrev pub read_said : Result ErrorEntry Refusal → Reply ErrorEntry
 read_said (Ok e) = Reply.gives e
 read_said (Err r) = Reply.turned_away (refusal_number r)

@@ -35,9 +35,11 @@ entries_in s = listed (entry_at s) (length s / entry_size)
 abbrev pub taken_of : List ℕ → ℕ
 taken_of s = min (length s / entry_size) history_places
 
--- the history after a load, and the memory, in which they stand from place 0 on
+-- the history after a load of the bytes s, whose entries stand from place 0 on
 unfoldable pub loaded : List ℕ → ErrorHistory
 loaded s = error_history 0 (taken_of s)
 
+-- the memory m after a load of the bytes s: the entries taken stand from place 0 on, and all bytes
+-- behind them are as they were
 unfoldable pub loaded_bytes : List ℕ → List ℕ → List ℕ
 loaded_bytes m s = take (entry_size * taken_of s) s ++ drop (entry_size * taken_of s) m

@@ -14,10 +14,11 @@ use Rattle.entries.specs.declared.emergency_queue.EmergencyQueue.{EmergencyQueue
 abbrev pub queue : ℕ → ℕ → ℕ → EmergencyQueue
 queue o l c = record { oldest = o; length = l; capacity = c }
 
--- how many wait, and how many may: at most the 32 places
+-- how many entries wait, at most the 32 places
 abbrev pub length_of : EmergencyQueue → ℕ
 length_of q = min q.length queue_places
 
+-- how many entries may wait, at most the 32 places
 abbrev pub capacity_of : EmergencyQueue → ℕ
 capacity_of q = min q.capacity queue_places
 

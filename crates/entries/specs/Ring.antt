@@ -11,10 +11,11 @@ use Rattle.std.specs.declared.option.Option.TheVariants.{Some, None}
 unfoldable pub written : List ℕ → ℕ → List ℕ → List ℕ
 written s at b = take at s ++ (b ++ drop (at + length b) s)
 
--- the entry at place i, and the bytes with an entry put there
+-- the entry at place i of the memory m
 abbrev pub entry_at : List ℕ → ℕ → ErrorEntry
 entry_at m i = entry_in (drop (entry_size * i) m)
 
+-- the memory m with an entry put at place i, and all other bytes as they were
 abbrev pub put_at : List ℕ → ℕ → ErrorEntry → List ℕ
 put_at m i e = written m (entry_size * i) (entry_bytes e)
 
@@ -27,12 +28,13 @@ listed f (suc n) = f 0 ∷ listed (λ j. f (suc j)) n
 abbrev pub ring : ℕ → List ℕ → ℕ → ℕ → List ErrorEntry
 ring p m i n = listed (λ j. entry_at m ((i + j) % p)) n
 
--- the entry at an index of a list, and the list without its first entry
+-- the entry at an index of a list, from 0; none past its end
 unfoldable pub nth : List ErrorEntry → ℕ → Option ErrorEntry
 nth [] k = None
 nth (e ∷ l) zero = Some e
 nth (e ∷ l) (suc k) = nth l k
 
+-- the list without its first entry
 abbrev pub rest : List ErrorEntry → List ErrorEntry
 rest [] = []
 rest (e ∷ l) = l

@@ -22,6 +22,6 @@ abbrev pub replied_of : Bool → ErrorTaken
 replied_of crosses =
     pick crosses (record { action = action.ResetCommunication; signal = true; logged = errors.One error.LossOfSoc }) (record { action = action.None; signal = false; logged = errors.None })
 
--- the plain head's answer to it
+-- the plain head's answer to a LossOfSoc that crosses, or to one that does not
 abbrev pub error_stated : Bool → Answer
 error_stated crosses = pick crosses asks_reset quiet

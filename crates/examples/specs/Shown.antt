@@ -65,6 +65,6 @@ pub record Shown (e : Example) (ws q m : List ℕ) (l : Run) (r : Bool) : Type 0
   pub lent : l ≡ (last e).lent
   pub same : r ≡ true
 
--- the same for an example of ticks, by what it ran on and how many of its nodes are watched
+-- the same by what an example of ticks ran on, and how many of its nodes are watched
 abbrev pub ShownOn : Example → Bench → ℕ → Bool → Type 0
 ShownOn e b k r = Shown e b.head b.queue b.history (run (nodes_of b.nodes) k) r

@@ -35,11 +35,12 @@ abbrev pub nmt_event_of : Message → Option NmtEvent
 nmt_event_of (ASnd (NmtCommand c)) = Some (command_event c)
 nmt_event_of other = frame_nmt_event (message_type other)
 
--- service 4, NMTCommand: the state command in the next byte
+-- a service 4, NMTCommand, by the reading of its state command
 abbrev pub nmt_command : Result NmtStateCommand Refusal → Result Service Refusal
 nmt_command (Ok c) = Ok (NmtCommand c)
 nmt_command (Err r) = Err r
 
+-- a service 4 from the byte behind its ID on
 abbrev pub read_nmt_command : List ℕ → Result Service Refusal
 read_nmt_command [] = Err FrameTooShort
 read_nmt_command (command ∷ rest) = nmt_command (read_command command)
@@ -49,6 +50,7 @@ unfoldable pub read_service : List ℕ → Result Service Refusal
 read_service [] = Err FrameTooShort
 read_service (service ∷ rest) = pick (eqb service 4) (read_nmt_command rest) (Ok (Other service))
 
+-- an ASnd by the reading of its service
 abbrev pub asnd : Result Service Refusal → Result Message Refusal
 asnd (Ok s) = Ok (ASnd s)
 asnd (Err r) = Err r
@@ -61,10 +63,12 @@ read_payload kind.PRes payload = Ok PRes
 read_payload kind.SoA payload = Ok SoA
 read_payload kind.ASnd payload = asnd (read_service payload)
 
+-- a message by the reading of its type
 abbrev pub by_type : Result MessageType UnknownMessageType → List ℕ → Result Message Refusal
 by_type (Ok m) payload = read_payload m payload
 by_type (Err r) payload = Err OtherMessageType
 
+-- a frame by the reading of its message
 abbrev pub addressed : ℕ → ℕ → Result Message Refusal → Result Frame Refusal
 addressed destination source (Ok m) =
     Ok (record { message = m; destination = destination; source = source })
@@ -78,5 +82,6 @@ from_ether_type (high ∷ low ∷ type ∷ destination ∷ source ∷ payload) =
     (addressed destination source (by_type (read_message type) payload)) (Err OtherEtherType)
 from_ether_type short = Err FrameTooShort
 
+-- the reading of a frame: bytes 0 to 11 are the two addresses
 unfoldable pub read_frame : List ℕ → Result Frame Refusal
 read_frame bytes = from_ether_type (drop 12 bytes)

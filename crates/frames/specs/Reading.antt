@@ -20,11 +20,12 @@ abbrev pub service_bytes : Service → List ℕ
 service_bytes (NmtCommand c) = 4 ∷ command_number c ∷ []
 service_bytes (Other n) = n ∷ []
 
+-- the bytes of a message behind the source: an ASnd's service
 abbrev pub payload_bytes : Message → List ℕ
 payload_bytes (ASnd s) = service_bytes s
 payload_bytes other = []
 
--- the bytes of a frame: EtherType, message type, destination, source, and an ASnd's service
+-- the bytes of a frame: EtherType, message type, destination, source, and those of the message
 abbrev pub frame_bytes : Frame → List ℕ
 frame_bytes f =
     0x88 ∷ 0xAB ∷ message_number (message_type f.message) ∷ f.destination ∷ f.source ∷

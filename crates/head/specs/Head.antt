@@ -18,19 +18,25 @@ use Rattle.head.specs.declared.state.Statistic.TheVariants.{Counter1, Counter2, 
 use Rattle.head.specs.declared.state.SocWatch.{SocWatch}
 use Rattle.head.specs.declared.state.Dictionary.{Dictionary}
 
--- The parts of a head (RULES 1); of queue and history, where their entries stand.
+-- The parts of a head (RULES 1). Of queue and history it has the places of their entries; the bytes
+-- of these are lent beside it.
 pub record Head : Type 0 where
   pub nmt : CnNmtStateMachine
   pub dll : DllCsStateMachine
+  -- the error counters
   pub errors : CnErrorCounters
+  -- the watch over the SoC
   pub soc : SocWatch
+  -- the values of the dictionary
   pub od : Dictionary
+  -- the place of the oldest entry, how many wait, and how many may
   pub queue : EmergencyQueue
+  -- the place of the newest entry, and how many there are
   pub history : ErrorHistory
   -- the earliest moment at which a watched node would be late, or none
   pub earliest : Option ℕ
 
--- the moment of a deadline, where there is one
+-- the moment of a deadline in µs, or none
 abbrev pub moment_in : Deadline → Option ℕ
 moment_in (At t) = Some t
 moment_in Nothing = None
@@ -58,7 +64,7 @@ dictionary r x y a b c d =
       counter_5 = d;
     }
 
--- a value of the dictionary that may be missing
+-- cycle (in µs) or tolerance (in ns), each of which may be missing
 abbrev pub object_in : Object → Dictionary → Option ℕ
 object_in CycleTime o = o.cycle_time
 object_in Tolerance o = o.tolerance
@@ -70,17 +76,19 @@ statistic_in Counter2 o = o.counter_2
 statistic_in Counter3 o = o.counter_3
 statistic_in Counter5 o = o.counter_5
 
--- the dictionary with one of its values replaced
+-- the dictionary with another error register
 abbrev pub with_register : ℕ → Dictionary → Dictionary
 with_register r o =
     dictionary r o.cycle_time o.tolerance o.counter_1 o.counter_2 o.counter_3 o.counter_5
 
+-- the dictionary with another cycle or tolerance, which may be missing
 abbrev pub with_object : Object → Option ℕ → Dictionary → Dictionary
 with_object CycleTime v o =
     dictionary o.error_register v o.tolerance o.counter_1 o.counter_2 o.counter_3 o.counter_5
 with_object Tolerance v o =
     dictionary o.error_register o.cycle_time v o.counter_1 o.counter_2 o.counter_3 o.counter_5
 
+-- the dictionary with another counter of object 0x1102
 abbrev pub with_statistic : Statistic → ℕ → Dictionary → Dictionary
 with_statistic Counter1 n o =
     dictionary o.error_register o.cycle_time o.tolerance n o.counter_2 o.counter_3 o.counter_5
@@ -101,30 +109,39 @@ forgotten s = soc_watch s.last_soc_reception_time_us false Nothing s.error_statu
 
 -- the head with one of its parts replaced
 module _ (h : Head) where
+  -- with another NMT machine
   abbrev pub head_with_nmt : CnNmtStateMachine → Head
   head_with_nmt n = of_parts n h.dll h.errors h.soc h.od h.queue h.history h.earliest
 
+  -- with another DLL machine
   abbrev pub head_with_dll : DllCsStateMachine → Head
   head_with_dll d = of_parts h.nmt d h.errors h.soc h.od h.queue h.history h.earliest
 
-  -- a head after a reset, but for its NMT machine: the DLL state is forgotten too
+  -- the head after a reset, but for its NMT machine: the DLL state, the deadline and the check are
+  -- forgotten
   abbrev pub forgetting : Head
   forgetting = of_parts h.nmt (record { state = NonCyclic }) h.errors (forgotten h.soc) h.od h.queue h.history h.earliest
 
+  -- with other error counters
   abbrev pub head_with_errors : CnErrorCounters → Head
   head_with_errors e = of_parts h.nmt h.dll e h.soc h.od h.queue h.history h.earliest
 
+  -- with another watch over the SoC
   abbrev pub head_with_soc : SocWatch → Head
   head_with_soc s = of_parts h.nmt h.dll h.errors s h.od h.queue h.history h.earliest
 
+  -- with other values of the dictionary, and another history
   abbrev pub head_with_values : Dictionary → ErrorHistory → Head
   head_with_values o k = of_parts h.nmt h.dll h.errors h.soc o h.queue k h.earliest
 
+  -- with other values of the dictionary
   abbrev pub head_with_od : Dictionary → Head
   head_with_od o = head_with_values o h.history
 
+  -- with another emergency queue
   abbrev pub head_with_queue : EmergencyQueue → Head
   head_with_queue q = of_parts h.nmt h.dll h.errors h.soc h.od q h.history h.earliest
 
+  -- with another earliest moment, or none
   abbrev pub head_with_earliest : Option ℕ → Head
   head_with_earliest d = of_parts h.nmt h.dll h.errors h.soc h.od h.queue h.history d

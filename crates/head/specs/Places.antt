@@ -9,27 +9,31 @@ use Rattle.head.specs.declared.state.Object.TheVariants.{CycleTime, Tolerance}
 use Rattle.head.specs.declared.state.Statistic.{Statistic}
 use Rattle.head.specs.declared.state.Statistic.TheVariants.{Counter1, Counter2, Counter3, Counter5}
 
--- the NMT machine: its state, node, feature flags and basic timeout, whether it is enabled, and
--- ready
+-- the NMT state, by its number
 abbrev pub state : ℕ
 state = 0
 
+-- the node's number
 abbrev pub node : ℕ
 node = 1
 
+-- the feature flags
 abbrev pub flags : ℕ
 flags = 2
 
+-- the basic timeout in µs
 abbrev pub timeout : ℕ
 timeout = 3
 
+-- whether the NMT machine is enabled
 abbrev pub enabled : ℕ
 enabled = 4
 
+-- whether the application is ready
 abbrev pub ready : ℕ
 ready = 5
 
--- the DLL state
+-- the DLL state, by its number
 abbrev pub dll : ℕ
 dll = 6
 
@@ -41,11 +45,11 @@ counter k = 7 + 4 * place k
 abbrev pub links : ℕ
 links = 35
 
--- the time of the last SoC
+-- the time of the last SoC in µs
 abbrev pub last_soc : ℕ
 last_soc = 36
 
--- the time of the deadline
+-- the time of the deadline in µs
 abbrev pub deadline : ℕ
 deadline = 38
 
@@ -65,57 +69,66 @@ changed = 42
 abbrev pub register : ℕ
 register = 43
 
--- cycle and tolerance: whether the value is there; the value is in the next word
+-- whether there is a cycle; its value in µs is in the next word
 abbrev pub cycle : ℕ
 cycle = 44
 
+-- whether there is a tolerance; its value in ns is in the next word
 abbrev pub tolerance : ℕ
 tolerance = 46
 
--- the counters of object 0x1102
+-- counter 1 of object 0x1102: an error at the SoC check raises it
 abbrev pub counter1 : ℕ
 counter1 = 48
 
+-- counter 2 of object 0x1102: an entry that joins the queue raises it
 abbrev pub counter2 : ℕ
 counter2 = 49
 
+-- counter 3 of object 0x1102: an entry that is dropped raises it
 abbrev pub counter3 : ℕ
 counter3 = 50
 
+-- counter 5 of object 0x1102: a change of the error register by a signal raises it
 abbrev pub counter5 : ℕ
 counter5 = 51
 
--- the places of the values that may be missing, and of the counters of object 0x1102
+-- the place of cycle or tolerance
 abbrev pub object : Object → ℕ
 object CycleTime = cycle
 object Tolerance = tolerance
 
+-- the place of a counter of object 0x1102
 abbrev pub statistic : Statistic → ℕ
 statistic Counter1 = counter1
 statistic Counter2 = counter2
 statistic Counter3 = counter3
 statistic Counter5 = counter5
 
--- of the queue, the place of the oldest entry, how many wait, and how many may
+-- the place of the oldest entry in the queue
 abbrev pub oldest : ℕ
 oldest = 52
 
+-- how many entries wait in the queue
 abbrev pub queued : ℕ
 queued = 53
 
+-- how many entries may wait in the queue
 abbrev pub capacity : ℕ
 capacity = 54
 
--- of the history, the place of the newest entry, and how many there are
+-- the place of the newest entry in the history
 abbrev pub newest : ℕ
 newest = 55
 
+-- how many entries there are in the history
 abbrev pub count : ℕ
 count = 56
 
--- whether there is an earliest moment, and then its time
+-- whether there is an earliest moment at which a watched node would be late
 abbrev pub awaited : ℕ
 awaited = 57
 
+-- the time of the earliest moment in µs
 abbrev pub earliest : ℕ
 earliest = 58

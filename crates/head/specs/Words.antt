@@ -38,10 +38,11 @@ use Rattle.head.specs.Places as at
 abbrev pub word : List ℕ → ℕ → ℕ
 word ws i = slice_index ws i
 
--- whether a flag's word is on, and the word of a flag
+-- whether a flag's word is on
 abbrev pub yes : ℕ → Bool
 yes n = not (n == 0)
 
+-- the word of a flag: 1 where it is on, else 0
 abbrev pub one : Bool → ℕ
 one b = pick b 1 0
 
@@ -53,15 +54,16 @@ time_of low high = low + 4294967296 * high
 abbrev pub time_at : List ℕ → ℕ → ℕ
 time_at ws i = time_of (word ws i) (word ws (i + 1))
 
--- the NMT state in a word
+-- the NMT state that a number was read as; GsOff where it was refused
 abbrev pub state_read : Result NmtState Refusal → NmtState
 state_read (Ok s) = s
 state_read (Err r) = NmtGsOff
 
+-- the NMT state in a word; GsOff where its number names none
 abbrev pub state_of : ℕ → NmtState
 state_of n = state_read (read_state n)
 
--- the NMT machine
+-- the NMT machine that the words stand for
 abbrev pub nmt_of : List ℕ → CnNmtStateMachine
 nmt_of ws =
     record {
@@ -73,18 +75,20 @@ nmt_of ws =
       app_ready = yes (word ws at.ready);
     }
 
--- the DLL state in a word
+-- the DLL state that a number was read as; NonCyclic where it was refused
 abbrev pub dll_read : Result DllCsState Refusal → DllCsState
 dll_read (Ok s) = s
 dll_read (Err r) = NonCyclic
 
+-- the DLL state in a word; NonCyclic where its number names none
 abbrev pub dll_state : ℕ → DllCsState
 dll_state n = dll_read (read_cs_state n)
 
--- the counter in the four words from a place on, and the counters of all kinds
+-- the counter in the four words from a place on
 abbrev pub counter_at : List ℕ → ℕ → ThresholdCounter
 counter_at ws i = counter_of (word ws i) (word ws (i + 1)) (word ws (i + 2)) (word ws (i + 3))
 
+-- the counters of all kinds, and the count of lost links
 abbrev pub errors_of : List ℕ → CnErrorCounters
 errors_of ws = by_kind (λ (k : CounterKind). counter_at ws (at.counter k)) (word ws at.links)
 
@@ -93,7 +97,7 @@ abbrev pub deadline_of : Bool → ℕ → Deadline
 deadline_of true t = At t
 deadline_of false t = Nothing
 
--- the watch over the SoC
+-- the watch over the SoC that the words stand for
 abbrev pub soc_of : List ℕ → SocWatch
 soc_of ws =
     soc_watch (time_at ws at.last_soc) (yes (word ws at.check))
@@ -109,7 +113,7 @@ object_of false n = None
 abbrev pub object_at : List ℕ → ℕ → Option ℕ
 object_at ws i = object_of (yes (word ws i)) (word ws (i + 1))
 
--- the values of the dictionary
+-- the values of the dictionary that the words stand for
 abbrev pub od_of : List ℕ → Dictionary
 od_of ws =
     record {
@@ -122,10 +126,11 @@ od_of ws =
       counter_5 = word ws at.counter5;
     }
 
--- where the entries of queue and history stand
+-- the queue: the place of its oldest entry, how many wait, and how many may, a byte each
 abbrev pub queue_of : List ℕ → EmergencyQueue
 queue_of ws = queue (word ws at.oldest % 256) (word ws at.queued % 256) (word ws at.capacity % 256)
 
+-- the history: the place of its newest entry, and how many there are, a byte each
 abbrev pub history_of : List ℕ → ErrorHistory
 history_of ws = error_history (word ws at.newest % 256) (word ws at.count % 256)
 
@@ -134,7 +139,7 @@ abbrev pub moment_there : Bool → ℕ → Option ℕ
 moment_there true t = Some t
 moment_there false t = None
 
--- the earliest moment at which a watched node would be late
+-- the earliest moment at which a watched node would be late, or none
 abbrev pub earliest_of : List ℕ → Option ℕ
 earliest_of ws = moment_there (yes (word ws at.awaited)) (time_at ws at.earliest)
 

@@ -54,7 +54,9 @@ time_written ws i t = slice_set (slice_set ws i (t % 4294967296)) (i + 1) (t / 4
 
 -- a call of f, given a `&mut` to ws and t, may leave ws' there
 pub record WritesThere {F T : Type 0} (g : Once F (MutBor (List ℕ) × (T × Unit {0})) (Unit {0} × (MutBor (List ℕ) × Unit {0}))) (f : F) (ws : List ℕ) (t : T) (ws' : List ℕ) : Type 0 where
+  -- the borrow that f is given
   pub shown : MutBor (List ℕ)
+  -- the same borrow, as f leaves it
   pub left : MutBor (List ℕ)
   pub called : g.post f (shown, (t, tt)) (tt, (left, tt))
   pub shows : shown.now ≡ ws

@@ -2,5 +2,5 @@ pub mod SeenLaws
 pub mod SetTimesLaws
 pub mod LateErrorLaws
 pub mod BitLaws
-pub mod DecidedLaws
+pub mod Found
 pub mod ArrivalLaws

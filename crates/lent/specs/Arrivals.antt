@@ -13,7 +13,7 @@ use Rattle.lent.specs.declared.arrivals.Closing.{Closing}
 abbrev pub carrying_of : ℕ → WatchedNode → Carrying
 carrying_of k v = record { left = k; node = v }
 
--- what a place becomes, and what is carried on
+-- what an add makes of a place, and what is carried on
 abbrev pub carry_next : Carrying → WatchedNode → WatchedNode × Carrying
 carry_next a w =
     pick (ltb 0 a.left)
@@ -34,7 +34,7 @@ closing_of left k n x = record { left = left; number = k; node = n; next = x }
 abbrev pub moved_down : ℕ → ℕ → ℕ → WatchedNode → WatchedNode → WatchedNode
 moved_down left k n x w = pick (ltb left k) (pick (ltb w.node n) w x) no_node
 
--- what a place becomes, and the removal at the place before it
+-- what a removal makes of a place, and the removal at the place before it
 abbrev pub close_next : Closing → WatchedNode → WatchedNode × Closing
 close_next a w = (moved_down a.left a.number a.node a.next w, closing_of (a.left - 1) a.number a.node w)
 

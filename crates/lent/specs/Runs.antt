@@ -41,7 +41,7 @@ times_set Unheard w = heard_now 0 w
 times_set (Heard n t) w = pick (eqb w.node n) (heard_now t w) w
 times_set (Refreshed t) w = refreshed t w
 
--- what is found behind one more node, and behind many
+-- what is found behind one more node
 abbrev pub found_by : Findings → WatchedNode → Findings
 found_by s w =
     record {
@@ -55,19 +55,22 @@ found_by s w =
       soonest = sooner_by s.soonest (times_set s.setting w);
     }
 
+-- what is found behind some nodes, in order
 abbrev pub found_all : Findings → List WatchedNode → Findings
 found_all s vs = folded found_by s vs
+
+-- what was found, where the nodes are well formed; else none
+abbrev pub formed_of : Findings → Option Findings
+formed_of f = pick (is_some f.tried) (Some f) None
 
 -- What is found of a run of which k places are watched; none where it is not well formed: other
 -- than 32 places, a number above them, or nodes that do not ascend or are not within their limits.
 -- The places past the number are not tried.
-abbrev pub formed_of : Findings → Option Findings
-formed_of f = pick (is_some f.tried) (Some f) None
-
 abbrev pub inspected : ℕ → Findings → List WatchedNode → Option Findings
 inspected k s vs = pick (both (eqb (length vs) watched_places) (leb k watched_places)) (formed_of (found_all s (take k vs))) None
 
--- what is found before the first node: what a call asks for
+-- what is found before the first node: what a call asks for, of the node n and the time t, with the
+-- setting y and a head's heartbeat counter c
 abbrev pub sought_from : ℕ → ℕ → Setting → ThresholdCounter → Findings
 sought_from n t y c =
     record {
@@ -81,21 +84,24 @@ sought_from n t y c =
       soonest = never;
     }
 
--- of the nodes alone; of a node n that is heard at t; and of a time t, with a head's heartbeat
--- counter
+-- what is asked for of the nodes alone, with a setting
 abbrev pub asked_for : Setting → Findings
 asked_for y = sought_from 0 0 y (new_counter 0)
 
+-- what heard asks for: the node n, which is heard at t
 abbrev pub for_heard : ℕ → ℕ → Findings
 for_heard n t = sought_from n 0 (Heard n t) (new_counter 0)
 
--- a head's heartbeat counter, and what a tick at t sets
+-- a head's heartbeat counter
 abbrev pub late_errors_at : List ℕ → ThresholdCounter
 late_errors_at ws = counter_at ws (at.counter HeartbeatTimeout)
 
+-- what a tick at t sets: where heartbeats are checked, the last-heard times of its check; else
+-- nothing
 abbrev pub tick_sets : List ℕ → ℕ → Setting
 tick_sets ws t = pick (checks_heartbeats (nmt_of ws).current_state) (Refreshed t) Nothing
 
+-- what a tick at t asks for, with the head's heartbeat counter
 abbrev pub for_tick : List ℕ → ℕ → Findings
 for_tick ws t = sought_from 0 t (tick_sets ws t) (late_errors_at ws)
 
@@ -104,13 +110,15 @@ pub record TimesSetting : Type 0 where
   pub left : ℕ
   pub setting : Setting
 
+-- the setting y at the first k places
 abbrev pub setting_of : ℕ → Setting → TimesSetting
 setting_of k y = record { left = k; setting = y }
 
--- what a walk sets at one place, and at all
+-- what a walk makes of one place, and what it sets from the next one on
 abbrev pub set_next : TimesSetting → WatchedNode → WatchedNode × TimesSetting
 set_next a w = (pick (ltb 0 a.left) (times_set a.setting w) w, setting_of (a.left - 1) a.setting)
 
+-- all places after a walk
 abbrev pub times_set_all : TimesSetting → List WatchedNode → List WatchedNode
 times_set_all a vs = scanned (λ c x. (set_next c x).0) (λ c x. (set_next c x).1) a vs
 

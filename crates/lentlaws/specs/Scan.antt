@@ -8,8 +8,8 @@ module _ {A E : Type 0} (sets : A → E → E) (carries : A → E → A) where
   scanned a [] = []
   scanned a (x ∷ xs) = sets a x ∷ scanned (carries a x) xs
 
--- the value behind a walk from the last to the first
 module _ {A E : Type 0} (carries : A → E → A) where
+  -- the value behind a walk from the last element to the first, where a is the one before the last
   unfoldable pub carried_back : A → List E → A
   carried_back a [] = a
   carried_back a (x ∷ xs) = carries (carried_back a xs) x

@@ -32,16 +32,17 @@ pub data Move : Type 0 where
   -- no row: keep the state and report the pair
   Unexpected : Move
 
--- a row of the machine's table
+-- a row of the machine's table (RULES 4.1)
 pub record Row : Type 0 where
   pub state : NmtState
   pub event : NmtEvent
   pub does : Move
 
+-- the row of the state s and the event e, which does m
 abbrev pub row : NmtState → NmtEvent → Move → Row
 row s e m = record { state = s; event = e; does = m }
 
--- before the cycle
+-- the rows of the states before the cycle: NotActive, PreOperational1 and BasicEthernet
 abbrev pub boot_up_rows : List Row
 boot_up_rows =
     -- NMT_CT2
@@ -55,7 +56,7 @@ boot_up_rows =
     row NmtBasicEthernet PowerlinkFrameReceived (Goes NmtPreOperational1) ∷
     []
 
--- in the cycle
+-- the rows of the states in the cycle: PreOperational2, ReadyToOperate, Operational and CsStopped
 abbrev pub cyclic_rows : List Row
 cyclic_rows =
     -- NMT_CT5
@@ -129,19 +130,23 @@ abbrev pub enter_all : CnNmtStateMachine → List NmtState → CnNmtStateMachine
 enter_all m [] = m
 enter_all m (s ∷ ss) = enter_all (enter m s) ss
 
--- the machine with enabled set, and with ready set
+-- the machine with enabled set: the managing node allowed ReadyToOperate
 abbrev pub enabled : CnNmtStateMachine → CnNmtStateMachine
 enabled m = with m m.current_state true m.app_ready
 
+-- the machine with ready set: the application is ready
 abbrev pub ready : CnNmtStateMachine → CnNmtStateMachine
 ready m = with m m.current_state m.ready_to_operate_enabled true
 
 -- what an event leaves and answers: the machine, its errors, and what a reset passes
 pub record Outcome : Type 0 where
   pub machine : CnNmtStateMachine
+  -- the errors reported, which are not counted
   pub errors : List DllError
+  -- the states passed and the ranges to restore; both lists are empty where no reset was taken
   pub reset : Passed
 
+-- what an answer of the machine stands for
 abbrev pub outcome : NmtAnswer → Outcome
 outcome a = record { machine = a.machine; errors = reported a.errors; reset = passed a.reset }
 
@@ -157,7 +162,7 @@ applied m e (Enables s) = without_reset (pick m.app_ready (enter (enabled m) s) 
 applied m e Readies = without_reset (pick m.ready_to_operate_enabled (enter (ready m) NmtReadyToOperate) (ready m)) []
 applied m e Unexpected = without_reset m (UnexpectedEventInState (state_number m.current_state) (event_number e) ∷ [])
 
--- the machine with ready cleared
+-- the machine with ready cleared: the application is not ready any more
 abbrev pub unready : CnNmtStateMachine → CnNmtStateMachine
 unready m = with m m.current_state m.ready_to_operate_enabled false
 
@@ -165,6 +170,6 @@ unready m = with m m.current_state m.ready_to_operate_enabled false
 unfoldable pub reset_by : CnNmtStateMachine → NmtEvent → Outcome
 reset_by m e = record { machine = unready (enter_all m (states_entered e)); errors = []; reset = reset_sequence e }
 
--- an NMT event: a reset, or the move of its row
+-- what the machine makes of an NMT event: a reset, or the move of its row (RULES 4)
 unfoldable pub processed : CnNmtStateMachine → NmtEvent → Outcome
 processed m e = pick (is_reset e) (reset_by m e) (applied m e (row_of m.current_state e))

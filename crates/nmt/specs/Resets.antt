@@ -26,8 +26,10 @@ reset_states =
 -- a reset event and the first state that it enters
 pub record ResetRow : Type 0 where
   pub event : NmtEvent
+  -- the others of `reset_states` behind it are entered too
   pub first : NmtState
 
+-- the row of the reset event e, which enters s first
 abbrev pub resets : NmtEvent → NmtState → ResetRow
 resets e s = record { event = e; first = s }
 
@@ -50,6 +52,7 @@ from s (t ∷ ts) = pick (same_state s t) (t ∷ ts) (from s ts)
 abbrev pub by_reset : {A : Type 0} → (ResetRow → A) → A → NmtEvent → A
 by_reset f none e = read_by (λ (r : ResetRow). event_number r.event) f none reset_rows (event_number e)
 
+-- the event is one of the five resets
 unfoldable pub is_reset : NmtEvent → Bool
 is_reset e = by_reset (λ r. true) false e
 
@@ -57,6 +60,7 @@ is_reset e = by_reset (λ r. true) false e
 unfoldable pub states_entered : NmtEvent → List NmtState
 states_entered e = by_reset (λ r. from r.first reset_states) [] e
 
+-- the range of indices from a to b, both included
 abbrev pub range : ℕ → ℕ → IndexRange
 range a b = record { first = a; last = b }
 
@@ -81,7 +85,7 @@ pub record Passed : Type 0 where
 unfoldable pub reset_sequence : NmtEvent → Passed
 reset_sequence e = record { states = states_entered e; ranges = ranges_restored (states_entered e) }
 
--- what a `ResetSequence` stands for: the states from its first one on, and the ranges they restore
+-- the states that a `ResetSequence` stands for, from its first one on
 abbrev pub entered_states : ResetSequence → List NmtState
 entered_states sequence.None = []
 entered_states sequence.Whole = reset_states
@@ -89,8 +93,10 @@ entered_states sequence.Node = from NmtGsResetApplication reset_states
 entered_states sequence.Communication = from NmtGsResetCommunication reset_states
 entered_states sequence.Configuration = from NmtGsResetConfiguration reset_states
 
+-- the ranges to restore after the states of a `ResetSequence`
 abbrev pub restored_ranges : ResetSequence → List IndexRange
 restored_ranges r = ranges_restored (entered_states r)
 
+-- what a `ResetSequence` stands for: its states, and the ranges to restore after them
 abbrev pub passed : ResetSequence → Passed
 passed r = record { states = entered_states r; ranges = restored_ranges r }

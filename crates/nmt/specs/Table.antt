@@ -41,11 +41,12 @@ unpacked k =
 abbrev pub reports : Bool → NmtState → NmtEvent → List DllError
 reports unexpected s e = pick unexpected (UnexpectedEventInState (state_number s) (event_number e) ∷ []) []
 
--- the entry of an outcome, whose only error can be that of the pair
+-- whether there are any errors
 abbrev pub some : List DllError → Bool
 some [] = false
 some (e ∷ es) = true
 
+-- the entry of an outcome, whose only error can be that of the pair
 abbrev pub entry_of : Outcome → Entry
 entry_of o =
     record {

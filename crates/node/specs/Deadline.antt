@@ -1,5 +1,5 @@
--- What a tick does behind the heartbeats (RULES 7.5 to 7.8): the basic timeout, the deadline and the
--- SoC check.
+-- What a tick does behind the heartbeats (RULES 7.5 to 7.8): the basic timeout, the deadline and
+-- the SoC check.
 -- Assumes nothing.
 use Rattle.std.specs.Prelude.{ℕ, ◌+◌, ◌-◌, ◌*◌, ◌/◌, min, Bool, true, false, [], leb, ltb}
 use Rattle.types.specs.Pick.{pick, both}
@@ -16,15 +16,17 @@ use Rattle.head.specs.Head.{soc_watch}
 use Rattle.node.specs.Phases.{Ticked, goes_on, behind, check_off, event_in_tick}
 use Rattle.node.specs.DllErrors.{on_dll_event}
 
--- the head with a deadline
+-- the head with another deadline, or none
 abbrev pub with_deadline : Plain → Deadline → Plain
 with_deadline p d =
     with_soc p
     (soc_watch p.soc.last_soc_reception_time_us p.soc.soc_timeout_check_active d p.soc.error_status_changed)
 
+-- the NMT state is NotActive
 abbrev pub at_not_active : Plain → Bool
 at_not_active p = same_state p.nmt.current_state NmtNotActive
 
+-- the basic timeout in µs
 abbrev pub basic_timeout : Plain → ℕ
 basic_timeout p = p.nmt.basic_ethernet_timeout
 
@@ -50,11 +52,11 @@ timed_out p =
       ended = false;
     }
 
--- the time of the last SoC, and how long ago it was, at least 0. No call leaves one above the
--- latest time that a call takes; one is read as that.
+-- the time of the last SoC in µs. One above 2^62 − 1, which no call leaves, is read as 2^62 − 1.
 abbrev pub last_soc : Plain → ℕ
 last_soc p = min p.soc.last_soc_reception_time_us latest
 
+-- the µs from the last SoC to the time t; 0 where t is before it
 abbrev pub elapsed : Plain → ℕ → ℕ
 elapsed p t = t - last_soc p
 
@@ -79,11 +81,12 @@ within_limit p t =
 abbrev pub is_loss : Plain → ℕ → Bool
 is_loss p t = ltb (limit_of p.od) (elapsed p t)
 
--- where no error ended the tick, the deadline is set anew
+-- a tick behind the errors of a lost SoC: where none ended it, the deadline is set anew
 abbrev pub after_loss : ℕ → Ticked → Ticked
 after_loss t k = pick k.ended k (behind k (goes_on (rescheduled k.head t)))
 
--- a lost SoC is the DLL event SocTimeout
+-- a lost SoC (RULES 7.8): the DLL event SocTimeout, and where none of its errors ends the tick the
+-- deadline is set anew
 abbrev pub lost : Plain → ℕ → Ticked
 lost p t = after_loss t (on_dll_event t p SocTimeout)
 
@@ -93,11 +96,12 @@ soc_check p t =
     pick p.soc.soc_timeout_check_active
     (pick (is_loss p t) (lost p t) (goes_on (within_limit p t))) (goes_on p)
 
--- a deadline passes where now has reached it, and is used up
+-- a deadline that has passed and is used up: at NotActive the basic timeout, elsewhere the SoC
+-- check
 abbrev pub used_up : Plain → ℕ → Ticked
 used_up p t = pick (at_not_active p) (timed_out p) (soc_check p t)
 
--- what follows from the deadline, or from none
+-- what follows from the deadline, or from none (RULES 7.5)
 abbrev pub by_deadline : Plain → ℕ → Deadline → Ticked
 by_deadline p t Nothing = goes_on (pick (at_not_active p) (sets_basic p t) p)
 by_deadline p t (At d) = pick (leb d t) (used_up (with_deadline p Nothing) t) (goes_on p)

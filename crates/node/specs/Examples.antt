@@ -32,20 +32,26 @@ use Rattle.node.specs.Run.{step}
 -- What comes of a call: its whole step, the number of the NMT state after it, and the level to
 -- which a lost SoC raised its counter, before the threshold is looked at.
 pub record Coming : Type 0 where
+  -- the head, the answer, the run, and what is counted
   pub all : Step
+  -- the NMT state's number
   pub state : ℕ
+  -- one level, where an SoC was lost; else none
   pub raised : List ℕ
 
+-- an example: a head, the calls on it in their order, and what is stated of each call
 pub record Example : Type 0 where
   pub before : Plain
   pub calls : List Call
   pub after : List Coming
 
--- a call loses at most one SoC
+-- the level to which a lost SoC raised its counter, in a call on the head p of which s came; a call
+-- loses at most one SoC
 abbrev pub raised_by : Plain → Step → List ℕ
 raised_by p s =
     pick (ltb 0 (E LossOfSoc s.marks)) ((incremented p.errors.counters.loss_of_soc).threshold_cnt ∷ []) []
 
+-- what comes of a call on the head p, of which s came
 abbrev pub coming_of : Plain → Step → Coming
 coming_of p s = record { all = s; state = state_number s.head.nmt.current_state; raised = raised_by p s }
 
@@ -54,13 +60,16 @@ abbrev pub comings : Plain → List Call → List Coming
 comings p [] = []
 comings p (c ∷ cs) = coming_of p (step p c) ∷ comings (step p c).head cs
 
+-- what comes of the calls of an example
 abbrev pub comes_of : Example → List Coming
 comes_of x = comings x.before x.calls
 
+-- what the example states of its calls
 abbrev pub stated : Example → List Coming
 stated x = x.after
 
--- Heads of node 1 with a basic timeout of 5, a queue of 1, cycle 1000 and tolerance 100,000 ns.
+-- The examples' heads have node 1, a basic timeout of 5 µs, a queue of 1, cycle 1000 µs and
+-- tolerance 100,000 ns. This is their NMT machine.
 abbrev pub machine : NmtState → Bool → Bool → CnNmtStateMachine
 machine s enabled ready =
     record {
@@ -72,7 +81,8 @@ machine s enabled ready =
       app_ready = ready;
     }
 
--- the error register and the counters 1, 2, 3 and 5
+-- the dictionary of the examples: cycle 1000 µs and tolerance 100,000 ns; r is the error register,
+-- and a, b, c and e are the counters 1, 2, 3 and 5
 abbrev pub values : ℕ → ℕ → ℕ → ℕ → ℕ → Dictionary
 values r a b c e =
     record {
@@ -158,13 +168,15 @@ leaving r c =
 abbrev pub no_nodes : Run
 no_nodes = holding []
 
+-- what an event that is no reset passes
 abbrev pub nothing_passed : Passed
 nothing_passed = record { states = []; ranges = [] }
 
--- Example 1: a fresh head takes SwReset: five states passed, NotActive, not ready.
+-- what start is given in example 1
 abbrev pub starts_with : Start
 starts_with = record { node = 1; flags = 0; timeout = 5; capacity = 1; od = values 0 0 0 0 0; thresholds = same_for_all 15; watched = no_nodes }
 
+-- what SwReset passes: all five states, and all three ranges to restore
 abbrev pub whole_reset : Passed
 whole_reset =
     record {
@@ -172,6 +184,7 @@ whole_reset =
       ranges = range 0x2000 0x5FFF ∷ range 0x6000 0x9FFF ∷ range 0x1000 0x1FFF ∷ [];
     }
 
+-- Example 1: a fresh head takes SwReset: five states passed, NotActive, not ready.
 abbrev pub sw_reset : Example
 sw_reset =
     record {
@@ -225,16 +238,19 @@ no_cycle =
           comes 0xFD (resting NmtOperational false true) (dll_answer (error.UnexpectedEventInState 0 5 ∷ [])) ∷ [];
     }
 
--- the answer to a loss that does not cross, and to one that does
+-- the answer to a loss that does not cross
 abbrev pub quiet : Answer
 quiet = error_answer action.None false []
 
+-- the answer to a loss that crosses: ResetCommunication is asked for, it signals and is logged
 abbrev pub asks_reset : Answer
 asks_reset = error_answer action.ResetCommunication true (error.LossOfSoc ∷ [])
 
+-- what is to come of the first loss: level 8
 abbrev first_loss : Coming
 first_loss = counts 0xFD (counting (counters_of 1 0 8 0 0)) quiet (given LossOfSoc ∷ []) [] (8 ∷ [])
 
+-- what is to come of a completed cycle, which leaves this level
 abbrev lowers : ℕ → Coming
 lowers level = counts 0xFD (counting (counters_of 1 0 level 0 0)) (cycle_answer false) (drained LossOfSoc ∷ []) [] []
 
@@ -284,15 +300,15 @@ at_limit =
       after = leaving no_nodes (comes 0xFD (cycling 12100 0 0) (tick_answer [])) ∷ [];
     }
 
--- Example 10: that head, tick at 11,101: a loss, level 8, deadline 12,100.
+-- what is to come of the tick at 11,101
 abbrev loss : Coming
 loss = leaving no_nodes (counts 0xFD (cycling 12100 8 1) (tick_answer []) (given LossOfSoc ∷ []) (given LossOfSoc ∷ []) (8 ∷ []))
 
+-- Example 10: the same head, tick at 11,101: a loss, level 8, deadline 12,100.
 abbrev pub above_limit : Example
 above_limit = record { before = cycling 11100 0 0; calls = tick 11101 no_nodes ∷ []; after = loss ∷ [] }
 
--- Example 11: then a tick at 12,100: a crossing, with the entry 0x8245 at 0 s 12,100,000 ns;
--- PreOperational1, check off, no deadline.
+-- the entry of the crossing in example 11: 0x8245 at 0 s 12,100,000 ns
 abbrev pub entry : ErrorEntry
 entry =
     record {
@@ -302,6 +318,7 @@ entry =
       additional_information = 0;
     }
 
+-- what is to come of the tick at 12,100 in example 11
 abbrev pub crossing_tick : Coming
 crossing_tick =
     record {
@@ -321,18 +338,22 @@ crossing_tick =
       raised = 16 ∷ [];
     }
 
+-- Example 11: then a tick at 12,100: a crossing, with the entry 0x8245 at 0 s 12,100,000 ns;
+-- PreOperational1, check off, no deadline.
 abbrev pub then_crossing : Example
 then_crossing =
     record { before = cycling 11100 0 0; calls = tick 11101 no_nodes ∷ tick 12100 no_nodes ∷ []; after = loss ∷ crossing_tick ∷ [] }
 
--- Example 12: a node with timeout 50 that was heard at 100: in time at 150, late at 151, which is
--- the earliest moment.
+-- the run of example 12: node 5 with timeout 50 µs, last heard at t
 abbrev pub watching_one : ℕ → Run
 watching_one t = holding (watched_node 5 50 t ∷ [])
 
+-- the head of example 12 with the earliest moment t and the counters e
 abbrev pub awaiting : ℕ → CnErrorCounters → Plain
 awaiting t e = with_earliest (counting e) (Some t)
 
+-- Example 12: a node with timeout 50 that was heard at 100: in time at 150, late at 151, which is
+-- the earliest moment.
 abbrev pub late : Example
 late =
     record {

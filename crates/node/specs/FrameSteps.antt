@@ -31,16 +31,18 @@ is_ours own destination = either (eqb destination own.0) (eqb destination broadc
 abbrev pub received : ℕ → Plain → Message → Ticked
 received t p m = on_dll_event t p (frame_cs_event (message_type m))
 
--- then its NMT event, where it has one: the head, what is answered and what is counted
+-- then its NMT event, where it has one: the head behind it
 abbrev pub with_event : Option NmtEvent → Plain → Plain
 with_event (Some e) p = (nmt_taken p e (Nmt.processed p.nmt e)).head
 with_event None p = p
 
+-- what the NMT event answers
 abbrev pub reply_to : Option NmtEvent → Plain → Option NmtReply
 reply_to (Some e) p =
     Some (record { errors = (Nmt.processed p.nmt e).errors; reset = (Nmt.processed p.nmt e).reset })
 reply_to None p = None
 
+-- the event that the machine was given, or none
 abbrev pub made_by : Option NmtEvent → EventMade
 made_by (Some e) = made e
 made_by None = no_event
@@ -63,6 +65,7 @@ stops k =
       crossings = k.crossings;
     }
 
+-- without an action both follow
 abbrev pub follows : ℕ → Message → Ticked → Step
 follows t m k =
     record {
@@ -75,6 +78,7 @@ follows t m k =
       crossings = k.crossings;
     }
 
+-- behind the DLL event, by whether it brought an action
 abbrev pub behind_dll : ℕ → Message → Ticked → Step
 behind_dll t m k = pick k.ended (stops k) (follows t m k)
 
@@ -86,6 +90,7 @@ frame_taken t p m = behind_dll t m (received t p m)
 abbrev pub frame_tests : ℕ → List (Test ℕ)
 frame_tests t = must (in_time t) 5 ∷ []
 
+-- a frame by the reading of its bytes: refused, for another node, or ours
 abbrev pub by_frame : ℕ → Plain → Result Frame Refusal → Step
 by_frame t p (Ok f) =
     tried (frame_tests t) (declines p no_run)

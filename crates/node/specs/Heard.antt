@@ -11,8 +11,8 @@ use Rattle.node.specs.Steps.{must, tried}
 use Rattle.node.specs.Plain.{Call}
 use Rattle.node.specs.InPlace.{unless_refused, OnRun}
 
--- WatchedNodes, TimeLimit, NotWatched, by what was found of the nodes: whether they are well
--- formed, and whether the node is among them
+-- heard's refusals in their order, WatchedNodes, TimeLimit, NotWatched, by what was found of the
+-- nodes: whether they are well formed, and whether the node is among them
 abbrev pub heard_answer : Bool → ℕ → Bool → Result (Unit {0}) Refusal
 heard_answer formed t watched =
     tried (must formed WatchedNodes ∷ must (in_time t) TimeLimit ∷ must watched NotWatched ∷ []) Err (Ok tt)

@@ -35,7 +35,8 @@ abbrev pub late_ones : ℕ → List WatchedNode → List WatchedNode
 late_ones t [] = []
 late_ones t (w ∷ ws) = pick (is_late t w) (w ∷ late_ones t ws) (late_ones t ws)
 
--- the error of a late node: neither counter 1 nor an entry follows from it
+-- the error of a late node, with its marks ms and what the counters answer: neither counter 1 nor
+-- an entry follows from it
 abbrev pub on_late_by : Plain → List Mark → HandledError → Ticked
 on_late_by p ms r =
     on_handled r ms [] [] (pick r.signal (signalled (with_errors p r.counters)) (with_errors p r.counters))
@@ -53,10 +54,12 @@ unfoldable pub on_late_all : Plain → List WatchedNode → Ticked
 on_late_all p [] = goes_on p
 on_late_all p (w ∷ ws) = pick (on_late p w).ended (on_late p w) (behind (on_late p w) (on_late_all (on_late p w).head ws))
 
--- the heartbeats of a tick: what comes of the late nodes; and the run as the check leaves it. All
--- nodes are looked at before any error is counted.
+-- the heartbeats of a tick: what comes of the late nodes. All nodes are looked at before any error
+-- is counted.
 abbrev pub heartbeats : Plain → ℕ → List WatchedNode → Ticked
 heartbeats p t ws = pick (checks_heartbeats p.nmt.current_state) (on_late_all p (late_ones t ws)) (goes_on p)
 
+-- the run behind the check of heartbeats: where they are checked, a node that is late or was never
+-- heard has now as its last-heard time
 abbrev pub refreshed_at : Plain → ℕ → Run → Run
 refreshed_at p t r = pick (checks_heartbeats p.nmt.current_state) (changing (map (refreshed t)) r) r

@@ -13,31 +13,35 @@ use Rattle.head.specs.Places as at
 use Rattle.head.specs.Words.{head_of}
 use Rattle.head.specs.Written.{object_written, history_written}
 
--- a value that is named is written, and one that is kept is not
+-- the words after a load's number for the word at place i: written where it is named, else kept
 abbrev pub number_loaded : List ℕ → ℕ → Option ℕ → List ℕ
 number_loaded ws i (Some n) = set ws i n
 number_loaded ws i None = ws
 
+-- the words after a load's value for the two words from place i on, cycle or tolerance: written
+-- where it is named, also as missing, else kept
 abbrev pub object_loaded : List ℕ → ℕ → Option (Option ℕ) → List ℕ
 object_loaded ws i (Some v) = object_written ws i v
 object_loaded ws i None = ws
 
--- a byte that is named is one
+-- a byte that a load names is at most 255
 abbrev pub ByteFits : Option ℕ → Type 0
 ByteFits (Some n) = n ≤ 255
 ByteFits None = Unit
 
+-- the words after a load's values of the dictionary
 unfoldable pub values_loaded : List ℕ → DictionaryUpdate → List ℕ
 values_loaded ws u =
     number_loaded (number_loaded (number_loaded (number_loaded
     (object_loaded (object_loaded (number_loaded ws at.register u.error_register) at.cycle u.cycle_time) at.tolerance u.tolerance)
     at.counter1 u.counter_1) at.counter2 u.counter_2) at.counter3 u.counter_3) at.counter5 u.counter_5
 
+-- the words after a load: its values, and the places of the history where it names one
 unfoldable pub load_words : List ℕ → DictionaryUpdate → Option (List ℕ) → List ℕ
 load_words ws u (Some s) = history_written (values_loaded ws u) (loaded s)
 load_words ws u None = values_loaded ws u
 
--- the bytes of the entries that are named
+-- the bytes of the history's entries, where a load names them
 abbrev pub bytes_named : Option (Bor (List ℕ)) → Option (List ℕ)
 bytes_named (Some r) = Some r.now
 bytes_named None = None

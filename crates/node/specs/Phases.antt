@@ -1,5 +1,5 @@
--- What the parts of a tick have in common (RULES 7.8, 7.9): what a part has come to, a signal, an NMT
--- event in a tick, and how the handling of an error ends.
+-- What the parts of a tick have in common (RULES 7.8, 7.9): what a part has come to, a signal, an
+-- NMT event in a tick, and how the handling of an error ends.
 -- Assumes nothing.
 use Rattle.std.specs.Prelude.{ℕ, ◌+◌, ◌%◌, Bool, true, false, List, [], ◌++◌, eqb}
 use Rattle.types.specs.Pick.{pick}
@@ -19,15 +19,20 @@ use Rattle.node.specs.Plain.{Plain, EventMade, made, no_event}
 use Rattle.node.specs.Steps.{plain_of, with_nmt, with_soc}
 use Rattle.head.specs.Head.{soc_watch}
 
--- what a tick, or the DLL event of a frame, has come to: the head, what was logged, what is counted
--- of it, and whether it has ended
+-- what a tick, a part of one, or the DLL event of a frame has come to
 pub record Ticked : Type 0 where
+  -- the head after it
   pub head : Plain
   pub logged : List DllError
+  -- the NMT event that it gave the machine, or none
   pub event : EventMade
+  -- what it did to the error counters
   pub marks : List Mark
+  -- of these marks, those of the errors of the SoC check
   pub checked : List Mark
+  -- the entries of the crossings there
   pub crossings : List ErrorEntry
+  -- the tick has ended: what would follow is left out
   pub ended : Bool
 
 -- nothing came of a part of the tick, which has not ended

@@ -19,18 +19,23 @@ use Rattle.node.specs.declared.load.DictionaryUpdate.{DictionaryUpdate}
 use Rattle.node.specs.declared.range.SocVerdict.{SocVerdict}
 use Rattle.watched.specs.Watched.{Run}
 
--- what a head keeps (RULES 1): the two machines, the error counters, the watch over the SoC, the
--- values of the dictionary, the capacity of the emergency queue, queue and history, and the
--- earliest moment at which a watched node would be late
+-- what a head keeps (RULES 1)
 pub record Plain : Type 0 where
   pub nmt : CnNmtStateMachine
   pub dll : DllCsState
+  -- the error counters
   pub errors : CnErrorCounters
+  -- the watch over the SoC
   pub soc : SocWatch
+  -- the values of the dictionary
   pub od : Dictionary
+  -- how many entries the emergency queue may hold
   pub capacity : ℕ
+  -- the emergency queue, oldest first
   pub queue : List ErrorEntry
+  -- the error history, newest first
   pub history : List ErrorEntry
+  -- the earliest moment in µs at which a watched node would be late, or none
   pub earliest : Option ℕ
 
 -- a load's history: entries, newest first, or that it is left
@@ -48,19 +53,20 @@ pub data Call : Type 0 where
   error : ℕ → ℕ → ℕ → Call
   cycle_complete : Call
   withdraw : Call
-  -- a node, a time
+  -- a node, and the time in µs at which it was heard
   heard : ℕ → ℕ → Run → Call
   hand_out : Call
+  -- values of the dictionary and a history, each of which may be left out
   load : DictionaryUpdate → HistoryUpdate → Call
-  -- an SoC time
+  -- the time of an SoC in µs
   arm : ℕ → Call
-  -- now
+  -- now, in µs
   tick : ℕ → Run → Call
-  -- the earliest and the latest reading of a clock
+  -- the earliest and the latest reading of a clock, in µs
   range : ℕ → ℕ → Call
-  -- one reading
+  -- one reading of a clock, in µs
   margin : ℕ → Call
-  -- a node and its timeout
+  -- a node, and its timeout in µs
   add : ℕ → ℕ → Run → Call
   -- a node
   remove : ℕ → Run → Call
@@ -70,12 +76,20 @@ pub data Call : Type 0 where
 
 -- what start is given
 pub record Start : Type 0 where
+  -- the node's number; another number is refused by 1, NodeNumber
   pub node : ℕ
+  -- the feature flags
   pub flags : ℕ
+  -- the basic timeout in µs
   pub timeout : ℕ
+  -- how many entries the emergency queue may hold; above 32 it is refused by 2, QueueCapacity
   pub capacity : ℕ
+  -- the values of the dictionary
   pub od : Dictionary
+  -- a threshold for each of the seven kinds; above 1,000,000 it is refused by 14, ThresholdLimit
   pub thresholds : Thresholds
+  -- the run of watched nodes that is lent; where it is not well formed it is refused by 3,
+  -- WatchedNodes
   pub watched : Run
 
 -- what the NMT event of a frame answers: the errors reported, the states entered and the ranges to
@@ -86,10 +100,12 @@ pub record NmtReply : Type 0 where
 
 -- what a call answers: the number of its refusal, or, where it is taken, one of the others
 pub data Answer : Type 0 where
+  -- the number of the refusal
   refused : ℕ → Answer
   taken : Answer
   -- the errors reported, the states entered and the ranges to restore
   nmt_answer : List DllError → Passed → Answer
+  -- the errors reported
   dll_answer : List DllError → Answer
   -- the action asked for, whether it signals, what is logged
   error_answer : NmtAction → Bool → List DllError → Answer
@@ -101,9 +117,9 @@ pub data Answer : Type 0 where
   tick_answer : List DllError → Answer
   -- lost, kept or open
   range_answer : SocVerdict → Answer
-  -- a signed number
+  -- a number of µs with a sign
   margin_answer : ℤ → Answer
-  -- the moment of the next tick, or none
+  -- the moment of the next tick in µs, or none
   due_answer : Option ℕ → Answer
   -- a frame for another node
   not_ours : Answer
@@ -115,16 +131,19 @@ pub data EventMade : Type 0 where
   made : NmtEvent → EventMade
   no_event : EventMade
 
--- what comes of a call: the head after it, the answer, the run that was lent, and what is counted
--- of it: the NMT event, the marks of the counters, those of them that the errors of a tick's SoC
--- check left, and the entries of the crossings there
+-- what comes of a call: what it leaves and answers, and what is counted of it
 pub record Step : Type 0 where
   pub head : Plain
   pub answer : Answer
+  -- the run of watched nodes that was lent, as the call leaves it; an empty one where none was
   pub lent : Run
+  -- the NMT event that it gave the machine, in a tick too
   pub event : EventMade
+  -- what it did to the error counters
   pub marks : List Mark
+  -- of these marks, those of the errors of a tick's SoC check
   pub checked : List Mark
+  -- the entries of the crossings there
   pub crossings : List ErrorEntry
 
 -- what comes of start: a head, or the number of a refusal

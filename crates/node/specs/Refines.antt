@@ -43,10 +43,11 @@ pub record Rings : Type 0 where
   pub history : ErrorHistory
   pub history_bytes : List ℕ
 
+-- the places and the bytes of a head's queue and history
 abbrev pub rings : Head → List ℕ → List ℕ → Rings
 rings h q m = record { queue = h.queue; queue_bytes = q; history = h.history; history_bytes = m }
 
--- an entry joins both, where the queue has room for it
+-- an entry joins queue and history, where the queue has room for it
 unfoldable pub joins : Rings → ErrorEntry → Rings
 joins r e =
     pick (pushed r.queue).kept
@@ -58,6 +59,7 @@ joins r e =
     })
     r
 
+-- some entries join, one after the other
 abbrev pub joins_all : Rings → List ErrorEntry → Rings
 joins_all r [] = r
 joins_all r (e ∷ es) = joins_all (joins r e) es
@@ -72,6 +74,7 @@ pub record Left : Type 0 where
   pub head : Head
   pub answer : Answer
 
+-- what a call leaves: the head h and the answer a
 abbrev pub left : Head → Answer → Left
 left h a = record { head = h; answer = a }
 
@@ -80,11 +83,12 @@ abbrev pub history_update : Option (List ℕ) → HistoryUpdate
 history_update (Some s) = set (entries_in s)
 history_update None = keep
 
--- the history's places and bytes after a load
+-- where the history stands after a load: it moves only where the load names one
 abbrev pub loaded_places : Option (List ℕ) → ErrorHistory → ErrorHistory
 loaded_places (Some s) h = loaded s
 loaded_places None h = h
 
+-- the history's bytes after a load: they change only where the load names one
 abbrev pub loaded_memory : Option (List ℕ) → List ℕ → List ℕ
 loaded_memory (Some s) m = loaded_bytes m s
 loaded_memory None m = m

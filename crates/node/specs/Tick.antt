@@ -11,7 +11,7 @@ use Rattle.node.specs.Phases.{Ticked, behind}
 use Rattle.node.specs.Heartbeats.{checks_heartbeats, heartbeats, refreshed_at}
 use Rattle.node.specs.Deadline.{by_deadline}
 
--- WatchedNodes, TimeLimit, BeforeHeard; the last one only where heartbeats are checked
+-- the tests of a tick: WatchedNodes, TimeLimit, and BeforeHeard where heartbeats are checked
 abbrev pub tick_tests : Plain → ℕ → Run → List (Test ℕ)
 tick_tests p t r =
     must (well_lent r) 3 ∷
@@ -25,7 +25,8 @@ tick_taken p t ws =
     let b = heartbeats p t ws in
     pick b.ended b (behind b (by_deadline b.head t b.head.soc.next_tick_us))
 
--- however the tick ended, the earliest moment is worked out from the run that is left
+-- what a tick leaves that came to k, with the run r: however it ended, the earliest moment is
+-- worked out from that run
 abbrev pub tick_answered : Ticked → Run → Step
 tick_answered k r =
     record {
@@ -38,6 +39,7 @@ tick_answered k r =
       crossings = k.crossings;
     }
 
+-- the tick at t (RULES 7): refused by the first test that does not hold, else its parts in order
 abbrev pub tick_step : Plain → ℕ → Run → Step
 tick_step p t r =
     tried (tick_tests p t r) (declines p r) (tick_answered (tick_taken p t (watching r)) (refreshed_at p t r))

@@ -39,7 +39,9 @@ pub record Raised (d : ℕ) (o o' : Dictionary) : Type 0 where
 -- the watches s and s' after an arm with the values o and o', where the cycle is above 0: the
 -- deadline moves by at most d / 1000 µs rounded up, and never earlier
 pub record Moves (d : ℕ) (s s' : SocWatch) : Type 0 where
+  -- the deadline in µs after the arm with the values o
   pub from : ℕ
+  -- the deadline in µs after the arm with the values o'
   pub to : ℕ
   pub stood : s.next_tick_us ≡ At from
   pub stands : s'.next_tick_us ≡ At to

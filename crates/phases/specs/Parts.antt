@@ -32,13 +32,14 @@ pub record Ticks (h : Head) (q m : List ℕ) (k : Ticked) (r : PartLeft) (q' m' 
   pub ended : r.ended ≡ k.ended
   pub joined : rings r.head q' m' ≡ joins_all (rings h q m) k.crossings
 
--- an error that counts for a kind, or for none, is quiet: nothing is signalled or logged unless it
--- brings an action
+-- an error with this effect is quiet: it goes to a counter or changes nothing, so that nothing is
+-- signalled or logged unless it brings an action
 abbrev pub quiet_effect : Effect → Bool
 quiet_effect (counts k) = true
 quiet_effect loses_link = false
 quiet_effect is_logged = false
 quiet_effect nothing = true
 
+-- an error is quiet: it is neither a lost link nor one of the two PDO errors
 abbrev pub is_quiet : DllError → Bool
 is_quiet e = quiet_effect (effect e)

@@ -8,14 +8,15 @@ use Rattle.head.specs.Words.{one}
 use Rattle.reach.specs.declared.Line.{Line}
 use Rattle.reach.specs.Positions.{named, steps_to}
 
--- a flag as a digit, 1 for yes; and the last decimal digit of a number, which is all of it below 10
+-- a flag as a digit: 1 for yes, 0 for no
 abbrev pub flag : Bool → List ℕ
 flag b = glyph (one b) ∷ []
 
+-- the last decimal digit of a number, which is all of it below 10
 abbrev pub digit : ℕ → List ℕ
 digit n = glyph (n % 10) ∷ []
 
--- a line
+-- a line as it is printed
 unfoldable pub line_form : Line → List ℕ
 line_form l =
     codes "(at " ++ hex_form 2 (state_number (named l).state) ++ codes " (enabled " ++ flag (named l).enabled ++ codes ") (ready " ++ flag (named l).ready ++ codes ") (steps " ++ digit (steps_to l) ++ codes "))\n"

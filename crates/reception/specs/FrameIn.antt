@@ -30,48 +30,56 @@ use Rattle.reception.specs.declared.FrameTaken.{FrameTaken}
 use Rattle.reception.specs.declared.FrameAnswer.{FrameAnswer}
 use Rattle.reception.specs.declared.FrameAnswer.TheVariants.{NotOurs, Ours}
 
--- what a frame answers
+-- what the NMT event of a frame answers, where it has one
 abbrev pub reply_of : Option NmtTaken → Option NmtReply
 reply_of (Some n) = Some (record { errors = reported n.errors; reset = passed n.reset })
 reply_of None = None
 
+-- what a frame that is ours says
 abbrev pub taken_says : FrameTaken → Answer
 taken_says d = frame_answer (reported d.logged) (reply_of d.nmt)
 
+-- what a frame says that is not refused
 abbrev pub frame_says : FrameAnswer → Answer
 frame_says NotOurs = not_ours
 frame_says (Ours d) = taken_says d
 
+-- what a frame answers
 abbrev pub frame_said : Result FrameAnswer Refusal → Answer
 frame_said = answered frame_says
 
--- the words behind the DLL event, behind the NMT event, and behind the arming
+-- the words behind the DLL event of a message
 abbrev pub received_words : List ℕ → Message → List ℕ
 received_words ws m = on_dll_event_words ws (frame_cs_event (message_type m))
 
+-- the words behind an NMT event, or none
 abbrev pub given_words : List ℕ → Option NmtEvent → List ℕ
 given_words ws (Some e) = processed_words ws e
 given_words ws None = ws
 
+-- the words behind the arming, which an SoC brings
 abbrev pub arms_words : ℕ → Message → List ℕ → List ℕ
 arms_words t SoC ws = armed_words ws t
 arms_words t other ws = ws
 
--- and behind a frame that is ours: an action ends it
+-- the words where the DLL event brought no action
 abbrev pub behind_dll_words : ℕ → Message → List ℕ → List ℕ
 behind_dll_words t m ws = arms_words t m (given_words ws (nmt_event_of m))
 
+-- the words behind a frame that is ours
 unfoldable pub taken_words : List ℕ → List ℕ → List ℕ → ℕ → Message → List ℕ
 taken_words ws q h t m =
     pick (received t (plain (head_of ws) q h) m).ended (received_words ws m)
     (behind_dll_words t m (received_words ws m))
 
+-- the words by the reading of the bytes: one that is refused, or for another node, leaves them
 abbrev pub words_by : List ℕ → List ℕ → List ℕ → ℕ → Result Frame Refusal → List ℕ
 words_by ws q h t (Ok f) =
     pick (in_time t)
     (pick (is_ours (nmt_of ws).node_id f.destination) (taken_words ws q h t f.message) ws) ws
 words_by ws q h t (Err r) = ws
 
+-- the words behind the bytes of a frame
 unfoldable pub frame_words : List ℕ → List ℕ → List ℕ → ℕ → List ℕ → List ℕ
 frame_words ws q h t bytes = words_by ws q h t (read_frame bytes)
 
@@ -91,6 +99,7 @@ pub record FollowsIn (ws q h : List ℕ) (k : Step) (a : Answer) (ws' q' h' know
   pub joined : rings (head_of ws') q' h' ≡ joins_all (rings (head_of ws) q h) k.crossings
   pub words : ws' ≡ known
 
+-- of a message that is ours
 abbrev pub TakenIn : List ℕ → List ℕ → List ℕ → ℕ → Message → FrameTaken → List ℕ → List ℕ → List ℕ → Type 0
 TakenIn ws q h t m d ws' q' h' =
     FollowsIn ws q h (frame_taken t (plain (head_of ws) q h) m) (taken_says d) ws' q' h'

@@ -37,10 +37,11 @@ use Rattle.replay.specs.declared.station.Station.{Station}
 use Rattle.replay.specs.declared.station.Said.{Said}
 use Rattle.replay.specs.declared.station.Said.TheVariants as said
 
--- the run that is lent, and what a call is made on
+-- the run that the station lends: its places that are lent, and its number
 abbrev pub lent_of : Station → Run
 lent_of x = run (take x.places x.run) x.number
 
+-- what a call at the station is made on
 abbrev pub held_of : Station → Held
 held_of x = held x.head x.queue x.history (lent_of x)
 
@@ -58,28 +59,34 @@ fresh =
       desk = record { items = [] };
     }
 
--- the station with another run, and with other bytes on the desk
+-- the station with another run, of which so many places are lent, and with another number
 abbrev pub with_run : Station → List WatchedNode → ℕ → ℕ → Station
 with_run x ws places number = record x { run = ws; places = places; number = number }
 
+-- the station with other bytes on the desk
 abbrev pub with_desk : Station → List ℕ → Station
 with_desk x bs = record x { desk = record { items = bs } }
 
--- a line that is no call: one node more is watched, with as many places as that needs, where there is one of the 40
+-- the station after `watch`: one node more is watched, with as many places as that needs, where
+-- there is one of the 40
 abbrev pub watched_in : Station → WatchedNode → Station
 watched_in x w =
     if nat_lt x.number 40 then with_run x (set x.run x.number w) (max x.places (x.number + 1)) (x.number + 1) else x
 
+-- the station after `unwatch`: 32 places are lent, number 0, and every place is zeros
 abbrev pub unwatched : Station → Station
 unwatched x = with_run x (replicate 40 no_node) 32 0
 
+-- the station after `lend`: so many places are lent, at most 40, with this number
 abbrev pub lending : Station → ℕ → ℕ → Station
 lending x places number = with_run x x.run (min places 40) number
 
+-- the station after `desk`: the first 100 of these bytes are on the desk
 abbrev pub laid : Station → List ℕ → Station
 laid x bs = with_desk x (take 100 bs)
 
--- The places that are not lent, how many are, and the desk: a call leaves them.
+-- what a call leaves beside what it is lent: the places that are not lent, how many are, and the
+-- desk
 pub record Beside (x y : Station) : Type 0 where
   pub places : y.places ≡ x.places
   pub past : drop x.places y.run ≡ drop x.places x.run
@@ -91,11 +98,12 @@ pub record Called (c : Call) (x : Station) (o : Result Answer Refusal) (y : Stat
   pub started : y.started ≡ x.started
   pub beside : Beside x y
 
--- A start: behind the first that is taken the head is started.
+-- whether the head is started behind a start: where it is taken, and else where it was before
 abbrev pub begun_by : Bool → Result (Unit {0}) Refusal → Bool
 begun_by started (Ok u) = true
 begun_by started (Err r) = started
 
+-- a start at the station x, which answered o and left y
 pub record Began (s : Setup) (x : Station) (o : Result (Unit {0}) Refusal) (y : Station) : Type 0 where
   pub on : StartedOn x.head (lent_of x) s o y.head (lent_of y)
   pub started : y.started ≡ begun_by x.started o
@@ -120,30 +128,37 @@ Tells kind P said.Unreadable = ⊥
 Tells kind P said.Show = ⊥
 Tells kind P (said.Reply r) = MatchResult r.0 (λ t. MatchOption (kind t) ⊥ (λ a. P (Ok a))) (λ e. P (Err e))
 
+-- the answer that a reply tells, if any
 abbrev pub answer_in : Told → Option Answer
 answer_in (told.Answer a) = Some a
 answer_in t = None
 
+-- that a reply tells no more than that the call was taken
 abbrev pub taken_in : Told → Option (Unit {0})
 taken_in (told.Answer answer.Taken) = Some tt
 taken_in t = None
 
+-- the watched nodes as bits that a reply tells, if any
 abbrev pub bitmap_in : Told → Option Bitmap
 bitmap_in (told.Bitmap b) = Some b
 bitmap_in t = None
 
+-- the entry that a reply tells, if any
 abbrev pub entry_in : Told → Option ErrorEntry
 entry_in (told.Entry e) = Some e
 entry_in t = None
 
+-- the state that a reply tells, if any
 abbrev pub state_in : Told → Option NmtState
 state_in (told.State s) = Some s
 state_in t = None
 
+-- the state command that a reply tells, if any
 abbrev pub command_in : Told → Option NmtStateCommand
 command_in (told.Command c) = Some c
 command_in t = None
 
+-- the kind of error that a reply tells, if any
 abbrev pub kind_in : Told → Option DllErrorKind
 kind_in (told.Kind k) = Some k
 kind_in t = None
@@ -153,7 +168,8 @@ abbrev pub taken_by : Result (Unit {0}) Refusal → Result Told Refusal
 taken_by (Ok u) = Ok (told.Answer answer.Taken)
 taken_by (Err r) = Err r
 
--- whether a line can be played as things stand: a watch where there is a place, and what reaches the head behind a start that was taken
+-- whether a line can be played as things stand: a watch where there is a place, and what reaches
+-- the head behind a start that was taken
 abbrev pub takes : Line → Station → Bool
 takes line.Nothing x = true
 takes line.Unreadable x = true
@@ -193,14 +209,15 @@ Does (line.Command n) x o y = Tells command_in (λ r. r ≡ read_command n) o ×
 Does (line.Kind n) x o y = Tells kind_in (λ r. kind_said r ≡ kind_behind n) o × (y ≡ x)
 Does line.Show x o y = (o ≡ said.Show) × (y ≡ x)
 
--- a line that is played where it can be
+-- a line that is played where it can be; where it can't it is unreadable and changes nothing
 abbrev pub Plays : Line → Station → Said → Station → Type 0
 Plays l x o y = MatchBool (takes l x) (Does l x o y) ((o ≡ said.Unreadable) × (y ≡ x))
 
--- what `show` prints of a station, and what a line prints at a place of the script, from 1
+-- what `show` prints at a station
 abbrev pub station_text : Station → List ℕ
 station_text x = show_text x.head x.queue x.history (take x.places x.run) x.number x.desk.items
 
+-- what a line prints, which is the n-th of the script, counted from 1, and left the station x
 abbrev pub said_text : Said → ℕ → Station → List ℕ
 said_text said.Nothing n x = []
 said_text said.Unreadable n x = joined (codes "(unreadable " ∷ decimal n ∷ codes ")\n" ∷ [])
@@ -212,8 +229,8 @@ abbrev pub is_played : Said → Bool
 is_played said.Unreadable = false
 is_played o = true
 
--- The bytes of a script from a place on, what is printed of them, and whether each line could be played: each line up to its newline, or to the end, on the station
--- that the last one left.
+-- The bytes of a script from the n-th line on, what is printed of them, and whether each line could
+-- be played: each line up to its newline, or to the end, on the station that the last one left.
 pub data Script : Station → ℕ → List ℕ → List ℕ → Bool → Type 0 where
   ended : {x : Station} {n : ℕ} → Script x n [] [] true
   goes :

@@ -5,26 +5,28 @@ use Rattle.std.specs.Char.{digit_value}
 use Rattle.std.specs.Str.{bytes_eq}
 use Rattle.script.specs.Reads.{Reads, ◌>>=◌, only, word, next_is, behind_next}
 
--- the value of a hexadecimal digit
+-- the value of a hexadecimal digit, of either case; none of another character
 abbrev pub digit_of : ℕ → Option ℕ
 digit_of c = if nat_lt (digit_value c) 16 then Some (digit_value c) else None
 
--- the byte of two digits, the high one first
+-- the byte of two hexadecimal digits, the high one first
 abbrev pub byte_of : ℕ → ℕ → Option ℕ
 byte_of high low = option_and_then (λ h. option_map (λ l. 16 * h + l) (digit_of low)) (digit_of high)
 
--- the bytes of all digits, behind those that are there
+-- the bytes bs with those of all digits behind them; none where a character is no digit or the last
+-- digit has no second
 unfoldable pub bytes_at : List ℕ → List ℕ → Option (List ℕ)
 bytes_at [] bs = Some bs
 bytes_at (c ∷ []) bs = None
 bytes_at (high ∷ low ∷ digits) bs = option_and_then (λ b. bytes_at digits (bs ++ (b ∷ []))) (byte_of high low)
 
--- those behind a space
+-- the bytes bs with those of the digits behind a space
 abbrev pub word_at : List ℕ → List ℕ → Option (List ℕ)
 word_at [] bs = None
 word_at (c ∷ digits) bs = if c == 32 then bytes_at digits bs else None
 
--- those of so many entries, of 41 characters each with their space
+-- the bytes bs with those of the first so many entries of a line, of 41 characters each: a space,
+-- and 40 digits
 unfoldable pub entries_at : ℕ → List ℕ → List ℕ → Option (List ℕ)
 entries_at zero line bs = Some bs
 entries_at (suc k) line bs = option_and_then (entries_at k (drop 41 line)) (word_at (take 41 line) bs)
@@ -34,30 +36,32 @@ abbrev pub filled : Option (Unit {0}) → List ℕ → Option (List ℕ)
 filled None bs = None
 filled (Some u) bs = Some bs
 
--- the entries of a history, up to the line's end: at most 300
+-- the bytes of a history's entries, up to the line's end: at most 300
 unfoldable pub entries_of : List ℕ → Option (List ℕ)
 entries_of line =
     if length line % 41 == 0 && nat_le (length line / 41) 300 then entries_at (length line / 41) line [] else None
 
--- a history that a load may name
+-- a history that a load may name, or none where it does not
 unfoldable pub history : Reads (Option (List ℕ))
 history rest =
     if next_is (codes "history") rest
     then option_map (λ bs. (Some bs, [])) (entries_of (behind_next (codes "history") rest))
     else Some (None, rest)
 
--- the bytes of a desk, at most 100, or `-` for none
+-- the bytes of the desk by their digits, 1 to 100 bytes; or no bytes, by `-`
 unfoldable pub desk_of : List ℕ → Option (List ℕ)
 desk_of digits =
     if bytes_eq digits (codes "-") then Some []
     else (if nat_lt 0 (length digits) && nat_le (length digits / 2) 100 then bytes_at digits [] else None)
 
+-- a word with the bytes of the desk
 abbrev pub desk_bytes : Reads (List ℕ)
 desk_bytes = word >>= λ digits. only (desk_of digits)
 
--- the 20 bytes of an entry
+-- the 20 bytes of an entry, of their 40 digits
 unfoldable pub entry_of : List ℕ → Option (List ℕ)
 entry_of digits = if length digits == 40 then bytes_at digits [] else None
 
+-- a word with the 20 bytes of an entry
 abbrev pub entry_bytes : Reads (List ℕ)
 entry_bytes = word >>= λ digits. only (entry_of digits)

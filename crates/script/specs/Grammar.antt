@@ -1,4 +1,5 @@
--- What a line of a call script says: a row for each line of docs/CALLS.md, with its name and the words behind it.
+-- What a line of a call script says: a row for each line of docs/CALLS.md, with its name and the
+-- words behind it.
 -- Assumes nothing.
 use Rattle.std.specs.Prelude.{ℕ, Bool, false, ◌||◌, ◌==◌, nat_le, nat_lt, ◌&&◌, if◌then◌else◌, Option, Some, None, option_map, option_and_then, unwrap_or, List, [], ◌∷◌, length, codes}
 use Rattle.std.specs.Str.{bytes_eq}
@@ -40,10 +41,12 @@ pub data Reading : Type 0 where
   kind : ℕ → Reading
   show : Reading
 
+-- what a line says that is a call: of a load its bytes themselves
 abbrev pub call_says : Call → Reading
 call_says (calls.Load u h) = load u (bytes_named h)
 call_says c = call c
 
+-- what a `Line` says
 abbrev pub says : Line → Reading
 says line.Nothing = nothing
 says line.Unreadable = unreadable
@@ -61,13 +64,15 @@ says (line.Command n) = command n
 says (line.Kind n) = kind n
 says line.Show = show
 
--- what several words are together
+-- a value that is made of one word
 abbrev pub one : {A B : Type 0} → Reads A → (A → B) → Reads B
 one p f = p >>= λ a. just (f a)
 
+-- a value that is made of two words
 abbrev pub two : {A B C : Type 0} → Reads A → Reads B → (A → B → C) → Reads C
 two p q f = p >>= λ a. q >>= λ b. just (f a b)
 
+-- a value that is made of three words
 abbrev pub three : {A B C D : Type 0} → Reads A → Reads B → Reads C → (A → B → C → D) → Reads D
 three p q r f = p >>= λ a. q >>= λ b. r >>= λ c. just (f a b c)
 
@@ -79,6 +84,7 @@ carries_byte k = k == 9 || k == 10 || k == 12 || (nat_le 18 k && nat_le k 21)
 abbrev pub carried : Bool → Reads ℕ
 carried refreshed_at = if refreshed_at then bits8 else (bits64 >>= λ _. just 0)
 
+-- the words of `error`: a kind's number, and what an error of that kind carries
 unfoldable pub error : Reads Call
 error = do
   number ← bits64
@@ -86,6 +92,7 @@ error = do
   b ← carried (number == 18)
   just (calls.Error number a b)
 
+-- the words of `watch`: a node's number, its timeout and its last-heard time
 unfoldable pub watched : Reads WatchedNode
 watched = three bits8 bits64 bits64 watched_node
 
@@ -101,7 +108,7 @@ dictionary = do
   c5 ← bits32
   just (record { error_register = register; cycle_time = cycle; tolerance = tolerance; counter_1 = c1; counter_2 = c2; counter_3 = c3; counter_5 = c5 })
 
--- its thresholds: all of them, or none, which is 15 each
+-- the seven thresholds of a start, in the order of their kinds (RULES 6.1)
 abbrev pub named_thresholds : Reads Thresholds
 named_thresholds = do
   t1 ← bits32
@@ -113,10 +120,12 @@ named_thresholds = do
   t7 ← bits32
   just (record { collision = t1; loss_of_soc = t2; loss_of_soa = t3; loss_of_preq = t4; soc_jitter = t5; crc_errors = t6; heartbeat_timeout = t7 })
 
+-- the thresholds of a start: all of them, or none, which is 15 each
 unfoldable pub thresholds : Reads Thresholds
 thresholds [] = Some (same_for_all 15, [])
 thresholds (c ∷ cs) = named_thresholds (c ∷ cs)
 
+-- the words of `start`
 unfoldable pub setup : Reads Setup
 setup = do
   node ← bits8
@@ -139,7 +148,7 @@ update = do
   c5 ← optional (codes "c5") bits32
   just (record { error_register = register; cycle_time = cycle; tolerance = tolerance; counter_1 = c1; counter_2 = c2; counter_3 = c3; counter_5 = c5 })
 
--- an entry that is written
+-- the type of an entry: its two marks, its mode and its profile
 unfoldable pub entry_type : Reads EntryType
 entry_type = do
   status ← flag
@@ -148,6 +157,7 @@ entry_type = do
   profile ← bits16
   just (record { is_status_entry = status; send_to_queue = queue; mode = mode_of mode; profile = profile })
 
+-- the words of an entry that is written, behind its place
 unfoldable pub entry : Reads ErrorEntry
 entry = do
   type ← entry_type
@@ -157,11 +167,11 @@ entry = do
   information ← bits64
   just (record { entry_type = type; error_code = code; timestamp = net_time seconds ns; additional_information = information })
 
--- a line by its name
+-- a kind of line: its name, and the words behind it
 abbrev pub Row : Type 0 → Type 0
 Row A = List ℕ × Reads A
 
--- the first row of the name
+-- what the first row of this name reads behind it; `other` where no row has the name
 abbrev pub named : {A : Type 0} → List (Row A) → List ℕ → Reads A → Reads A
 named [] name other = other
 named (row ∷ rows) name other = if bytes_eq name row.0 then row.1 else named rows name other
@@ -184,6 +194,7 @@ call_rows =
     (codes "remove", one bits8 calls.Remove) ∷
     (codes "due", just calls.NextDue) ∷ []
 
+-- the call whose line has this name, by the words behind it; none where no call's line has it
 unfoldable pub call_named : List ℕ → Reads Call
 call_named name = named call_rows name (only None)
 
@@ -204,6 +215,7 @@ line_rows =
     (codes "kind", one bits64 kind) ∷
     (codes "show", just show) ∷ []
 
+-- what the line of this name says, by the words behind it
 unfoldable pub line_named : List ℕ → Reads Reading
 line_named name = named line_rows name (one (call_named name) call_says)
 
@@ -211,7 +223,7 @@ line_named name = named line_rows name (one (call_named name) call_says)
 unfoldable pub words_say : List ℕ → Option Reading
 words_say line = option_and_then (λ x. option_map (λ u. x.0) (ends x.1)) (line_named (first_word line) (behind_word line))
 
--- `#` stands in front
+-- a line is a comment: its first character is `#`
 abbrev pub is_comment : List ℕ → Bool
 is_comment [] = false
 is_comment (c ∷ cs) = c == 35

@@ -5,22 +5,25 @@ use Rattle.std.specs.Option.{option_map_or}
 use Rattle.std.specs.Char.{digit_value}
 use Rattle.std.specs.Str.{bytes_eq}
 
--- What reads a value off the words that are left: the value, and what is left behind it; nothing where they do not begin with one.
+-- What reads a value off the words that are left: the value, and what is left behind it; nothing
+-- where they do not begin with one.
 abbrev pub Reads : Type 0 → Type 0
 Reads A = List ℕ → Option (A × List ℕ)
 
+-- the value, where there is one, with what is left behind it
 abbrev pub gives : {A : Type 0} → Option A → List ℕ → Option (A × List ℕ)
 gives None rest = None
 gives (Some a) rest = Some (a, rest)
 
--- a value that needs no word, and one that may be none
+-- a value that needs no word
 abbrev pub just : {A : Type 0} → A → Reads A
 just a rest = Some (a, rest)
 
+-- a value that needs no word, or none
 abbrev pub only : {A : Type 0} → Option A → Reads A
 only o rest = option_map (λ a. (a, rest)) o
 
--- one value behind another
+-- one value behind another: the first by p, the second by what f makes of the first
 infixl 10 ◌>>=◌
 abbrev pub ◌>>=◌ : {A B : Type 0} → Reads A → (A → Reads B) → Reads B
 ◌>>=◌ p f = λ rest. option_and_then (λ x. f x.0 x.1) (p rest)
@@ -30,10 +33,11 @@ unfoldable pub word_length : List ℕ → ℕ
 word_length [] = 0
 word_length (c ∷ cs) = if c == 32 then 0 else suc (word_length cs)
 
--- the word that a line begins with, and what stands behind it
+-- the word that a line begins with
 abbrev pub first_word : List ℕ → List ℕ
 first_word line = take (word_length line) line
 
+-- what stands behind the word that a line begins with
 abbrev pub behind_word : List ℕ → List ℕ
 behind_word line = drop (word_length line) line
 
@@ -42,10 +46,11 @@ abbrev pub word : Reads (List ℕ)
 word [] = None
 word (c ∷ line) = if c == 32 then Some (first_word line, behind_word line) else None
 
--- whether the next word is this one, and what is left then
+-- whether the next word is this one
 abbrev pub next_is : List ℕ → List ℕ → Bool
 next_is w rest = option_map_or (λ x. bytes_eq x.0 w) (word rest) false
 
+-- what is left behind the next word, where it is this one; else all
 abbrev pub behind_next : List ℕ → List ℕ → List ℕ
 behind_next w rest = option_map_or (λ x. if bytes_eq x.0 w then x.1 else rest) (word rest) rest
 
@@ -58,46 +63,52 @@ abbrev pub ends : List ℕ → Option (Unit {0})
 ends [] = Some tt
 ends (c ∷ cs) = None
 
--- the number with a digit of a base behind it, where it fits 64 bits: `0` to `9`, `A` to `F`, `a` to `f`
+-- the number with a digit of a base behind it, where it fits 64 bits: `0` to `9`, `A` to `F`, `a`
+-- to `f`
 abbrev pub digit_behind : ℕ → ℕ → ℕ → Option ℕ
 digit_behind base n c =
     if nat_lt (digit_value c) base
     then (if nat_le (n * base + digit_value c) 18446744073709551615 then Some (n * base + digit_value c) else None)
     else None
 
--- the digits, behind a number
+-- the number n with digits of a base behind it, where it fits 64 bits
 unfoldable pub value_from : ℕ → ℕ → List ℕ → Option ℕ
 value_from base n [] = Some n
 value_from base n (c ∷ cs) = option_and_then (λ m. value_from base m cs) (digit_behind base n c)
 
--- there has to be a digit
+-- the number of digits of a base, of which there has to be one
 abbrev pub value_of : ℕ → List ℕ → Option ℕ
 value_of base digits = if nat_lt 0 (length digits) then value_from base 0 digits else None
 
--- `0x` stands in front
+-- a word begins with `0x`
 abbrev pub is_hex : List ℕ → Bool
 is_hex w = nat_lt 1 (length w) && (get_or w 0 0 == 48 && get_or w 1 0 == 120)
 
--- a number: hexadecimal behind `0x`, or decimal
+-- the number that a word is: hexadecimal behind `0x`, or decimal
 unfoldable pub number_of : List ℕ → Option ℕ
 number_of w = if is_hex w then value_of 16 (drop 2 w) else value_of 10 w
 
+-- the number n, where it is at most so much
 abbrev pub at_most : ℕ → ℕ → Option ℕ
 at_most most n = if nat_le n most then Some n else None
 
--- a number of at most so much, by its width
+-- a word with a number of at most so much
 unfoldable pub up_to : ℕ → Reads ℕ
 up_to most = word >>= λ w. only (option_and_then (at_most most) (number_of w))
 
+-- a number of 8 bits
 abbrev pub bits8 : Reads ℕ
 bits8 = up_to 255
 
+-- a number of 16 bits
 abbrev pub bits16 : Reads ℕ
 bits16 = up_to 65535
 
+-- a number of 32 bits
 abbrev pub bits32 : Reads ℕ
 bits32 = up_to 4294967295
 
+-- a number of 64 bits
 abbrev pub bits64 : Reads ℕ
 bits64 = up_to 18446744073709551615
 

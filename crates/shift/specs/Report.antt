@@ -18,11 +18,12 @@ abbrev pub occurrences : List ℕ → ℕ → ℕ
 occurrences [] c = 0
 occurrences (d ∷ ds) c = bit (c == d) + occurrences ds c
 
--- a code names a single kind (RULES 6.7)
+-- the answer for a code names a kind
 abbrev pub names_one : CodeAnswer → Bool
 names_one (kind_number k) = true
 names_one (refused_by n) = false
 
+-- a code names a single kind (RULES 6.7)
 abbrev pub named : ℕ → Bool
 named c = names_one (kind_behind c)
 
@@ -31,11 +32,12 @@ abbrev pub among_codes : ℕ → List ℕ → List ℕ
 among_codes c [] = c ∷ []
 among_codes c (d ∷ ds) = pick (nat_lt c d) (c ∷ d ∷ ds) (d ∷ among_codes c ds)
 
--- the codes that some kinds have and that name a single kind, ascending; those of all kinds
+-- the codes that some kinds have and that name a single kind, ascending
 abbrev pub named_among : List DllErrorKind → List ℕ
 named_among [] = []
 named_among (k ∷ ks) = pick (named (kind_code k)) (among_codes (kind_code k) (named_among ks)) (named_among ks)
 
+-- the codes that name a single kind, ascending
 unfoldable pub named_codes : List ℕ
 named_codes = named_among error_kinds
 
@@ -44,16 +46,19 @@ abbrev pub others_in : List ℕ → ℕ
 others_in [] = 0
 others_in (c ∷ cs) = pick (named c) 0 1 + others_in cs
 
--- the lines of the page, a form each
+-- the line with the number of whole entries
 unfoldable pub entries_line : ℕ → List ℕ
 entries_line n = codes "(report (entries " ++ (decimal n ++ codes "))\n")
 
+-- the line of the code c, which occurred n times
 unfoldable pub code_line : ℕ → ℕ → List ℕ
 code_line c n = codes "(code " ++ (hex_form 4 c ++ (codes " (count " ++ (decimal n ++ codes "))\n")))
 
+-- the line of the codes that name no single kind, which occurred n times
 unfoldable pub other_line : ℕ → List ℕ
 other_line n = codes "(other (count " ++ (decimal n ++ codes "))\n")
 
+-- the line of the total n, with l bytes left at the end
 unfoldable pub total_line : ℕ → ℕ → List ℕ
 total_line n l = (codes "(total (count " ++ (decimal n ++ codes ")")) ++ (codes " (left " ++ (decimal l ++ codes "))\n"))
 

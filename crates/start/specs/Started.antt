@@ -30,7 +30,7 @@ use Rattle.node.specs.Refines.{plain}
 use Rattle.node.specs.InPlace.{unless_refused}
 use Rattle.start.specs.declared.start.Setup.{Setup}
 
--- what start is given, from its arguments
+-- what the plain start is given, from start's arguments
 abbrev pub start_of : Setup → Run → Start
 start_of s r =
     record {
@@ -83,13 +83,13 @@ unfoldable pub unheard_words : ℕ → List ℕ → List ℕ
 unheard_words zero ns = ns
 unheard_words (suc i) ns = set (unheard_words i ns) (3 * i + 2) 0
 
--- NodeNumber, QueueCapacity, WatchedNodes, ThresholdLimit, where it is known whether the nodes are
--- well formed
+-- start's refusals in their order, NodeNumber, QueueCapacity, WatchedNodes, ThresholdLimit, where
+-- it is known whether the nodes are well formed
 abbrev pub start_answer : ℕ → ℕ → Bool → Thresholds → Result (Unit {0}) Refusal
 start_answer n c formed ts =
     tried (must (is_node n) NodeNumber ∷ must (leb c queue_places) QueueCapacity ∷ must formed WatchedNodes ∷ must (thresholds_fit ts) ThresholdLimit ∷ []) Err (Ok tt)
 
--- the run that start leaves
+-- the run that start leaves: where it is taken, all watched nodes count as never heard
 abbrev pub start_left : Result (Unit {0}) Refusal → Run → Run
 start_left a r = unless_refused a r (changing unheard r)
 

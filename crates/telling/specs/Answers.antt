@@ -37,17 +37,19 @@ use Rattle.telling.specs.declared.answers.Told.{Told}
 use Rattle.telling.specs.declared.answers.Told.TheVariants as told
 use Rattle.telling.specs.Texts.{joined, flag_text, bytes_text, entry_text}
 
--- the errors that are reported, and those that are logged
+-- the states that a reset enters, by their numbers
 abbrev pub entered_text : List NmtState → List ℕ
 entered_text ss = flat_map (λ s. joined (codes " " ∷ hex_form 2 (state_number s) ∷ [])) ss
 
+-- the ranges to restore after a reset, by their first and last index
 abbrev pub restored_text : List IndexRange → List ℕ
 restored_text rs = flat_map (λ (r : IndexRange). joined (codes " (" ∷ hex_form 4 r.first ∷ codes " " ∷ hex_form 4 r.last ∷ codes ")" ∷ [])) rs
 
--- an NMT event: a reset the states that it enters and the ranges to restore, any other its errors
+-- a reset: the states that it enters, and the ranges to restore
 abbrev pub reset_text : ResetSequence → List ℕ
 reset_text r = joined (codes " (entered" ∷ entered_text (entered_states r) ∷ codes ") (restore" ∷ restored_text (restored_ranges r) ∷ codes ")" ∷ [])
 
+-- an NMT event: a reset as such, any other its errors, which are given as text
 abbrev pub nmt_by : ResetSequence → List ℕ → List ℕ
 nmt_by reset.None errors = joined (codes " (errors" ∷ errors ∷ codes ")" ∷ [])
 nmt_by reset.Whole errors = reset_text reset.Whole
@@ -55,34 +57,38 @@ nmt_by reset.Node errors = reset_text reset.Node
 nmt_by reset.Communication errors = reset_text reset.Communication
 nmt_by reset.Configuration errors = reset_text reset.Configuration
 
+-- what an NMT event is answered that is taken
 abbrev pub nmt_text : NmtTaken → List ℕ
 nmt_text t = nmt_by t.reset (errors_text t.errors)
 
+-- what an error is answered that is taken: its action's number, whether it signals, what is logged
 abbrev pub error_taken_text : ErrorTaken → List ℕ
 error_taken_text t =
     joined
     (codes " (action " ∷ decimal (action_number t.action) ∷ codes ") (signal " ∷ flag_text t.signal ∷ codes ") (logged" ∷ errors_text t.logged ∷ codes ")" ∷ [])
 
+-- what a hand-out is answered: the entry's 20 bytes, or none
 abbrev pub handed_out_text : Option ErrorEntry → List ℕ
 handed_out_text None = codes " none"
 handed_out_text (Some e) = joined (codes " (entry" ∷ entry_text e ∷ codes ")" ∷ [])
 
+-- what a range is answered: lost, kept or open
 abbrev pub verdict_text : SocVerdict → List ℕ
 verdict_text verdict.Lost = codes " lost"
 verdict_text verdict.Kept = codes " kept"
 verdict_text verdict.Open = codes " open"
 
--- when the next tick is due: a moment, 0 for at once, or none
+-- when the next tick is due: a moment in µs, 0 for at once, or none
 abbrev pub due_text : Option ℕ → List ℕ
 due_text None = codes " none"
 due_text (Some t) = joined (codes " " ∷ decimal t ∷ [])
 
--- a frame: that it is for another node, or what was logged and what its NMT event answers; without
--- one there are no errors
+-- what the NMT event of a frame answers; without one there are no errors
 abbrev pub reply_to_text : Option NmtTaken → List ℕ
 reply_to_text (Some t) = nmt_text t
 reply_to_text None = codes " (errors)"
 
+-- a frame: that it is for another node, or what was logged and what its NMT event answers
 abbrev pub frame_text : FrameAnswer → List ℕ
 frame_text NotOurs = codes " not_ours"
 frame_text (Ours d) =
@@ -102,20 +108,21 @@ answer_text (answer.Margin z) = joined (codes " " ∷ signed_decimal z ∷ [])
 answer_text (answer.Due d) = due_text d
 answer_text (answer.Frame a) = frame_text a
 
--- what an entry says that is read
+-- the type of an entry that is read: its marks, its mode's number and its profile
 abbrev pub type_text : EntryType → List ℕ
 type_text t =
     joined
     (codes "(status " ∷ flag_text t.is_status_entry ∷ codes ") (queue " ∷ flag_text t.send_to_queue ∷ codes ") (mode " ∷ decimal (mode_number t.mode)
     ∷ codes ") (profile " ∷ decimal t.profile ∷ codes ")" ∷ [])
 
+-- an entry that is read, with all its parts
 abbrev pub read_text : ErrorEntry → List ℕ
 read_text e =
     joined
     (type_text e.entry_type ∷ codes " (code " ∷ hex_form 4 e.error_code ∷ codes ") (seconds " ∷ decimal e.timestamp.seconds ∷ codes ") (ns "
     ∷ decimal e.timestamp.nanoseconds ∷ codes ") (additional " ∷ decimal e.additional_information ∷ codes ")" ∷ [])
 
--- the watched nodes as bits, and their number
+-- the watched nodes as 32 bytes, behind their number
 abbrev pub bitmap_text : Bitmap → List ℕ
 bitmap_text b = joined (codes " (nodes " ∷ decimal b.number ∷ codes ")" ∷ bytes_text b.bytes ∷ [])
 

@@ -17,30 +17,35 @@ use Rattle.head.specs.declared.state.Dictionary.{Dictionary}
 use Rattle.forms.specs.Hex.{hex_form}
 use Rattle.telling.specs.Texts.{joined, flag_text}
 
--- where the state machine of the node's life stands, and what a start gave it
+-- the NMT state's number, and whether the machine is enabled and the application ready
 unfoldable pub standing_text : CnNmtStateMachine → List ℕ
 standing_text m =
     joined
     (codes "(state " ∷ hex_form 2 (state_number m.current_state) ∷ codes ") (enabled " ∷ flag_text m.ready_to_operate_enabled
     ∷ codes ") (ready " ∷ flag_text m.app_ready ∷ codes ")" ∷ [])
 
+-- what a start gave the NMT machine: the node's number, the feature flags and the basic timeout in
+-- µs
 unfoldable pub identity_text : CnNmtStateMachine → List ℕ
 identity_text m =
     joined
     (codes "(node " ∷ decimal m.node_id.0 ∷ codes ") (flags " ∷ decimal m.feature_flags.0 ∷ codes ") (timeout " ∷ decimal m.basic_ethernet_timeout
     ∷ codes ")" ∷ [])
 
+-- the line of the NMT machine
 unfoldable pub nmt_line : CnNmtStateMachine → List ℕ
 nmt_line m = joined (codes "(nmt " ∷ standing_text m ∷ codes " " ∷ identity_text m ∷ codes ")\n" ∷ [])
 
+-- the line of the DLL machine: its state's number
 unfoldable pub dll_line : DllCsStateMachine → List ℕ
 dll_line m = joined (codes "(dll " ∷ decimal (cs_state_number m.state) ∷ codes ")\n" ∷ [])
 
--- a counter by its name: its level, and how many errors reached it
+-- a counter by its name: its level, and the cumulative count of its errors
 unfoldable pub counter_line : List ℕ → ThresholdCounter → List ℕ
 counter_line name c =
     joined (codes "(" ∷ name ∷ codes " (level " ∷ decimal c.threshold_cnt ∷ codes ") (cumulative " ∷ decimal c.cumulative_cnt ∷ codes "))\n" ∷ [])
 
+-- the lines of the seven counters
 unfoldable pub counter_lines : CnErrorCounters → List ℕ
 counter_lines e =
     joined
@@ -49,38 +54,42 @@ counter_lines e =
     ∷ counter_line (codes "soc_jitter") e.counters.soc_jitter ∷ counter_line (codes "crc_errors") e.counters.crc_errors
     ∷ counter_line (codes "heartbeat_timeout") e.counters.heartbeat_timeout ∷ [])
 
--- the counters, and how often the link was lost
+-- the lines of the error counters, and the count of lost links
 unfoldable pub error_lines : CnErrorCounters → List ℕ
 error_lines e = joined (counter_lines e ∷ codes "(loss_of_link " ∷ decimal e.loss_of_link_cumulative ∷ codes ")\n" ∷ [])
 
--- a moment, or none
+-- a moment in µs, or none
 abbrev pub moment_text : Option ℕ → List ℕ
 moment_text None = codes "none"
 moment_text (Some t) = decimal t
 
+-- the line of the watch over the SoC: last SoC, check, deadline and `error_status_changed`
 unfoldable pub soc_line : SocWatch → List ℕ
 soc_line s =
     joined
     (codes "(soc (last " ∷ decimal s.last_soc_reception_time_us ∷ codes ") (check " ∷ flag_text s.soc_timeout_check_active
     ∷ codes ") (deadline " ∷ moment_text (moment_in s.next_tick_us) ∷ codes ") (status_changed " ∷ flag_text s.error_status_changed ∷ codes "))\n" ∷ [])
 
--- an object's value, or that it is missing
+-- cycle or tolerance, or that it is missing
 abbrev pub object_text : Option ℕ → List ℕ
 object_text None = codes "missing"
 object_text (Some n) = decimal n
 
+-- the error register, cycle in µs and tolerance in ns
 unfoldable pub objects_text : Dictionary → List ℕ
 objects_text d =
     joined
     (codes "(register " ∷ decimal d.error_register ∷ codes ") (cycle " ∷ object_text d.cycle_time ∷ codes ") (tolerance "
     ∷ object_text d.tolerance ∷ codes ")" ∷ [])
 
+-- the counters 1, 2, 3 and 5 of object 0x1102
 unfoldable pub statistics_text : Dictionary → List ℕ
 statistics_text d =
     joined
     (codes "(c1 " ∷ decimal d.counter_1 ∷ codes ") (c2 " ∷ decimal d.counter_2 ∷ codes ") (c3 " ∷ decimal d.counter_3 ∷ codes ") (c5 "
     ∷ decimal d.counter_5 ∷ codes ")" ∷ [])
 
+-- the line of the values of the dictionary
 unfoldable pub dictionary_line : Dictionary → List ℕ
 dictionary_line d = joined (codes "(dictionary " ∷ objects_text d ∷ codes " " ∷ statistics_text d ∷ codes ")\n" ∷ [])
 

@@ -25,32 +25,38 @@ queue_line q p = joined (codes "(queue (capacity " ∷ decimal p.capacity ∷ co
 unfoldable pub history_line : List ℕ → ErrorHistory → List ℕ
 history_line m h = joined (codes "(history" ∷ entries_text (history m h) ∷ codes ")\n" ∷ [])
 
+-- a watched node: its number, its timeout and its last-heard time, both in µs
 unfoldable pub node_text : WatchedNode → List ℕ
 node_text w = joined (codes " (" ∷ decimal w.node ∷ codes " " ∷ decimal w.timeout ∷ codes " " ∷ decimal w.last_heard ∷ codes ")" ∷ [])
 
+-- some watched nodes, one behind another
 abbrev pub nodes_text : List WatchedNode → List ℕ
 nodes_text ws = flat_map node_text ws
 
--- the places up to the last one that holds something
+-- a place holds nothing: a node of zeros
 abbrev pub is_none : WatchedNode → Bool
 is_none w = w.node == 0 && (w.timeout == 0 && w.last_heard == 0)
 
+-- the place w with those kept behind it; w is left out where it holds nothing and none is kept
+-- behind it
 abbrev pub before_filled : WatchedNode → List WatchedNode → List WatchedNode
 before_filled w [] = if is_none w then [] else w ∷ []
 before_filled w (v ∷ vs) = w ∷ v ∷ vs
 
+-- the places up to the last one that holds something
 unfoldable pub filled : List WatchedNode → List WatchedNode
 filled [] = []
 filled (w ∷ ws) = before_filled w (filled ws)
 
--- the nodes up to the number, or all where the number is above them; how many places are lent, and the number; the places past it
+-- the nodes up to the number, or all where the number is above them; how many places are lent, and
+-- the number; the places past it
 unfoldable pub run_lines : List WatchedNode → ℕ → List ℕ
 run_lines ws n =
     joined
     (codes "(watched" ∷ nodes_text (take (min n (length ws)) ws) ∷ codes ")\n(run (places " ∷ decimal (length ws) ∷ codes ") (number " ∷ decimal n
     ∷ codes ") (rest" ∷ nodes_text (filled (drop (min n (length ws)) ws)) ∷ codes "))\n" ∷ [])
 
--- one number of each counter
+-- one number of each of the seven counters
 abbrev pub each_of : (ThresholdCounter → ℕ) → CnErrorCounters → ByKind ℕ
 each_of f e =
     record {
@@ -75,23 +81,27 @@ head_lines ws =
     (nmt_line (nmt_of ws) ∷ dll_line (record { state = dll_state (word ws at.dll) }) ∷ error_lines (errors_of ws)
     ∷ soc_line (soc_of ws) ∷ dictionary_line (od_of ws) ∷ [])
 
--- the earliest moment at which a watched node would be late, and how often each counter was at its threshold
+-- the earliest moment at which a watched node would be late, and how often each counter crossed its
+-- threshold
 unfoldable pub crossing_lines : List ℕ → List ℕ
 crossing_lines ws =
     joined
     (codes "(earliest " ∷ moment_text (earliest_of ws) ∷ codes ")\n(crossings " ∷ each_text (each_of (λ (c : ThresholdCounter). c.crossings_cnt) (errors_of ws))
     ∷ codes ")\n" ∷ [])
 
+-- the line of the seven thresholds
 unfoldable pub threshold_line : List ℕ → List ℕ
 threshold_line ws =
     joined (codes "(thresholds " ∷ each_text (each_of (λ (c : ThresholdCounter). c.threshold) (errors_of ws)) ∷ codes ")\n" ∷ [])
 
--- all of it: of the words of a head, the bytes of its queue and history, the run that is lent, its number, and the desk's bytes
+-- all of it: of the words of a head, the bytes of its queue and history, the run that is lent, its
+-- number, and the desk's bytes
 unfoldable pub show_text : List ℕ → List ℕ → List ℕ → List WatchedNode → ℕ → List ℕ → List ℕ
 show_text ws q m places n desk =
     joined
     (head_lines ws ∷ queue_line q (queue_of ws) ∷ history_line m (history_of ws) ∷ run_lines places n ∷ crossing_lines ws ∷ desk_line desk
     ∷ threshold_line ws ∷ [])
 
+-- what `show` prints of what it is lent
 abbrev pub shown_text : Shown → List ℕ
 shown_text s = show_text s.head.now s.queue.now s.history.now s.run.now s.number s.desk.now

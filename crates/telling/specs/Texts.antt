@@ -12,21 +12,23 @@ joined [] = []
 joined (part ∷ []) = part
 joined (part ∷ next ∷ parts) = part ++ joined (next ∷ parts)
 
--- a mark
+-- a flag: 1 for yes, 0 for no
 abbrev pub flag_text : Bool → List ℕ
 flag_text true = codes "1"
 flag_text false = codes "0"
 
--- bytes behind a space, as two hexadecimal digits each
+-- bytes as two hexadecimal digits each, in capitals
 abbrev pub digits_text : List ℕ → List ℕ
 digits_text bs = flat_map (hex_digits 2) bs
 
+-- bytes behind a space, as two hexadecimal digits each
 abbrev pub bytes_text : List ℕ → List ℕ
 bytes_text bs = joined (codes " " ∷ digits_text bs ∷ [])
 
--- the 20 bytes of an entry, and those of several
+-- an entry as its 20 bytes, behind a space
 abbrev pub entry_text : ErrorEntry → List ℕ
 entry_text e = bytes_text (entry_bytes e)
 
+-- some entries, one behind another
 abbrev pub entries_text : List ErrorEntry → List ℕ
 entries_text es = flat_map entry_text es

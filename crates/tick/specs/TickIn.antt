@@ -38,10 +38,11 @@ active_of c t vs =
     (Some (pick (is_still c t vs) (seen.Resting (moment_of (soonest never vs))) (seen.Active (all_of (not_before t) vs))))
     None
 
--- what a tick answers
+-- the answer of a tick that is taken: what it logged
 abbrev pub tick_says : DllErrors → Answer
 tick_says es = tick_answer (reported es)
 
+-- the answer of a tick
 abbrev pub tick_said : Result DllErrors Refusal → Answer
 tick_said = answered tick_says
 
@@ -61,8 +62,7 @@ pub record TickedIn (ws q m ns : List ℕ) (k t : ℕ) (a : Result DllErrors Ref
   pub on : TickedOn ws q m (run (nodes_of ns) k) t a ws' q' m' (run (nodes_of ns') k)
   pub nodes : ns' ≡ unless_refused a ns (pick (checks_heartbeats (nmt_of ws).current_state) (refreshed_words t k ns) ns)
 
--- The plain tick at t behind its heartbeats, after which s is shown as the earliest moment. Its one
--- test is TimeLimit.
+-- what the plain tick leaves behind its heartbeats, with s as the earliest moment
 abbrev pub still_answered : Ticked → Option ℕ → Step
 still_answered k s =
     record {
@@ -75,6 +75,8 @@ still_answered k s =
       crossings = k.crossings;
     }
 
+-- The plain tick at t behind its heartbeats, after which s is shown as the earliest moment. Its one
+-- test is TimeLimit.
 abbrev pub still_step : Plain → ℕ → Option ℕ → Step
 still_step p t s =
     tried (must (in_time t) 5 ∷ []) (declines p no_run) (still_answered (by_deadline p t p.soc.next_tick_us) s)

@@ -27,90 +27,99 @@ use Rattle.node.specs.InPlace.{dll_outcome_of, dll_event_words, effect_words}
 use Rattle.phases.specs.PartWords.{signal_words, event_words, finished_words, ends_by}
 use Rattle.heartbeats.specs.Words.{on_late_all_words}
 
--- counter 2 rises
+-- the words with counter 2 one higher
 abbrev pub count2 : List ℕ → List ℕ
 count2 ws = set ws at.counter2 (one_more (word ws at.counter2))
 
--- the entry of a crossing joins, with counter 2, or is dropped, with counter 3
+-- the words after the entry of a crossing: it joins queue and history and counter 2 rises, or it is
+-- dropped and counter 3 rises
 unfoldable pub entry_words : List ℕ → List ℕ
 entry_words ws =
     pick (pushed (queue_of ws)).kept
     (history_written (queue_written (count2 ws) (pushed (queue_of ws)).queue) (joined (history_of ws)))
     (set ws at.counter3 (one_more (word ws at.counter3)))
 
--- an error of a DLL event is counted, and counter 1 rises
+-- the words after an error of a DLL event was counted: its counter's, and counter 1
 unfoldable pub counted_words : List ℕ → DllError → List ℕ
 counted_words ws e = set (effect_words ws (effect e)) at.counter1 (one_more (word (effect_words ws (effect e)) at.counter1))
 
--- one error of a DLL event, and its errors in order
+-- the words after one error of a DLL event
 unfoldable pub on_dll_error_words : List ℕ → DllError → List ℕ
 on_dll_error_words ws e =
     finished_words (ends_by ws e)
     (pick (handled (errors_of ws) e).signal (entry_words (signal_words (counted_words ws e))) (counted_words ws e))
 
+-- the words after the errors of a DLL event in order: the first that brings an action is the last
 unfoldable pub on_dll_errors_words : List ℕ → List DllError → List ℕ
 on_dll_errors_words ws [] = ws
 on_dll_errors_words ws (e ∷ es) = pick (ends_by ws e) (on_dll_error_words ws e) (on_dll_errors_words (on_dll_error_words ws e) es)
 
--- a DLL event of the cycle: the DLL state, and its errors
+-- the words after a DLL event and its errors
 unfoldable pub on_dll_event_words : List ℕ → DllCsEvent → List ℕ
 on_dll_event_words ws e =
     on_dll_errors_words (dll_event_words ws e true) (dll_outcome_of ws e true).errors
 
--- what the deadlines read of a head, they read of it with no memory
+-- the plain head that the words stand for, lent no memory: the deadlines read no entry of queue or
+-- history
 abbrev pub unlent : List ℕ → Plain
 unlent ws = plain (head_of ws) [] []
 
--- the deadline is set anew, or with cycle 0 the check goes off
+-- the words after the deadline is set anew, or with cycle 0 after the check goes off
 unfoldable pub rescheduled_words : List ℕ → ℕ → List ℕ
 rescheduled_words ws t =
     pick (ltb 0 (cycle_of (od_of ws))) (deadline_written ws (At (next_deadline (unlent ws) t))) (set ws at.check 0)
 
--- the moment at which the limit ends; and the words where the SoC is not lost
+-- the moment at which the limit ends: last SoC + limit, in µs
 abbrev pub limit_at : List ℕ → ℕ
 limit_at ws = last_soc (unlent ws) + limit_of (od_of ws)
 
+-- the words after the SoC check where the SoC is not lost
 unfoldable pub within_words : List ℕ → ℕ → List ℕ
 within_words ws t =
     pick (both (ltb 0 (cycle_of (od_of ws))) (ltb t (limit_at ws))) (deadline_written ws (At (limit_at ws))) (rescheduled_words ws t)
 
--- a lost SoC: the event SocTimeout, and where none of its errors ends the tick the next deadline
+-- the words behind the errors of a lost SoC: where none ended the tick, the deadline is set anew
 abbrev pub after_loss_words : Bool → List ℕ → ℕ → List ℕ
 after_loss_words ended ws t = pick ended ws (rescheduled_words ws t)
 
+-- the words after a lost SoC: the DLL state, its errors, and where none ends the tick the next
+-- deadline
 unfoldable pub lost_words : List ℕ → List ℕ → List ℕ → ℕ → List ℕ
 lost_words ws q m t =
     after_loss_words (on_dll_event t (plain (head_of ws) q m) SocTimeout).ended
     (on_dll_event_words ws SocTimeout) t
 
--- the SoC check
+-- the words after the SoC check, where it is on; where it is off all stay
 unfoldable pub check_words : List ℕ → List ℕ → List ℕ → ℕ → List ℕ
 check_words ws q m t =
     pick (soc_of ws).soc_timeout_check_active
     (pick (ltb (limit_of (od_of ws)) (elapsed (unlent ws) t)) (lost_words ws q m t) (within_words ws t)) ws
 
--- at NotActive: a deadline behind the basic timeout, or the event Timeout
+-- the words after a tick at NotActive without a deadline: one is set at now + basic timeout, where
+-- that timeout is above 0
 unfoldable pub basic_words : List ℕ → ℕ → List ℕ
 basic_words ws t = pick (ltb 0 (word ws at.timeout)) (deadline_written ws (At (t + word ws at.timeout))) ws
 
+-- the words after a deadline has passed at NotActive: the event Timeout, where the basic timeout is
+-- above 0
 unfoldable pub timeout_words : List ℕ → List ℕ
 timeout_words ws = pick (ltb 0 (word ws at.timeout)) (event_words ws Timeout) ws
 
--- a deadline has passed
+-- the words after a deadline has passed: at NotActive the basic timeout, elsewhere the SoC check
 unfoldable pub passed_words : List ℕ → List ℕ → List ℕ → ℕ → List ℕ
 passed_words ws q m t = pick (at_not_active (unlent ws)) (timeout_words ws) (check_words ws q m t)
 
--- by the deadline that stands
+-- the words after what follows from the deadline that stands, or from none
 unfoldable pub deadline_words : List ℕ → List ℕ → List ℕ → ℕ → Deadline → List ℕ
 deadline_words ws q m t Nothing = pick (at_not_active (unlent ws)) (basic_words ws t) ws
 deadline_words ws q m t (At d) = pick (leb d t) (passed_words (set ws at.due 0) q m t) ws
 
--- what follows behind the heartbeats
+-- the words after what follows behind the heartbeats
 abbrev pub rest_words : List ℕ → List ℕ → List ℕ → ℕ → List ℕ
 rest_words ws q m t = deadline_words ws q m t (soc_of ws).next_tick_us
 
--- the tick: the heartbeats of the nodes, where they are checked, and what follows where no crossing
--- ended it
+-- the words after the tick: the heartbeats of the nodes, where they are checked, and what follows
+-- where no crossing ended it
 unfoldable pub tick_words : List ℕ → List ℕ → List ℕ → ℕ → List WatchedNode → List ℕ
 tick_words ws q m t vs =
     pick (checks_heartbeats (nmt_of ws).current_state)

@@ -22,7 +22,9 @@ use Rattle.trace.specs.Earliest.{run_after}
 -- its list, and nothing else does.
 pub data Merge : List ErrorEntry → List ErrorEntry → List ErrorEntry → Type 0 where
   empty : Merge [] [] []
+  -- the next item is that of the second list
   left : {e : ErrorEntry} {x y z : List ErrorEntry} → Merge x y z → Merge (e ∷ x) (e ∷ y) z
+  -- the next item is that of the third list
   right : {e : ErrorEntry} {x y z : List ErrorEntry} → Merge x y z → Merge (e ∷ x) y (e ∷ z)
 
 -- What one call does to an emergency queue in which n entries may wait (RULES 10.4). The five lists
@@ -96,12 +98,12 @@ pub record Claim (s : Start) (cs : List Call) (says : List Said) (h : Head) (q m
   -- RULES 10.3: level, errors, crossings and completed cycles of each kind, with the threshold that
   -- start was given
   pub balance : (k : CounterKind) → Balance (threshold_for k s.thresholds) k (tallied s cs).marks (level k h.errors)
-  -- N is the head's own count of the kind's crossings, and E its own count of the errors, while
-  -- these are below their top of 2^32 − 1
+  -- N is the head's own count of the kind's crossings, while that is below its top of 2^32 − 1
   pub crossed :
       (k : CounterKind) →
       (counter k h.errors).crossings_cnt < top →
       (counter k h.errors).crossings_cnt ≡ N k (tallied s cs).marks
+  -- and E is its own count of the kind's errors, while that is below its top
   pub occurred :
       (k : CounterKind) →
       (counter k h.errors).cumulative_cnt < top →

@@ -14,6 +14,7 @@ use Rattle.calling.specs.Made.{by_lent, Made}
 
 -- the first is what the calls were made on, the second what they left
 pub data Driven : Held → Held → Type 0 where
+  -- no call, and no other run
   stop : {x : Held} → Driven x x
   -- a call as it was made, and the rest of the list
   call : {x x₁ x' : Held} {c : Call} {o : Reply} → Made x c o x₁ → Driven x₁ x' → Driven x x'

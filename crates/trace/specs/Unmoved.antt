@@ -20,7 +20,9 @@ use Rattle.calling.specs.Declined.{is_among}
 -- The entries that a call brings into the history: those of a load, which replace all that it held,
 -- or those of the call's crossings that are kept, which join it.
 pub data Brought : Type 0 where
+  -- the entries of the history that a load names, newest first
   by_load : List ErrorEntry → Brought
+  -- the entries of crossings that are kept, in their order
   by_crossings : List ErrorEntry → Brought
 
 -- no entry joins
@@ -31,12 +33,13 @@ nothing_new = by_crossings []
 abbrev pub kept_by : Plain → List ErrorEntry → List ErrorEntry
 kept_by p crossings = pick (is_full p) [] crossings
 
--- by a load: the history that it names, if any
+-- what a load brings: the history that it names, if any
 abbrev pub loaded_new : HistoryUpdate → Brought
 loaded_new (set es) = by_load es
 loaded_new keep = nothing_new
 
--- by what a call does to what is stored, where es are the entries of its kept crossings
+-- what a call brings, by what it does to what is stored, where es are the entries of its kept
+-- crossings
 abbrev pub brought_how : Stores → List ErrorEntry → Brought
 brought_how table.none es = nothing_new
 brought_how (table.named v h) es = loaded_new h
@@ -70,11 +73,12 @@ abbrev pub written_at : ErrorHistory → Brought → List ℕ
 written_at h (by_load es) = listed (λ i. i) (min (length es) history_places)
 written_at h (by_crossings es) = joined_at h es
 
--- where the history stands behind a list of calls on the head p, and the places that they write
+-- the place of the newest entry, and how many there are, behind a list of calls on the head p
 unfoldable pub stands_after_all : Plain → ErrorHistory → List Call → ErrorHistory
 stands_after_all p h [] = h
 stands_after_all p h (c ∷ cs) = stands_after_all (step p c).head (stands_after h (brought_by p c)) cs
 
+-- the places of the history that a list of calls on the head p writes
 unfoldable pub written_at_all : Plain → ErrorHistory → List Call → List ℕ
 written_at_all p h [] = []
 written_at_all p h (c ∷ cs) =

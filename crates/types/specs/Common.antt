@@ -4,13 +4,15 @@ use Rattle.std.specs.Prelude.{ℕ, ◌+◌, ◌*◌, ◌-◌, ◌/◌, ◌%◌, 
 use Rattle.types.specs.Pick.{pick}
 use Rattle.types.specs.declared.common.NetTime.{NetTime}
 
+-- the time of s seconds and n nanoseconds
 abbrev pub net_time : ℕ → ℕ → NetTime
 net_time s n = record { seconds = s; nanoseconds = n }
 
--- a time in microseconds, its seconds modulo 2^32
+-- the time of t µs, its seconds modulo 2^32
 abbrev pub from_micros : ℕ → NetTime
 from_micros t = net_time (t / 1000000 % 4294967296) (t % 1000000 * 1000)
 
+-- a time as one number of nanoseconds
 abbrev pub as_nanos : NetTime → ℕ
 as_nanos t = t.seconds * 1000000000 + t.nanoseconds
 

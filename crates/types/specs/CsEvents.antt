@@ -9,7 +9,7 @@ use Rattle.std.specs.declared.result.Result.{Result}
 use Rattle.std.specs.declared.result.Result.TheVariants.{Ok, Err}
 use Rattle.types.specs.declared.refusals.Refusal.{Refusal}
 
--- an event's number is its place in the enum, from 0
+-- a DLL event's number: its place in the enum, from 0 (RULES 5.4)
 abbrev pub cs_event_number : DllCsEvent → ℕ
 cs_event_number Soc = 0
 cs_event_number Preq = 1
@@ -18,9 +18,10 @@ cs_event_number Soa = 3
 cs_event_number Asnd = 4
 cs_event_number SocTimeout = 5
 
--- all events, in the order of the enum
+-- all DLL events, in the order of the enum
 abbrev pub cs_events : List DllCsEvent
 cs_events = Soc ∷ Preq ∷ Pres ∷ Soa ∷ Asnd ∷ SocTimeout ∷ []
 
+-- the DLL event of a number, or the refusal UnknownNumber
 unfoldable pub read_cs_event : ℕ → Result DllCsEvent Refusal
 read_cs_event n = read_by cs_event_number Ok (Err UnknownNumber) cs_events n

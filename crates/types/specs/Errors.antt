@@ -43,15 +43,16 @@ kind_of (PdoMapVersion n) = error_kind.PdoMapVersion
 kind_of (PdoPayloadShort n) = error_kind.PdoPayloadShort
 kind_of (HeartbeatTimeout n) = error_kind.HeartbeatTimeout
 
--- the number of its kind
+-- the number of an error's kind, 0 to 21 (RULES 6.8)
 abbrev pub error_kind_of : DllError → ℕ
 error_kind_of e = kind_place (kind_of e)
 
+-- an error's code, 16 bits, which is that of its kind (RULES 6.8)
 abbrev pub error_code : DllError → ℕ
 error_code e = kind_code (kind_of e)
 
--- what NMT is asked for after an error, as a number: nothing, to reset the communication, to reset
--- a node
+-- what NMT is asked for after an error, as a number: 0 nothing, 1 to reset the communication, 2 to
+-- reset a node
 abbrev pub action_number : NmtAction → ℕ
 action_number action.None = 0
 action_number action.ResetCommunication = 1
@@ -68,14 +69,18 @@ abbrev pub carried : Result NodeId Refusal → DllError → Result DllError Refu
 carried (Ok n) e = Ok e
 carried (Err r) e = Err r
 
+-- a kind of error with what its number is read as
 pub record Kind : Type 0 where
   pub number : ℕ
+  -- an error of the kind, or the refusal of the node that it is to carry
   pub answer : Result DllError Refusal
 
+-- the kind with the number k, which is read as r
 abbrev pub kind : ℕ → Result DllError Refusal → Kind
 kind k r = record { number = k; answer = r }
 
--- the answer for each kind: a is its node, or a and b are its state and event
+-- all kinds, by their numbers: a is the node that an error carries, or a and b are its state and
+-- event
 abbrev pub kinds : ℕ → ℕ → List Kind
 kinds a b =
     kind 0 (Ok LossOfLink) ∷
@@ -102,5 +107,7 @@ kinds a b =
     kind 21 (carried (read_node a) (HeartbeatTimeout (node a))) ∷
     []
 
+-- the error of the kind k with what it carries, a and b; UnknownNumber where no kind has the
+-- number, else NodeNumber where it carries a node and a is no node's number
 unfoldable pub read_error : ℕ → ℕ → ℕ → Result DllError Refusal
 read_error k a b = read_by (λ (r : Kind). r.number) (λ (r : Kind). r.answer) (Err UnknownNumber) (kinds a b) k

@@ -14,7 +14,7 @@ use Rattle.types.specs.declared.nmt.events.NmtStateCommand.TheVariants as comman
 use Rattle.types.specs.declared.nmt.events.NmtManagingCommand.{NmtManagingCommand}
 use Rattle.types.specs.declared.nmt.events.NmtManagingCommand.TheVariants.{NmtNetHostNameSet, NmtFlushArpEntry}
 
--- DS 301, Appendix 3.7: 0x20 to 0x3F
+-- a state command's number, within 0x20 to 0x3F (DS 301, Appendix 3.7)
 abbrev pub command_number : NmtStateCommand → ℕ
 command_number command.StartNode = 0x21
 command_number command.StopNode = 0x22
@@ -38,10 +38,11 @@ commands =
     command.SwReset ∷
     []
 
+-- the state command of a number, or the refusal UnknownNumber
 unfoldable pub read_command : ℕ → Result NmtStateCommand Refusal
 read_command n = read_by command_number Ok (Err UnknownNumber) commands n
 
--- DS 301, Appendix 3.7: 0x60 to 0x7F
+-- a managing command's number, within 0x60 to 0x7F (DS 301, Appendix 3.7)
 abbrev pub managing_number : NmtManagingCommand → ℕ
 managing_number NmtNetHostNameSet = 0x62
 managing_number NmtFlushArpEntry = 0x63
@@ -50,10 +51,11 @@ managing_number NmtFlushArpEntry = 0x63
 abbrev pub managings : List NmtManagingCommand
 managings = NmtNetHostNameSet ∷ NmtFlushArpEntry ∷ []
 
+-- the managing command of a number, or the refusal UnknownNumber
 unfoldable pub read_managing : ℕ → Result NmtManagingCommand Refusal
 read_managing n = read_by managing_number Ok (Err UnknownNumber) managings n
 
--- an event's number is its place in the enum, from 0
+-- an NMT event's number: its place in the enum, from 0 (RULES 4.9)
 abbrev pub event_number : NmtEvent → ℕ
 event_number StartNode = 0
 event_number StopNode = 1
@@ -75,7 +77,7 @@ event_number AllCnsIdentified = 16
 event_number ConfigurationCompleteCnsReady = 17
 event_number AllMandatoryCnsOperational = 18
 
--- all events, in the order of the enum
+-- all NMT events, in the order of the enum
 abbrev pub events : List NmtEvent
 events =
     StartNode ∷
@@ -99,13 +101,15 @@ events =
     AllMandatoryCnsOperational ∷
     []
 
+-- two NMT events are the same
 abbrev pub same_event : NmtEvent → NmtEvent → Bool
 same_event d e = eqb (event_number d) (event_number e)
 
+-- the NMT event of a number, or the refusal UnknownNumber
 unfoldable pub read_event : ℕ → Result NmtEvent Refusal
 read_event n = read_by event_number Ok (Err UnknownNumber) events n
 
--- the event that a received command is: the one of its name
+-- the NMT event that a received state command is: the one of its name
 abbrev pub command_event : NmtStateCommand → NmtEvent
 command_event command.StartNode = StartNode
 command_event command.StopNode = StopNode

@@ -15,6 +15,7 @@ use Rattle.types.specs.declared.frame.cs_state_machine.DllCsEvent.{DllCsEvent}
 use Rattle.types.specs.declared.frame.cs_state_machine.DllCsEvent.TheVariants.{Soc, Preq, Pres, Soa, Asnd}
 use Rattle.types.specs.declared.nmt.events.NmtEvent.TheVariants.{SoAReceived, SocReceived}
 
+-- a message type's number (DS 301, Appendix 3.1; RULES 5.3)
 abbrev pub message_number : MessageType → ℕ
 message_number SoC = 0x01
 message_number PReq = 0x03
@@ -26,10 +27,11 @@ message_number ASnd = 0x06
 abbrev pub messages : List MessageType
 messages = SoC ∷ PReq ∷ PRes ∷ SoA ∷ ASnd ∷ []
 
+-- the message type of a number, or UnknownMessageType where none has it
 unfoldable pub read_message : ℕ → Result MessageType UnknownMessageType
 read_message n = read_by message_number Ok (Err (record {})) messages n
 
--- the event of the cycle of a controlled node: the one of the frame's name
+-- the DLL event that a received frame is: the one of its name
 abbrev pub frame_cs_event : MessageType → DllCsEvent
 frame_cs_event SoC = Soc
 frame_cs_event PReq = Preq
@@ -37,7 +39,7 @@ frame_cs_event PRes = Pres
 frame_cs_event SoA = Soa
 frame_cs_event ASnd = Asnd
 
--- the NMT event: SoC and SoA have one, the other frames none
+-- the NMT event that a received frame is: SoC and SoA have one, the other frames none
 abbrev pub frame_nmt_event : MessageType → Option NmtEvent
 frame_nmt_event SoC = Some SocReceived
 frame_nmt_event PReq = None

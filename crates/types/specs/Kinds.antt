@@ -90,12 +90,15 @@ error_kinds =
     HeartbeatTimeout ∷
     []
 
+-- the kind of a number, or the refusal UnknownNumber
 unfoldable pub read_kind : ℕ → Result DllErrorKind Refusal
 read_kind n = read_by kind_place Ok (Err UnknownNumber) error_kinds n
 
+-- the kind at a place; LossOfLink where no kind has the place
 abbrev pub kind_at : ℕ → DllErrorKind
 kind_at n = get_or error_kinds n LossOfLink
 
+-- the kinds ks with k in front where the test holds, and ks alone where it does not
 abbrev pub put_if : Bool → DllErrorKind → List DllErrorKind → List DllErrorKind
 put_if true k ks = k ∷ ks
 put_if false k ks = ks
@@ -107,7 +110,9 @@ with_code c (k ∷ ks) = put_if (eqb (kind_code k) c) k (with_code c ks)
 
 -- what a code answers: the place of a kind, or the number of a refusal
 pub data CodeAnswer : Type 0 where
+  -- the place of the one kind that has the code
   kind_number : ℕ → CodeAnswer
+  -- the number of the refusal
   refused_by : ℕ → CodeAnswer
 
 -- of the kinds that have a code: the one kind, or 13, NoSingleKind, where there is none or more
@@ -117,10 +122,11 @@ single [] = refused_by 13
 single (k ∷ []) = kind_number (kind_place k)
 single (k ∷ j ∷ ks) = refused_by 13
 
+-- the kind behind a code (RULES 6.7): of all kinds the one that has it, or 13, NoSingleKind
 unfoldable pub kind_behind : ℕ → CodeAnswer
 kind_behind c = single (with_code c error_kinds)
 
--- the answer
+-- what `from_error_code` answers: the place of a kind, or the number of a refusal
 abbrev pub kind_said : Result DllErrorKind Refusal → CodeAnswer
 kind_said (Ok k) = kind_number (kind_place k)
 kind_said (Err r) = refused_by (refusal_number r)

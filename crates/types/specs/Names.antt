@@ -29,7 +29,7 @@ state_name NmtOperational = codes "Operational"
 state_name NmtCsStopped = codes "CsStopped"
 state_name NmtBasicEthernet = codes "BasicEthernet"
 
--- and with it
+-- a state's name as the standard writes it, in capitals and with its prefix
 abbrev pub standard_state_name : NmtState → List ℕ
 standard_state_name NmtGsOff = codes "NMT_GS_OFF"
 standard_state_name NmtGsInitialising = codes "NMT_GS_INITIALISING"

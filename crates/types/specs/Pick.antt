@@ -8,18 +8,21 @@ abbrev pub pick : {A : Type 0} → Bool → A → A → A
 pick true a b = a
 pick false a b = b
 
+-- both tests hold
 abbrev pub both : Bool → Bool → Bool
 both a b = pick a b false
 
+-- one of the two tests holds, or both
 abbrev pub either : Bool → Bool → Bool
 either a b = pick a true b
 
--- every item of the list passes the test, some item does: by `both` and `either`, the words of the
--- tests here, which std's are not by computation
+-- every item of the list passes the test. It is defined by `both`, as the tests here are; std's is
+-- equal to it, but not by computation
 abbrev pub all_of : {A : Type 0} → (A → Bool) → List A → Bool
 all_of p [] = true
 all_of p (x ∷ xs) = both (p x) (all_of p xs)
 
+-- some item of the list passes the test; defined by `either`, as `all_of` is by `both`
 abbrev pub any_of : {A : Type 0} → (A → Bool) → List A → Bool
 any_of p [] = false
 any_of p (x ∷ xs) = either (p x) (any_of p xs)

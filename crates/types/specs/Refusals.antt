@@ -4,6 +4,7 @@ use Rattle.std.specs.Prelude.{ℕ, List, codes}
 use Rattle.types.specs.declared.refusals.Refusal.{Refusal}
 use Rattle.types.specs.declared.refusals.Refusal.TheVariants.{NodeNumber, QueueCapacity, WatchedNodes, UnknownNumber, TimeLimit, BeforeHeard, NotWatched, ReadyToOperate, AllWatched, AlreadyWatched, BufferTooShort, ProfileLimit, NoSingleKind, ThresholdLimit, RecipeLimits, NotPreOperational2, NoWeight, FrameTooShort, OtherEtherType, OtherMessageType, EarliestAfterLatest}
 
+-- a refusal's number (RULES 2)
 abbrev pub refusal_number : Refusal → ℕ
 refusal_number NodeNumber = 1
 refusal_number QueueCapacity = 2
@@ -27,7 +28,7 @@ refusal_number OtherEtherType = 19
 refusal_number OtherMessageType = 20
 refusal_number EarliestAfterLatest = 21
 
--- the bytes of its text
+-- a refusal's text, as bytes
 abbrev pub refusal_text : Refusal → List ℕ
 refusal_text NodeNumber = codes "the node's number is not 1 to 240, 253, 254 or 255"
 refusal_text QueueCapacity = codes "the emergency queue is to hold more than 32 entries"

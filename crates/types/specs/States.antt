@@ -9,6 +9,7 @@ use Rattle.std.specs.declared.result.Result.{Result}
 use Rattle.std.specs.declared.result.Result.TheVariants.{Ok, Err}
 use Rattle.types.specs.declared.refusals.Refusal.{Refusal}
 
+-- an NMT state's number (DS 301, Appendix 3.6; RULES 4.8)
 abbrev pub state_number : NmtState → ℕ
 state_number NmtGsOff = 0x00
 state_number NmtGsInitialising = 0x19
@@ -38,7 +39,7 @@ state_place NmtOperational = 9
 state_place NmtCsStopped = 10
 state_place NmtBasicEthernet = 11
 
--- all states, in the order of the enum
+-- all NMT states, in the order of the enum
 abbrev pub states : List NmtState
 states =
     NmtGsOff ∷
@@ -55,8 +56,10 @@ states =
     NmtBasicEthernet ∷
     []
 
+-- two NMT states are the same
 abbrev pub same_state : NmtState → NmtState → Bool
 same_state s t = eqb (state_number s) (state_number t)
 
+-- the NMT state of a number, or the refusal UnknownNumber
 unfoldable pub read_state : ℕ → Result NmtState Refusal
 read_state n = read_by state_number Ok (Err UnknownNumber) states n

@@ -13,10 +13,11 @@ use Rattle.std.specs.declared.option.Option.TheVariants.{Some, None}
 use Rattle.watched.specs.declared.nodes.Seen.{Seen}
 use Rattle.watched.specs.declared.nodes.Seen.TheVariants as seen
 
--- the node that three words stand for, and the one at place i of the words
+-- the node that a record of three words stands for
 abbrev pub node_of : NodeRecord → WatchedNode
 node_of r = watched_node r.node r.timeout r.last_heard
 
+-- the node in the three words at place i: its number, its timeout and its last-heard time
 abbrev pub node_at : List ℕ → ℕ → WatchedNode
 node_at ns i = watched_node (get_or ns (3 * i) 0) (get_or ns (3 * i + 1) 0) (get_or ns (3 * i + 2) 0)
 
@@ -42,8 +43,8 @@ abbrev pub rising : ℕ → List WatchedNode → Bool
 rising n [] = true
 rising n (w ∷ ws) = both (both (ltb n w.node) (fits w)) (rising w.node ws)
 
--- the nodes climb behind the number n: each number is above the one before, and all times are
--- within their limits; whether a number is a node's is not tried
+-- behind the number n: each number is above the one before, and all times are within their limits;
+-- whether a number is a node's is not tried
 abbrev pub well_ordered : ℕ → List WatchedNode → Bool
 well_ordered n [] = true
 well_ordered n (w ∷ ws) = both (both (ltb n w.node) (timed w)) (well_ordered w.node ws)
@@ -52,12 +53,12 @@ well_ordered n (w ∷ ws) = both (both (ltb n w.node) (timed w)) (well_ordered w
 abbrev pub numbered : WatchedNode → Bool
 numbered w = is_node w.node
 
--- The walks carry the earliest moment at which a node would be late as a number; 2^64 − 1, which is
--- no node's moment, stands for none.
+-- 2^64 − 1. The walks carry the earliest moment at which a node would be late as a number, where
+-- this one, which is no node's moment, stands for none
 abbrev pub never : ℕ
 never = 18446744073709551615
 
--- the moment that such a number stands for
+-- the moment that such a number stands for, or none
 abbrev pub moment_of : ℕ → Option ℕ
 moment_of n = pick (eqb n never) None (Some n)
 

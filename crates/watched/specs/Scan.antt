@@ -32,17 +32,17 @@ three_before w = sum_of (one_less w.timeout) (one_less w.last_heard)
 abbrev pub scanned : ℕ → ℕ → ℕ → ℕ → Scanned
 scanned p n t s = record { place = p; last = n; times = t; soonest = s }
 
--- what it knows behind one more node
+-- what the walk knows behind one more node
 abbrev pub over : Scanned → WatchedNode → Scanned
 over c w = scanned (c.place + 1) w.node (bit_or (bit_or c.times w.timeout) w.last_heard) (min c.soonest (three_before w))
 
--- the walk over nodes as long as their numbers climb, up to the number m
+-- the walk over nodes as long as each number is above the one before, up to the node of number m
 abbrev pub scan_of : ℕ → Scanned → List WatchedNode → Scanned
 scan_of m c [] = c
 scan_of m c (w ∷ ws) = pick (leb w.node c.last) c (pick (eqb w.node m) c (scan_of m (over c w) ws))
 
--- the soonest moment of nodes that climb behind the number n, where s is the soonest so far; none
--- where they do not climb
+-- the soonest moment of nodes that are in order behind the number n, where s is the soonest so far;
+-- none where they are not in order
 abbrev pub scanned_of : ℕ → ℕ → List WatchedNode → Option ℕ
 scanned_of n s ws = pick (well_ordered n ws) (Some (soonest s ws)) None
 
@@ -51,6 +51,7 @@ abbrev pub first_heard : ℕ → List WatchedNode → List WatchedNode
 first_heard t [] = []
 first_heard t (w ∷ ws) = heard_now t w ∷ ws
 
--- the soonest moment of nodes that climb behind the number n, with the first of them heard at t
+-- the soonest moment of nodes that are in order behind the number n, with the first of them heard
+-- at t; none where they are not in order
 abbrev pub heard_scanned : ℕ → ℕ → ℕ → List WatchedNode → Option ℕ
 heard_scanned n s t ws = pick (well_ordered n ws) (Some (soonest s (first_heard t ws))) None

@@ -15,6 +15,7 @@ watched_places = 32
 abbrev pub latest : ℕ
 latest = 4611686018427387903
 
+-- a time in µs is at most 2^62 − 1
 abbrev pub in_time : ℕ → Bool
 in_time t = leb t latest
 
@@ -32,19 +33,19 @@ timed w = both (in_time w.timeout) (in_time w.last_heard)
 abbrev pub fits : WatchedNode → Bool
 fits w = both (is_node w.node) (timed w)
 
--- the watched nodes are well formed: at most 32, ascending, each within its limits
+-- the watched nodes are well formed (RULES 8.2): at most 32, ascending, each within its limits
 unfoldable pub well_formed : List WatchedNode → Bool
 well_formed ws = both (leb (length ws) watched_places) (both (ascending ws) (all_of fits ws))
 
--- a node by its number, its timeout and the time it was last heard
+-- a node by its number, its timeout and the time it was last heard, both in µs
 abbrev pub watched_node : ℕ → ℕ → ℕ → WatchedNode
 watched_node n t h = record { node = n; timeout = t; last_heard = h }
 
--- the node with its last-heard time set
+-- the node with its last-heard time set to the time t
 abbrev pub heard_now : ℕ → WatchedNode → WatchedNode
 heard_now t w = watched_node w.node w.timeout t
 
--- a node has the number
+-- one of the nodes has the number n
 abbrev pub is_watched : ℕ → List WatchedNode → Bool
 is_watched n ws = any_of (λ (w : WatchedNode). eqb w.node n) ws
 
@@ -62,10 +63,11 @@ place_of n (w ∷ ws) = pick (eqb w.node n) 0 (suc (place_of n ws))
 abbrev pub unheard : List WatchedNode → List WatchedNode
 unheard ws = map (heard_now 0) ws
 
--- the nodes that an array and a count stand for: its first ones; past the array `no_node` is read
+-- a node of zeros, which is read past the end of an array of nodes
 abbrev pub no_node : WatchedNode
 no_node = watched_node 0 0 0
 
+-- the first k nodes of an array; past its end `no_node` is read
 abbrev pub watched_of : List WatchedNode → ℕ → List WatchedNode
 watched_of ns k = listed (λ i. get_or ns i no_node) k
 
@@ -74,6 +76,7 @@ pub record Run : Type 0 where
   pub places : List WatchedNode
   pub number : ℕ
 
+-- the run of these places, of which the first k are watched
 abbrev pub run : List WatchedNode → ℕ → Run
 run ns k = record { places = ns; number = k }
 
@@ -90,9 +93,11 @@ well_lent r = both (eqb (length r.places) watched_places) (well_formed (watching
 abbrev pub first : (List WatchedNode → List WatchedNode) → ℕ → List WatchedNode → List WatchedNode
 first f k ns = f (take k ns) ++ drop k ns
 
+-- the first k nodes with that of number n heard at t; the places behind stay
 abbrev pub heard_first : ℕ → ℕ → ℕ → List WatchedNode → List WatchedNode
 heard_first n t = first (heard_at n t)
 
+-- the first k nodes as start leaves them, never heard; the places behind stay
 abbrev pub unheard_first : ℕ → List WatchedNode → List WatchedNode
 unheard_first = first unheard
 
@@ -100,11 +105,12 @@ unheard_first = first unheard
 abbrev pub changing : (List WatchedNode → List WatchedNode) → Run → Run
 changing f r = run (first f r.number r.places) r.number
 
--- a node put in its place among ascending ones, and the nodes without that of number n
+-- a node put in its place among ascending ones
 abbrev pub inserted : WatchedNode → List WatchedNode → List WatchedNode
 inserted v [] = v ∷ []
 inserted v (w ∷ ws) = pick (ltb v.node w.node) (v ∷ w ∷ ws) (w ∷ inserted v ws)
 
+-- the nodes without that of the number n
 abbrev pub without : ℕ → List WatchedNode → List WatchedNode
 without n [] = []
 without n (w ∷ ws) = pick (eqb w.node n) ws (w ∷ without n ws)

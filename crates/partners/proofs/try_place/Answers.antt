@@ -24,8 +24,8 @@ returns-then-watched c f w e =
     let x = found_some c.args.watched f w e _ s in
     search (rules, tests, x)
 
-pub returns-then-number-ge32 : goal.returns-then-number-ge32
-returns-then-number-ge32 c f w e =
+pub returns-then-number-ge-WATCHED_PLACES : goal.returns-then-number-ge-WATCHED_PLACES
+returns-then-number-ge-WATCHED_PLACES c f w e =
     let s : c.args.watched ≡ Some c.in_ok-watched.watched = search rules in
     let x = found_some c.args.watched f w e _ s in
     search (rules, tests, x)

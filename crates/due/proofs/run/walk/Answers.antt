@@ -42,4 +42,4 @@ returns c =
     let vs = a.nodes.now in
     let h : a.number ≤ l.w-index = omega (arith, c.loop-w-test.false, length-take-le a.number vs (omega arith)) in
     sym (l.invariant
-    ∙ walk_ends l.walk (drop l.w-index (take a.number vs)) (at_end vs a.number c.if-nodes-ne32.false c.if-number-gt32.false l.w-index h))
+    ∙ walk_ends l.walk (drop l.w-index (take a.number vs)) (at_end vs a.number c.if-nodes-ne-WATCHED_PLACES.false c.if-number-gt-WATCHED_PLACES.false l.w-index h))

@@ -4,7 +4,7 @@
 use Rattle.std.proofs.Common.{rules, ◌≡◌, Err, Some, None, refl}
 use Rattle.std.specs.Prelude.{true}
 use Rattle.types.specs.declared.refusals.Refusal.TheVariants.{WatchedNodes}
-use Rattle.lent.proofs.DecidedLaws.{heard_unformed, heard_refused, heard_done}
+use Rattle.lent.proofs.Found.{heard_unformed, heard_refused, heard_done}
 use Rattle.lent.proofs.calls.heard.Goals as goal
 
 pub returns-in_err-found : goal.returns-in_err-found

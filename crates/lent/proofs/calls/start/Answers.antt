@@ -2,7 +2,7 @@
 -- what a walk sets.
 -- Assumes nothing.
 use Rattle.std.proofs.Common.{rules, ◌≡◌, Err}
-use Rattle.lent.proofs.DecidedLaws.{start_done, start_refused}
+use Rattle.lent.proofs.Found.{start_done, start_refused}
 use Rattle.lent.proofs.calls.start.Goals as goal
 
 pub returns-in_err-begin : goal.returns-in_err-begin

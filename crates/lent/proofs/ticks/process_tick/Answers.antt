@@ -5,7 +5,7 @@ use mathlib.Core.Path.{sym, ap, ◌∙◌}
 use Rattle.std.proofs.Common.{rules, ◌≡◌, Err, Some, None}
 use Rattle.types.specs.declared.refusals.Refusal.TheVariants.{WatchedNodes}
 use Rattle.node.specs.Heartbeats.{checks_heartbeats}
-use Rattle.lent.proofs.DecidedLaws.{tick_unformed, tick_unasked, tick_late, tick_before, tick_accepted}
+use Rattle.lent.proofs.Found.{tick_unformed, tick_unasked, tick_late, tick_before, tick_accepted}
 use Rattle.lent.proofs.ticks.process_tick.Goals as goal
 
 pub returns-in_err-found : goal.returns-in_err-found

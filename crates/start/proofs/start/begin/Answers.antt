@@ -6,8 +6,8 @@ use Rattle.std.proofs.Common.{rules, tests, Err}
 use Rattle.start.proofs.Starting.{read_is, no_node, begins_declined, begins_taken}
 use Rattle.start.proofs.start.begin.Goals as goal
 
-pub returns-then-setup-gt32 : goal.returns-then-setup-gt32
-returns-then-setup-gt32 c =
+pub returns-then-setup-gt-QUEUE_PLACES : goal.returns-then-setup-gt-QUEUE_PLACES
+returns-then-setup-gt-QUEUE_PLACES c =
     let known = (read_is c.args.setup.node _ (sym c.try_from.ensures ∙ c.in_ok-node_id.was)).0 in
     begins_declined _ _ _ _ (search (rules, tests, known))
 
