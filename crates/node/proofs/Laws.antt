@@ -24,7 +24,7 @@ use Rattle.types.specs.declared.frame.error.types.DllError.{DllError}
 use Rattle.nmt.specs.Resets.{Passed, is_reset}
 use Rattle.nmt.specs.Nmt as Nmt
 use Rattle.dll.specs.Dll as Dll
-use Rattle.dll.specs.declared.cs_state_machine.DllAnswer.{DllAnswer}
+use Rattle.types.specs.declared.frame.error.types.DllErrors.{DllErrors}
 use Rattle.counters.specs.Counters.{handled, completed, HandledError, CompletedCycle}
 use Rattle.counters.specs.Marks.{error_marks, cycle_marks}
 use Rattle.entries.specs.Ring.{nth, rest}

@@ -39,17 +39,16 @@ use Rattle.entries.specs.declared.emergency_queue.EmergencyQueue.{EmergencyQueue
 use Rattle.entries.specs.Queue.{HandedOut}
 use Rattle.entries.proofs.Lists.{handed_capacity}
 use Rattle.head.specs.Head.{Head, head_with_errors, head_with_queue}
-use Rattle.head.specs.declared.state.SocWatch.{SocWatch}
 use Rattle.node.specs.Plain.{Call, nmt_event, dll_event, error, cycle_complete, withdraw, hand_out, arm, Answer, refused, taken, nmt_answer, dll_answer, error_answer, cycle_answer, hand_out_answer}
 use Rattle.watched.specs.Watched.{in_time}
-use Rattle.node.specs.Steps.{Test, tried, no_run, armed}
+use Rattle.node.specs.Steps.{Test, tried, no_run}
 use Rattle.node.specs.Refines.{left, Refines}
 use Rattle.node.proofs.Laws.{Alone, forgetting_if, nmt_taken_lem, dll_taken_lem, error_taken_lem, cycle_taken_lem, withdraw_taken, withdraw_refused, arm_taken, hand_out_taken}
 use Rattle.node.specs.declared.calls.NmtTaken.{NmtTaken}
 use Rattle.counters.specs.declared.counters.ErrorTaken.{ErrorTaken}
 use Rattle.head.specs.Places as at
-use Rattle.head.specs.Words.{word, one, state_of, nmt_of, dll_state, counter_at, errors_of, soc_of, od_of, queue_of, head_of}
-use Rattle.head.specs.Written.{nmt_written, levels_written, soc_written, queue_written}
+use Rattle.head.specs.Words.{word, one, state_of, nmt_of, counter_at, errors_of, queue_of, head_of}
+use Rattle.head.specs.Written.{nmt_written, levels_written, queue_written}
 use Rattle.node.specs.InPlace.{InPlace, withdraw_words, reset_words, processed_words, Processed, nmt_words, dll_outcome_of, dll_event_words, DllProcessed, dll_words, effect_words, error_words, cycle_words, armed_words, arm_words, hand_out_words}
 use Rattle.head.proofs.Laws.{nmt_written_lem, forgotten_written_lem, ready_written, dll_written, counter_written_lem, links_written, levels_written_lem, soc_written_lem, queue_written_lem}
 

@@ -1,7 +1,7 @@
 -- What a tick does behind the heartbeats (RULES 7.5 to 7.8): the basic timeout, the deadline and
 -- the SoC check.
 -- Assumes nothing.
-use Rattle.std.specs.Prelude.{ℕ, ◌+◌, ◌-◌, ◌*◌, ◌/◌, min, Bool, true, false, [], leb, ltb}
+use Rattle.std.specs.Prelude.{ℕ, ◌+◌, ◌-◌, ◌*◌, ◌/◌, min, Bool, false, [], leb, ltb}
 use Rattle.types.specs.Pick.{pick, both}
 use Rattle.types.specs.States.{same_state}
 use Rattle.types.specs.declared.nmt.states.NmtState.TheVariants.{NmtNotActive}

@@ -1,7 +1,7 @@
 -- The DLL events of which the errors are handled: the SocTimeout of the SoC check (RULES 7.8), and
 -- those of frames (RULES 13.4).
 -- Assumes nothing.
-use Rattle.std.specs.Prelude.{ℕ, ◌+◌, Bool, true, List, [], ◌∷◌, ◌++◌, ltb, length, take}
+use Rattle.std.specs.Prelude.{ℕ, Bool, true, List, [], ◌∷◌, ◌++◌, ltb, length, take}
 use Rattle.types.specs.Pick.{pick}
 use Rattle.types.specs.declared.frame.cs_state_machine.DllCsEvent.{DllCsEvent}
 use Rattle.types.specs.declared.frame.error.types.DllError.{DllError}
