@@ -15,8 +15,8 @@ use Rattle.types.specs.declared.frame.error.types.DllErrors.{DllErrors}
 use Rattle.dll.specs.Dll as Dll
 use Rattle.dll.specs.declared.cs_state_machine.DllCsState.{DllCsState}
 use Rattle.dll.specs.declared.cs_state_machine.DllCsState.TheVariants.{NonCyclic, WaitSoc, WaitPreq, WaitSoa}
-use Rattle.head.specs.Head.{Head}
-use Rattle.head.specs.Words.{head_of}
+use Rattle.head.specs.Places as at
+use Rattle.head.specs.Words.{word, state_of, dll_state, head_of}
 use Rattle.head.proofs.Laws.{dll_written}
 use Rattle.node.specs.Plain.{Plain}
 use Rattle.node.specs.Steps.{with_dll, dll_outcome}
@@ -66,7 +66,7 @@ pub reports_quiet :
     DllProcessed ws e true es ws' →
     all_of is_quiet (reported es) ≡ true
 reports_quiet ws e es ws' r =
-    ap (all_of is_quiet) r.errors ∙ events_quiet (head_of ws).dll.state e (head_of ws).nmt.current_state
+    ap (all_of is_quiet) r.errors ∙ events_quiet (dll_state (word ws at.dll)) e (state_of (word ws at.state))
 
 -- the event, and the walk over its errors
 module _ (ws : List ℕ) (long : length ws ≡ 60) (e : DllCsEvent) (es : DllErrors) (ws₁ : List ℕ) (r : DllProcessed ws e true es ws₁) where

@@ -4,29 +4,22 @@
 use Prim.Native.Nat.{ℕ, ◌-◌, ◌<◌, ◌≤◌, min}
 use mathlib.Core.Path.{◌≡◌, sym, ap, ap₂, subst, ◌∙◌}
 use mathlib.Core.Bool.{Bool, true, false}
-use mathlib.Core.List.{List, []}
+use mathlib.Core.List.{List}
 use lib.Dec.{ltb, leb}
-use lib.ListN.{length, set}
+use lib.ListN.{set}
 use borrow.Author.Tests.{le-leb, lt-leb}
 use Rattle.types.specs.Pick.{pick}
-use Rattle.types.specs.Errors.{reported}
-use Rattle.types.specs.declared.frame.error.types.DllError.{DllError}
-use Rattle.types.specs.declared.frame.error.types.DllErrors.{DllErrors}
 use Rattle.types.specs.declared.frame.error.types.DllErrors.TheVariants as errors
 use Rattle.types.specs.declared.frame.cs_state_machine.DllCsEvent.TheVariants.{SocTimeout}
-use Rattle.dll.specs.Dll as Dll
-use Rattle.dll.specs.declared.cs_state_machine.DllAnswer.{DllAnswer}
 use Rattle.head.specs.declared.state.Deadline.TheVariants.{At, Nothing}
-use Rattle.head.specs.Head.{Head}
 use Rattle.node.specs.Steps.{limit_of}
 use Rattle.node.specs.DllErrors.{on_dll_event}
 use Rattle.node.specs.Deadline.{with_deadline, rescheduled, within_limit, is_loss, lost, soc_check, at_not_active, sets_basic, times_out, by_deadline}
 use Rattle.node.specs.Refines.{plain}
 use Rattle.tick.proofs.DeadlineLaws.{lose_ends, lose_goes_on, check_none, check_lost, check_within, none_stands, basic_set, not_passed, passed_idle, passed_check}
 use Rattle.head.specs.Places as at
-use Rattle.head.specs.Words.{word, state_of, dll_state, soc_of, od_of, head_of}
+use Rattle.head.specs.Words.{soc_of, od_of, head_of}
 use Rattle.head.specs.Written.{deadline_written}
-use Rattle.head.proofs.Laws.{dll_written}
 use Rattle.phases.specs.declared.PhaseOutcome.{PhaseOutcome}
 use Rattle.tick.specs.TickWords.{unlent, rescheduled_words, within_words, after_loss_words, on_dll_event_words, lost_words, check_words, basic_words, timeout_words, passed_words, deadline_words}
 use Rattle.phases.specs.PartsIn.{Turns, outcome_of, TicksIn}
