@@ -3,11 +3,11 @@
 use Prim.Native.Nat.{ℕ}
 use mathlib.Core.Path.{◌≡◌, refl, sym, ap, ap₂, subst, ◌∙◌}
 use mathlib.Core.Bool.{Bool, true, false}
-use mathlib.Core.List.{List, []}
+use mathlib.Core.List.{List}
 use lib.ListN.{length}
 use Rattle.types.specs.Pick.{pick}
 use Rattle.types.specs.Frames.{frame_cs_event}
-use Rattle.types.specs.Events.{event_number, read_event}
+use Rattle.types.specs.Events.{event_number}
 use Rattle.types.specs.Refusals.{refusal_number}
 use Rattle.types.specs.declared.refusals.Refusal.{Refusal}
 use Rattle.types.specs.declared.refusals.Refusal.TheVariants.{TimeLimit}
@@ -22,11 +22,11 @@ use Rattle.frames.specs.declared.Message.{Message}
 use Rattle.frames.specs.declared.Message.TheVariants.{SoC}
 use Rattle.frames.specs.declared.Frame.{Frame}
 use Rattle.frames.specs.Frame.{message_type, nmt_event_of, read_frame}
-use Rattle.head.specs.Words.{nmt_of, soc_of, od_of, head_of}
+use Rattle.head.specs.Words.{nmt_of, head_of}
 use Rattle.head.proofs.Laws.{soc_written_lem}
 use Rattle.watched.specs.Watched.{in_time}
 use Rattle.node.specs.Plain.{Plain, Answer, refused, not_ours, frame_answer, Step}
-use Rattle.node.specs.Steps.{no_run, answers, declines, with_soc, nmt_step, armed}
+use Rattle.node.specs.Steps.{no_run, answers, declines, nmt_step, armed}
 use Rattle.node.specs.Phases.{Ticked}
 use Rattle.node.specs.DllErrors.{on_dll_event}
 use Rattle.node.specs.FrameSteps.{is_ours, received, with_event, reply_to, arms, stops, follows, frame_taken, by_frame, frame_step}

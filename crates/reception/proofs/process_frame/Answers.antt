@@ -13,6 +13,13 @@ returns-in_err-frame c =
     let r : c.from_residual.result ≡ Err c.in_err-frame.field-0.0 = search rules in
     rw r (unread a.head.now a.queue.now a.history.now a.time a.bytes.now c.in_err-frame.field-0.0 (sym c.read.ensures ∙ c.in_err-frame.was))
 
+pub returns-in_err-time : goal.returns-in_err-time
+returns-in_err-time c =
+    let a = c.args in
+    let r : c.from_residual-in_err-time.result ≡ Err c.in_err-time.field-0.0 = search rules in
+    rw (r, c.in_err-time.ensures.0)
+    (too_late a.head.now a.queue.now a.history.now a.time a.bytes.now c.in_ok-frame.frame (sym c.read.ensures ∙ c.in_ok-frame.was) c.in_err-time.ensures.1)
+
 pub returns-then-not-is_ours : goal.returns-then-not-is_ours
 returns-then-not-is_ours c =
     let a = c.args in
