@@ -36,7 +36,7 @@ use Rattle.head.specs.declared.state.SocWatch.{SocWatch}
 use Rattle.node.specs.Plain.{Plain, not_ours, EventMade, made, Step}
 use Rattle.node.specs.Steps.{no_run, answers, declines, with_nmt, with_dll, with_errors, dll_outcome, forgets, armed, cycle_of}
 use Rattle.node.specs.Phases.{Ticked, acts, signalled}
-use Rattle.node.specs.DllErrors.{counter1, kept, dropped_one, queued, on_dll_error, on_dll_errors, on_dll_event}
+use Rattle.node.specs.DllErrors.{counter1, kept, dropped_one, queued, on_dll_error, on_dll_errors}
 use Rattle.node.specs.FrameSteps.{is_ours, received, with_event, made_by, arms, stops, follows, frame_taken, by_frame, frame_step}
 use Rattle.trace.specs.Tally.{Orders, orders_made, handed_by}
 use Rattle.trace.proofs.Modes.{mode, mode_event}
