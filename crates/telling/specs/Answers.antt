@@ -25,7 +25,6 @@ use Rattle.entries.specs.declared.status_response.ErrorEntry.{ErrorEntry}
 use Rattle.node.specs.declared.calls.NmtTaken.{NmtTaken}
 use Rattle.node.specs.declared.range.SocVerdict.{SocVerdict}
 use Rattle.node.specs.declared.range.SocVerdict.TheVariants as verdict
-use Rattle.reception.specs.declared.FrameTaken.{FrameTaken}
 use Rattle.reception.specs.declared.FrameAnswer.{FrameAnswer}
 use Rattle.reception.specs.declared.FrameAnswer.TheVariants.{NotOurs, Ours}
 use Rattle.calling.specs.declared.Answer.{Answer}

@@ -120,10 +120,12 @@ impl Display for FrameForm {
     fn fmt<W: fmt::Write>(&self, f: &mut fmt::Formatter<W>) -> fmt::Result {
         match self.0 {
             FrameAnswer::NotOurs => write!(f, " not_ours"),
-            FrameAnswer::Ours(FrameTaken {
-                logged,
-                nmt: Some(nmt),
-            }) => write!(f, " (logged{}){}", ErrorsForm(logged), NmtForm(nmt)),
+            FrameAnswer::Ours(
+                FrameTaken {
+                    logged,
+                    nmt: Some(nmt),
+                },
+            ) => write!(f, " (logged{}){}", ErrorsForm(logged), NmtForm(nmt)),
             FrameAnswer::Ours(FrameTaken { logged, nmt: None }) => {
                 write!(f, " (logged{}) (errors)", ErrorsForm(logged))
             }
