@@ -121,9 +121,14 @@ on_dll_errors_lem t p (e ∷ es) =
     (on_dll_error_by_lem p (error_marks p.errors e) (crosses p.errors e) (crossing_entry e t) (handled p.errors e))
     (on_dll_errors_lem t (on_dll_error t p e).head es)
 
--- the errors of the check leave the deadline
+-- the errors of a DLL event leave the deadline, and an action puts the check off
 pub on_dll_errors_deadline : (t : ℕ) (p : Plain) (es : List DllError) → (on_dll_errors t p es).head.soc.next_tick_us ≡ p.soc.next_tick_us
 on_dll_errors_deadline t p es = (on_dll_errors_lem t p es).deadline
+
+pub on_dll_errors_check :
+    (t : ℕ) (p : Plain) (es : List DllError) → (on_dll_errors t p es).ended ≡ true →
+    (on_dll_errors t p es).head.soc.soc_timeout_check_active ≡ false
+on_dll_errors_check t p es h = (on_dll_errors_lem t p es).ends h
 
 -- the cycles that have begun end at most one cycle after now, and after it
 pub ahead : (e k : ℕ) → (e / k + 1) * k ≤ e + k
