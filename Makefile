@@ -52,11 +52,12 @@ test: kit
 	@echo "Checking the script that replay is run on."
 	@compare/joined.sh --check
 	@echo "Proving every crate, trying the must-fail edits, running the programs; where this machine has proved the same files before, that takes half a"
-	@echo "minute. Behind it, silent where all is as expected, the program of shift totals on stored and generated inputs, and the page on the watch."
+	@echo "minute. Behind it, silent where all is as expected, the program of shift totals on stored and generated inputs, the page on the watch, and names and traces."
 	@scripts/gate.sh
 	@scripts/build.sh --built replay shiftreport
 	@tests/shiftreport.py >target/shift.log || { cat target/shift.log; exit 1; }
 	@tests/watch.py --quiet
+	@tests/replay.py --quiet
 
 twins: kit
 	@tests/twins.py

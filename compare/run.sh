@@ -36,9 +36,10 @@ for script in "$here"/scripts/*.txt; do
     "$programs/oracle" replay <"$script" >"$printed"
     hold "$name" "$printed" "compare/scripts/$name.out"
 done
-# The scripts as `rt ci` gives them to `replay`.
+# The scripts as `rt ci` gives them to `replay`, with what the Rust does not read behind them.
 "$here/joined.sh" "${mode:---check}"
 printed="$root/target/compare/replay.out"
-"$programs/oracle" replay <"$root/crates/replay/stdin" >"$printed"
+"$here/joined.sh" --oracle | "$programs/oracle" replay >"$printed"
+"$here/joined.sh" --own >>"$printed"
 hold replay "$printed" crates/replay/stdout
 exit $failed

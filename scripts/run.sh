@@ -6,7 +6,7 @@ script=$1
 shift
 # Status 1: a line of the script can't be read; its answer says so.
 "${@:-target/bin/replay}" <"$script" >target/run.out || [ $? -eq 1 ]
-# A comment, an empty line, a run and a desk answer nothing. `show` answers its first form and those behind it up to the next answer, which begins with one of four words.
+# A comment, an empty line, a run and a desk answer nothing. `show` answers its first form and those behind it up to the next answer, which begins with one of five words.
 awk -v answers=target/run.out '
     function more() {
         if (!read) read = (getline answer <answers)
@@ -19,5 +19,5 @@ awk -v answers=target/run.out '
             if (!more()) exit 1
             print "    " answer
             read = 0
-        } while ($0 == "show" && more() && answer !~ /^\((taken|refused|unreadable|nmt)[ )]/)
+        } while ($0 == "show" && more() && answer !~ /^\((taken|refused|unreadable|nmt|why)[ )]/)
     }' "$script"

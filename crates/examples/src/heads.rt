@@ -22,9 +22,9 @@ use head::dictionary::set_od;
 use head::errors::{set_counter, set_thresholds};
 use head::machines::{set_dll, set_identity, set_nmt};
 use head::memory::{set_capacity, set_history, set_queue};
+use head::state::{Deadline, Dictionary, Head, SocWatch};
 use head::watch::{set_earliest, set_soc};
 use head::words::clear;
-use head::state::{Deadline, Dictionary, Head, SocWatch};
 use nmt::cn_state_machine::{CnNmtStateMachine, Position};
 use types::nmt::flags::FeatureFlags;
 use types::nmt::states::NmtState;
@@ -118,7 +118,11 @@ pub fn counting(
     let od = values(0, 0, 0, 0, 0);
     write(head, OPERATIONAL, od);
     set_counter(head, CounterKind::LossOfSoc, counter(socs, crossings, soc));
-    set_counter(head, CounterKind::HeartbeatTimeout, counter(missed, 0, missed_level));
+    set_counter(
+        head,
+        CounterKind::HeartbeatTimeout,
+        counter(missed, 0, missed_level),
+    );
 }
 
 /// The same where a watched node would be late at a time, with errors and level of

@@ -7,8 +7,8 @@ use head::dictionary::od_of;
 use head::errors::errors_of;
 use head::machines::{dll_of, nmt_of};
 use head::memory::{history_of, queue_of};
-use head::watch::{earliest_of, soc_of};
 use head::state::Head;
+use head::watch::{earliest_of, soc_of};
 
 /// Whether two heads are the same, part by part.
 pub fn same_head(a: &Head, b: &Head) -> bool

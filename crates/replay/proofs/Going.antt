@@ -5,16 +5,17 @@ use Rattle.std.specs.Io.BufRead.{first_piece, strip_last, take_through, drop_thr
 use Rattle.std.specs.Io.KnownBytes.{Appends, Keeps, IsAtEnd}
 use Rattle.script.specs.declared.Line.{Line}
 use Rattle.script.specs.Grammar.{says, line_says}
+use Rattle.replay.specs.declared.play.Options.{Options}
 use Rattle.replay.specs.declared.station.Station.{Station}
 use Rattle.replay.specs.declared.station.Said.{Said}
-use Rattle.replay.specs.Played.{fresh, said_text, is_played, Plays, Script, ended, goes as next_line}
+use Rattle.replay.specs.Played.{fresh, line_text, is_played, Plays, Script, ended, goes as next_line}
 
 -- the station, the place and the bytes that are left, of a script of which a text was printed so far, and whether each line of it could be played
-pub record Going (bs : List ℕ) (x : Station) (n : ℕ) (rest text : List ℕ) (played : Bool) : Type 0 where
-  pub goes : (page : List ℕ) (whole : Bool) → Script x n rest page whole → Script fresh 1 bs (text ++ page) (played && whole)
+pub record Going (how : Options) (bs : List ℕ) (x : Station) (n : ℕ) (rest text : List ℕ) (played : Bool) : Type 0 where
+  pub goes : (page : List ℕ) (whole : Bool) → Script how x n rest page whole → Script how fresh 1 bs (text ++ page) (played && whole)
 
-pub begins : (bs : List ℕ) → Going bs fresh 1 bs [] true
-begins bs = record { goes = λ page whole s. s }
+pub begins : (how : Options) (bs : List ℕ) → Going how bs fresh 1 bs [] true
+begins how bs = record { goes = λ page whole s. s }
 
 and_behind : (a b c : Bool) → (a && b) && c ≡ a && (b && c)
 and_behind true b c = refl
@@ -25,21 +26,21 @@ and_true true = refl
 and_true false = refl
 
 pub goes_on :
-    {bs rest text : List ℕ} {x y : Station} {n : ℕ} {played : Bool} (l : Line) (o : Said) →
-    Going bs x n rest text played → 0 < length rest → says l ≡ line_says (first_piece 10 rest) → Plays l x o y →
-    Going bs y (n + 1) (drop_through 10 rest) (text ++ said_text o n y) (played && is_played o)
-goes_on {bs} {rest} {text} {x} {y} {n} {played} l o g more reads plays =
+    {how : Options} {bs rest text : List ℕ} {x y : Station} {n : ℕ} {played : Bool} (l : Line) (o : Said) →
+    Going how bs x n rest text played → 0 < length rest → says l ≡ line_says (first_piece 10 rest) → Plays l x o y →
+    Going how bs y (n + 1) (drop_through 10 rest) (text ++ line_text how l o n x y) (played && is_played o)
+goes_on {how} {bs} {rest} {text} {x} {y} {n} {played} l o g more reads plays =
     record {
       goes = λ page whole s.
-          subst (λ (b : Bool). Script fresh 1 bs ((text ++ said_text o n y) ++ page) b) (sym (and_behind played (is_played o) whole))
-          (subst (λ (xs : List ℕ). Script fresh 1 bs xs (played && (is_played o && whole))) (sym (append_assoc text (said_text o n y) page))
-          (g.goes (said_text o n y ++ page) (is_played o && whole) (next_line l o more reads plays s)));
+          subst (λ (b : Bool). Script how fresh 1 bs ((text ++ line_text how l o n x y) ++ page) b) (sym (and_behind played (is_played o) whole))
+          (subst (λ (xs : List ℕ). Script how fresh 1 bs xs (played && (is_played o && whole))) (sym (append_assoc text (line_text how l o n x y) page))
+          (g.goes (line_text how l o n x y ++ page) (is_played o && whole) (next_line l o more reads plays s)));
     }
 
-pub all_of_it : {bs text : List ℕ} {x : Station} {n : ℕ} {played : Bool} → Going bs x n [] text played → Script fresh 1 bs text played
-all_of_it {bs} {text} {x} {n} {played} g =
-    subst (λ (b : Bool). Script fresh 1 bs text b) (and_true played)
-    (subst (λ (xs : List ℕ). Script fresh 1 bs xs (played && true)) (append-nil text) (g.goes [] true ended))
+pub all_of_it : {how : Options} {bs text : List ℕ} {x : Station} {n : ℕ} {played : Bool} → Going how bs x n [] text played → Script how fresh 1 bs text played
+all_of_it {how} {bs} {text} {x} {n} {played} g =
+    subst (λ (b : Bool). Script how fresh 1 bs text b) (and_true played)
+    (subst (λ (xs : List ℕ). Script how fresh 1 bs xs (played && true)) (append-nil text) (g.goes [] true ended))
 
 -- bytes that join those before
 pub none_joins : (known : Option (List ℕ)) → Appends known known []
@@ -59,37 +60,37 @@ keeps (Some xs) (Some ys) None s p q = absurd q
 keeps (Some xs) (Some ys) (Some zs) s p q = q ∙ p
 
 -- The same of a reader with bytes left, and a writer.
-pub record Goes (bs : List ℕ) (left : Option (List ℕ)) (x : Station) (n : ℕ) (played : Bool) (before now : Option (List ℕ)) : Type 0 where
+pub record Goes (how : Options) (bs : List ℕ) (left : Option (List ℕ)) (x : Station) (n : ℕ) (played : Bool) (before now : Option (List ℕ)) : Type 0 where
   pub rest : List ℕ
   pub text : List ℕ
   pub left_is : left ≡ Some rest
   pub written : Appends before now text
-  pub going : Going bs x n rest text played
+  pub going : Going how bs x n rest text played
 
-module _ (x : Station) (n : ℕ) (played : Bool) (before : Option (List ℕ)) where
+module _ (how : Options) (x : Station) (n : ℕ) (played : Bool) (before : Option (List ℕ)) where
   -- a line more was played, and what it prints written
   pub next :
       (first left left' now now' now'' : Option (List ℕ)) (read : List ℕ) (l : Line) (o : Said) (y : Station) (told : Bool) →
       told ≡ is_played o →
-      IfSome first (λ bs. Goes bs left x n played before now) →
+      IfSome first (λ bs. Goes how bs left x n played before now) →
       Keeps now now' →
       IfSome left (λ xs. read ≡ take_through 10 xs) →
       DropsThrough left left' 10 →
       0 < length read →
       says l ≡ line_says (strip_last 10 read) →
       Plays l x o y →
-      Appends now' now'' (said_text o n y) →
-      IfSome first (λ bs. Goes bs left' y (n + 1) (played && told) before now'')
+      Appends now' now'' (line_text how l o n x y) →
+      IfSome first (λ bs. Goes how bs left' y (n + 1) (played && told) before now'')
   next None left left' now now' now'' read l o y told e g k t d more s p a = tt
   next (Some bs) left left' now now' now'' read l o y told e g k t d more s p a =
       let piece : read ≡ take_through 10 g.rest = rw g.left_is at t in
       let behind : left' ≡ Some (drop_through 10 g.rest) = rw g.left_is at d in
       record {
         rest = drop_through 10 g.rest;
-        text = g.text ++ said_text o n y;
+        text = g.text ++ line_text how l o n x y;
         left_is = behind;
-        written = joins before now' now'' g.text (said_text o n y) (keeps before now now' g.text g.written k) a;
-        going = subst (λ (b : Bool). Going bs y (n + 1) (drop_through 10 g.rest) (g.text ++ said_text o n y) (played && b)) (sym e)
+        written = joins before now' now'' g.text (line_text how l o n x y) (keeps before now now' g.text g.written k) a;
+        going = subst (λ (b : Bool). Going how bs y (n + 1) (drop_through 10 g.rest) (g.text ++ line_text how l o n x y) (played && b)) (sym e)
             (goes_on l o g.going (some_left g.rest read piece more) (s ∙ ap (λ (cs : List ℕ). line_says (strip_last 10 cs)) piece) p);
       }
     where
@@ -100,15 +101,15 @@ module _ (x : Station) (n : ℕ) (played : Bool) (before : Option (List ℕ)) wh
   -- nothing is left
   pub finish :
       (first left now now' now'' : Option (List ℕ)) →
-      IfSome first (λ bs. Goes bs left x n played before now) →
+      IfSome first (λ bs. Goes how bs left x n played before now) →
       IsAtEnd left →
       Keeps now now' →
       Keeps now' now'' →
-      IfSome first (λ bs. (page : List ℕ) × Script fresh 1 bs page played × Appends before now'' page)
+      IfSome first (λ bs. (page : List ℕ) × Script how fresh 1 bs page played × Appends before now'' page)
   finish None left now now' now'' g z k k' = tt
   finish (Some bs) left now now' now'' g z k k' =
       let none : g.rest ≡ [] = rw g.left_is at z in (
         g.text,
-        all_of_it (subst (λ (rest : List ℕ). Going bs x n rest g.text played) none g.going),
+        all_of_it (subst (λ (rest : List ℕ). Going how bs x n rest g.text played) none g.going),
         keeps before now' now'' g.text (keeps before now now' g.text g.written k) k',
       )

@@ -14,6 +14,8 @@ use Rattle.types.specs.Events.{read_command}
 use Rattle.types.specs.Kinds.{kind_said, kind_behind}
 use Rattle.entries.specs.Desk.{read_said, read_reply, write_said, write_reply, desk_after}
 use Rattle.entries.specs.declared.status_response.ErrorEntry.{ErrorEntry}
+use Rattle.head.specs.Words.{nmt_of}
+use Rattle.nmt.specs.declared.cn_state_machine.CnNmtStateMachine.{CnNmtStateMachine}
 use Rattle.watched.specs.Watched.{Run, run, no_node}
 use Rattle.watched.specs.declared.nodes.WatchedNode.{WatchedNode}
 use Rattle.bitmap.specs.Bitmap.{BitsWritten, bitmap_said, bitmap_reply}
@@ -30,9 +32,15 @@ use Rattle.script.specs.Grammar.{says, line_says}
 use Rattle.telling.specs.declared.answers.Told.{Told}
 use Rattle.telling.specs.declared.answers.Told.TheVariants as told
 use Rattle.telling.specs.declared.answers.Bitmap.{Bitmap}
+use Rattle.telling.specs.declared.styles.Style.{Style}
 use Rattle.telling.specs.Texts.{joined}
 use Rattle.telling.specs.Answers.{reply_text}
 use Rattle.telling.specs.Shows.{show_text}
+use Rattle.telling.specs.Why.{why_text, position_of}
+use Rattle.telling.specs.Moves.{moved_text}
+use Rattle.telling.specs.declared.moves.Moved.{Moved}
+use Rattle.replay.specs.Traced.{moved}
+use Rattle.replay.specs.declared.play.Options.{Options}
 use Rattle.replay.specs.declared.station.Station.{Station}
 use Rattle.replay.specs.declared.station.Said.{Said}
 use Rattle.replay.specs.declared.station.Said.TheVariants as said
@@ -126,6 +134,7 @@ abbrev pub Tells : {A : Type 0} → (Told → Option A) → (Result A Refusal �
 Tells kind P said.Nothing = ⊥
 Tells kind P said.Unreadable = ⊥
 Tells kind P said.Show = ⊥
+Tells kind P said.Why = ⊥
 Tells kind P (said.Reply r) = MatchResult r.0 (λ t. MatchOption (kind t) ⊥ (λ a. P (Ok a))) (λ e. P (Err e))
 
 -- the answer that a reply tells, if any
@@ -186,6 +195,7 @@ takes (line.State n) x = x.started
 takes (line.Command n) x = x.started
 takes (line.Kind n) x = x.started
 takes line.Show x = x.started
+takes line.Why x = x.started
 
 -- a line that tells nothing, and leaves another station
 abbrev pub Quiet : Station → Said → Station → Type 0
@@ -208,35 +218,61 @@ Does (line.State n) x o y = Tells state_in (λ r. r ≡ read_state n) o × (y �
 Does (line.Command n) x o y = Tells command_in (λ r. r ≡ read_command n) o × (y ≡ x)
 Does (line.Kind n) x o y = Tells kind_in (λ r. kind_said r ≡ kind_behind n) o × (y ≡ x)
 Does line.Show x o y = (o ≡ said.Show) × (y ≡ x)
+Does line.Why x o y = (o ≡ said.Why) × (y ≡ x)
 
 -- a line that is played where it can be; where it can't it is unreadable and changes nothing
 abbrev pub Plays : Line → Station → Said → Station → Type 0
 Plays l x o y = MatchBool (takes l x) (Does l x o y) ((o ≡ said.Unreadable) × (y ≡ x))
 
 -- what `show` prints at a station
-abbrev pub station_text : Station → List ℕ
-station_text x = show_text x.head x.queue x.history (take x.places x.run) x.number x.desk.items
+abbrev pub station_text : Style → Station → List ℕ
+station_text y x = show_text y x.head x.queue x.history (take x.places x.run) x.number x.desk.items
 
--- what a line prints, which is the n-th of the script, counted from 1, and left the station x
-abbrev pub said_text : Said → ℕ → Station → List ℕ
-said_text said.Nothing n x = []
-said_text said.Unreadable n x = joined (codes "(unreadable " ∷ decimal n ∷ codes ")\n" ∷ [])
-said_text (said.Reply r) n x = reply_text r.0
-said_text said.Show n x = station_text x
+-- what `why` prints at a station
+abbrev pub standing_text : Station → List ℕ
+standing_text x = why_text (position_of (nmt_of x.head))
+
+-- what a line is answered, which is the n-th of the script, counted from 1, and left the station x
+abbrev pub said_text : Style → Said → ℕ → Station → List ℕ
+said_text y said.Nothing n x = []
+said_text y said.Unreadable n x = joined (codes "(unreadable " ∷ decimal n ∷ codes ")\n" ∷ [])
+said_text y (said.Reply r) n x = reply_text y r.0
+said_text y said.Show n x = station_text y x
+said_text y said.Why n x = standing_text x
+
+-- where moves are traced, the machine that a line finds
+abbrev pub found_by : Bool → Station → Option CnNmtStateMachine
+found_by true x = Some (nmt_of x.head)
+found_by false x = None
+
+-- how the line moved that machine
+abbrev pub moved_from : Option CnNmtStateMachine → Line → Station → Option Moved
+moved_from None l y = None
+moved_from (Some m) l y = moved l m (nmt_of y.head)
+
+-- what the trace prints of it
+abbrev pub trace_text : Option Moved → List ℕ
+trace_text None = []
+trace_text (Some m) = moved_text m
+
+-- what a line prints that is played from one station to the next
+abbrev pub line_text : Options → Line → Said → ℕ → Station → Station → List ℕ
+line_text how l o n x y = said_text how.style o n y ++ trace_text (moved_from (found_by how.trace x) l y)
 
 -- whether a line could be read and played
 abbrev pub is_played : Said → Bool
 is_played said.Unreadable = false
 is_played o = true
 
--- The bytes of a script from the n-th line on, what is printed of them, and whether each line could
--- be played: each line up to its newline, or to the end, on the station that the last one left.
-pub data Script : Station → ℕ → List ℕ → List ℕ → Bool → Type 0 where
-  ended : {x : Station} {n : ℕ} → Script x n [] [] true
+-- The bytes of a script from the n-th line on, what is printed of them by the options, and whether
+-- each line could be played: each line up to its newline, or to the end, on the station that the
+-- last one left.
+pub data Script (how : Options) : Station → ℕ → List ℕ → List ℕ → Bool → Type 0 where
+  ended : {x : Station} {n : ℕ} → Script how x n [] [] true
   goes :
       {x y : Station} {n : ℕ} {bs page : List ℕ} {whole : Bool} (l : Line) (o : Said) →
       0 < length bs →
       says l ≡ line_says (first_piece 10 bs) →
       Plays l x o y →
-      Script y (n + 1) (drop_through 10 bs) page whole →
-      Script x n bs (said_text o n y ++ page) (is_played o && whole)
+      Script how y (n + 1) (drop_through 10 bs) page whole →
+      Script how x n bs (line_text how l o n x y ++ page) (is_played o && whole)

@@ -10,13 +10,17 @@ use calling::{Answer, Call, make_over_records};
 use entries::desk::{read_at, write_at};
 use entries::sizes::{HistoryBytes, QueueBytes};
 use entries::status_response::ErrorEntry;
+use head::machines::nmt_of;
 use head::state::Head;
 use lent::bits::bitmap;
 use lent::calls::start;
+use nmt::cn_state_machine::CnNmtStateMachine;
 use script::Line;
 use start::start::Setup;
 use telling::answers::{Bitmap, Reply, Told};
 use telling::shows::Shown;
+use telling::styles::Style;
+use telling::why::{Why, position_of};
 use types::frame::error::kinds::DllErrorKind;
 use types::nmt::events::NmtStateCommand;
 use types::nmt::states::NmtState;
@@ -56,6 +60,8 @@ pub enum Said {
     Reply(Reply),
     /// The station is shown.
     Show,
+    /// It is told why its NMT machine is where it is.
+    Why,
 }
 
 impl Said {
@@ -122,8 +128,11 @@ impl Said {
 }
 
 impl Station {
+    ghost use Rattle.head.specs.Words.{nmt_of};
     ghost use Rattle.telling.specs.Shows.{shown_text};
-    ghost use Rattle.replay.specs.Played.{station_text, fresh, Called, Began, Bits, Wrote, Quiet};
+    ghost use Rattle.telling.specs.Why.{why_text};
+    ghost use Rattle.replay.specs.Played.{station_text, standing_text, fresh, Called, Began};
+    ghost use Rattle.replay.specs.Played.{Bits, Wrote, Quiet};
     ghost use Rattle.replay.specs.Played.{watched_in, unwatched, lending, laid, takes, Plays};
 
     /// Nothing has been started, lent or laid on the desk.
@@ -272,14 +281,16 @@ impl Station {
             Line::Command(n) => Said::reply(NmtStateCommand::try_from(n).map(Told::Command)),
             Line::Kind(n) => Said::reply(DllErrorKind::from_error_code(n).map(Told::Kind)),
             Line::Show => Said::Show,
+            Line::Why => Said::Why,
         }
     }
 
     /// What `show` prints.
-    pub fn shown(&self) -> Shown<'_>
-        ensures { shown_text result ≡ station_text self.now }
+    pub fn shown(&self, style: Style) -> Shown<'_>
+        ensures { shown_text result ≡ station_text style self.now }
     {
         Shown {
+            style,
             head: &self.head,
             queue: &self.queue,
             history: &self.history,
@@ -287,5 +298,19 @@ impl Station {
             number: self.number,
             desk: self.desk.as_slice(),
         }
+    }
+
+    /// What `why` prints.
+    pub fn why(&self) -> Why
+        ensures { why_text result.0 ≡ standing_text self.now }
+    {
+        Why(position_of(self.machine()))
+    }
+
+    /// The NMT machine of its head.
+    pub fn machine(&self) -> CnNmtStateMachine
+        ensures { result ≡ nmt_of self.now.head }
+    {
+        nmt_of(&self.head)
     }
 }

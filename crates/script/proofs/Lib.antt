@@ -1,2 +1,4 @@
 pub mod Names
 pub mod Reading
+pub mod Spellings
+pub mod Taking

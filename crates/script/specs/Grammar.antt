@@ -20,6 +20,8 @@ use Rattle.calling.specs.declared.Call.TheVariants as calls
 use Rattle.script.specs.declared.Line.{Line}
 use Rattle.script.specs.declared.Line.TheVariants as line
 use Rattle.script.specs.Reads.{Reads, just, only, ◌>>=◌, optional, ends, first_word, behind_word, up_to, bits8, bits16, bits32, bits64, flag, object}
+use Rattle.script.specs.Numerals.{numeral, event_named, cs_event_named, kind_named, state_named, command_named}
+use Rattle.script.specs.Keys.{by_place, setup_by_keys}
 use Rattle.script.specs.Bytes.{history, desk_bytes, entry_bytes}
 
 -- what a line says: a `Line`, with its bytes themselves
@@ -40,6 +42,7 @@ pub data Reading : Type 0 where
   command : ℕ → Reading
   kind : ℕ → Reading
   show : Reading
+  why : Reading
 
 -- what a line says that is a call: of a load its bytes themselves
 abbrev pub call_says : Call → Reading
@@ -63,6 +66,7 @@ says (line.State n) = state n
 says (line.Command n) = command n
 says (line.Kind n) = kind n
 says line.Show = show
+says line.Why = why
 
 -- a value that is made of one word
 abbrev pub one : {A B : Type 0} → Reads A → (A → B) → Reads B
@@ -80,14 +84,14 @@ three p q r f = p >>= λ a. q >>= λ b. r >>= λ c. just (f a b c)
 abbrev pub carries_byte : ℕ → Bool
 carries_byte k = k == 9 || k == 10 || k == 12 || (nat_le 18 k && nat_le k 21)
 
--- a number that is a byte where it is looked at; any other is read as 0
+-- a number that is a byte where it is read; any other counts as 0
 abbrev pub carried : Bool → Reads ℕ
-carried refreshed_at = if refreshed_at then bits8 else (bits64 >>= λ _. just 0)
+carried is_read = if is_read then bits8 else (bits64 >>= λ _. just 0)
 
 -- the words of `error`: a kind's number, and what an error of that kind carries
 unfoldable pub error : Reads Call
 error = do
-  number ← bits64
+  number ← numeral kind_named
   a ← carried (carries_byte number)
   b ← carried (number == 18)
   just (calls.Error number a b)
@@ -125,9 +129,9 @@ unfoldable pub thresholds : Reads Thresholds
 thresholds [] = Some (same_for_all 15, [])
 thresholds (c ∷ cs) = named_thresholds (c ∷ cs)
 
--- the words of `start`
-unfoldable pub setup : Reads Setup
-setup = do
+-- the words of `start` by place
+unfoldable pub setup_by_place : Reads Setup
+setup_by_place = do
   node ← bits8
   feature ← bits32
   timeout ← bits32
@@ -135,6 +139,10 @@ setup = do
   od ← dictionary
   limits ← thresholds
   just (record { node = node; feature_flags = flags feature; basic_ethernet_timeout = timeout; queue_capacity = capacity; od = od; thresholds = limits })
+
+-- the words of `start`: by place where the first is a number, and else by keys
+unfoldable pub setup : Reads Setup
+setup rest = if by_place rest then setup_by_place rest else setup_by_keys rest
 
 -- the values that a load names, in this order
 unfoldable pub update : Reads DictionaryUpdate
@@ -179,8 +187,8 @@ named (row ∷ rows) name other = if bytes_eq name row.0 then row.1 else named r
 -- the calls on a head but for the load
 abbrev pub call_rows : List (Row Call)
 call_rows =
-    (codes "nmt", one bits64 calls.NmtEvent) ∷
-    (codes "dll", two bits64 flag calls.DllEvent) ∷
+    (codes "nmt", one (numeral event_named) calls.NmtEvent) ∷
+    (codes "dll", two (numeral cs_event_named) flag calls.DllEvent) ∷
     (codes "error", error) ∷
     (codes "cycle", just calls.CycleComplete) ∷
     (codes "withdraw", just calls.Withdraw) ∷
@@ -210,10 +218,11 @@ line_rows =
     (codes "desk", one desk_bytes desk) ∷
     (codes "entrywrite", two bits64 entry entrywrite) ∷
     (codes "entryread", one entry_bytes entryread) ∷
-    (codes "state", one bits64 state) ∷
-    (codes "command", one bits64 command) ∷
+    (codes "state", one (numeral state_named) state) ∷
+    (codes "command", one (numeral command_named) command) ∷
     (codes "kind", one bits64 kind) ∷
-    (codes "show", just show) ∷ []
+    (codes "show", just show) ∷
+    (codes "why", just why) ∷ []
 
 -- what the line of this name says, by the words behind it
 unfoldable pub line_named : List ℕ → Reads Reading

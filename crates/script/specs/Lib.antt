@@ -1,3 +1,5 @@
 pub mod Reads
+pub mod Numerals
+pub mod Keys
 pub mod Bytes
 pub mod Grammar

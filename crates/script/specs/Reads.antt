@@ -11,12 +11,12 @@ abbrev pub Reads : Type 0 → Type 0
 Reads A = List ℕ → Option (A × List ℕ)
 
 -- the value, where there is one, with what is left behind it
-abbrev pub gives : {A : Type 0} → Option A → List ℕ → Option (A × List ℕ)
+abbrev pub gives : {S A : Type 0} → Option A → S → Option (A × S)
 gives None rest = None
 gives (Some a) rest = Some (a, rest)
 
 -- a value that needs no word
-abbrev pub just : {A : Type 0} → A → Reads A
+abbrev pub just : {S A : Type 0} → A → S → Option (A × S)
 just a rest = Some (a, rest)
 
 -- a value that needs no word, or none
@@ -25,7 +25,7 @@ only o rest = option_map (λ a. (a, rest)) o
 
 -- one value behind another: the first by p, the second by what f makes of the first
 infixl 10 ◌>>=◌
-abbrev pub ◌>>=◌ : {A B : Type 0} → Reads A → (A → Reads B) → Reads B
+abbrev pub ◌>>=◌ : {S A B : Type 0} → (S → Option (A × S)) → (A → S → Option (B × S)) → S → Option (B × S)
 ◌>>=◌ p f = λ rest. option_and_then (λ x. f x.0 x.1) (p rest)
 
 -- how many characters stand before the first space
@@ -92,9 +92,13 @@ number_of w = if is_hex w then value_of 16 (drop 2 w) else value_of 10 w
 abbrev pub at_most : ℕ → ℕ → Option ℕ
 at_most most n = if nat_le n most then Some n else None
 
+-- the number that a word is, of at most so much
+unfoldable pub number_within : ℕ → List ℕ → Option ℕ
+number_within most w = option_and_then (at_most most) (number_of w)
+
 -- a word with a number of at most so much
 unfoldable pub up_to : ℕ → Reads ℕ
-up_to most = word >>= λ w. only (option_and_then (at_most most) (number_of w))
+up_to most = word >>= λ w. only (number_within most w)
 
 -- a number of 8 bits
 abbrev pub bits8 : Reads ℕ

@@ -2,7 +2,8 @@
 ghost use Rattle.std.specs.Prelude.{◌≡◌};
 ghost use Rattle.script.specs.Reads.{gives, optional, bits8, bits32, object};
 ghost use Rattle.script.specs.Grammar.{carries_byte, carried, error, watched, dictionary};
-ghost use Rattle.script.specs.Grammar.{thresholds, setup, update, entry_type, entry};
+ghost use Rattle.script.specs.Grammar.{thresholds, setup_by_place, setup, update, entry_type};
+ghost use Rattle.script.specs.Grammar.{entry};
 
 use crate::words::Words;
 use calling::Call;
@@ -12,6 +13,7 @@ use head::state::Dictionary;
 use node::load::DictionaryUpdate;
 use start::start::Setup;
 use types::common::NetTime;
+use types::frame::error::kinds::DllErrorKind;
 use types::nmt::flags::FeatureFlags;
 use watched::nodes::WatchedNode;
 
@@ -23,11 +25,11 @@ fn carries_byte(kind: u64) -> bool
 }
 
 impl Words<'_> {
-    // A number that is a byte where it is looked at; any other is read as 0.
-    fn carried(&mut self, is_refreshed_at: bool) -> Option<u8>
-        ensures { gives result self.new.rest.now ≡ carried is_refreshed_at self.old.rest.now }
+    // A number that is a byte where it is read; any other counts as 0.
+    fn carried(&mut self, is_read: bool) -> Option<u8>
+        ensures { gives result self.new.rest.now ≡ carried is_read self.old.rest.now }
     {
-        if is_refreshed_at {
+        if is_read {
             self.bits8()
         } else {
             self.bits64().map(|_| 0)
@@ -39,7 +41,7 @@ impl Words<'_> {
     pub(crate) fn error<'a>(&mut self) -> Option<Call<'a>>
         ensures { gives result self.new.rest.now ≡ error self.old.rest.now }
     {
-        let kind = self.bits64()?;
+        let kind = self.numeral::<DllErrorKind>()?;
         Some(Call::Error {
             kind,
             a: self.carried(carries_byte(kind))?,
@@ -94,10 +96,20 @@ impl Words<'_> {
         })
     }
 
-    /// What a start is given.
+    /// What a start is given: by place where the first word is a number, and else by keys.
     #[tactic(auto, unfolding(crate::specs::Grammar::setup))]
     pub(crate) fn setup(&mut self) -> Option<Setup>
         ensures { gives result self.new.rest.now ≡ setup self.old.rest.now }
+    {
+        match self.rest {
+            [_, b'0'..=b'9', ..] => self.setup_by_place(),
+            _ => self.setup_by_keys(),
+        }
+    }
+
+    #[tactic(auto, unfolding(crate::specs::Grammar::setup_by_place))]
+    fn setup_by_place(&mut self) -> Option<Setup>
+        ensures { gives result self.new.rest.now ≡ setup_by_place self.old.rest.now }
     {
         Some(Setup {
             node: self.bits8()?,

@@ -4,10 +4,18 @@
 
 ghost use Rattle.std.specs.Prelude.{◌≡◌, option_map};
 ghost use Rattle.script.specs.Reads.{gives};
+ghost use Rattle.types.specs.States.{states, state_number};
+ghost use Rattle.types.specs.Events.{events, event_number, commands, command_number};
+ghost use Rattle.types.specs.CsEvents.{cs_events, cs_event_number};
+ghost use Rattle.types.specs.Kinds.{error_kinds, kind_place};
+ghost use Rattle.types.specs.Names.{state_name, event_name, command_name, cs_event_name, kind_name};
+ghost use Rattle.script.specs.Numerals.{NamesRead};
 ghost use Rattle.script.specs.Grammar.{says, call_named, line_named, words_say, line_says};
 
 mod bytes;
 mod fields;
+mod keys;
+mod numerals;
 mod words;
 
 use arrayvec::ArrayVec;
@@ -15,6 +23,9 @@ use calling::Call;
 use entries::status_response::ErrorEntry;
 use start::start::Setup;
 use std::str;
+use types::frame::cs_state_machine::DllCsEvent;
+use types::nmt::events::{NmtEvent, NmtStateCommand};
+use types::nmt::states::NmtState;
 use watched::nodes::WatchedNode;
 use words::Words;
 
@@ -56,7 +67,18 @@ pub enum Line<'a> {
     Kind(u64),
     /// The head and the lent run are shown.
     Show,
+    /// It is told why the NMT machine is where it is.
+    Why,
 }
+
+/// Law of the names: each is read as the number of what it names.
+pub fn names_read()
+    ensures nmt { NamesRead event_name event_number events }
+    ensures dll { NamesRead cs_event_name cs_event_number cs_events }
+    ensures kind { NamesRead kind_name kind_place error_kinds }
+    ensures state { NamesRead state_name state_number states }
+    ensures command { NamesRead command_name command_number commands }
+{}
 
 /// The most characters of a line that is no comment.
 const LONGEST: usize = 16384;
@@ -67,9 +89,9 @@ fn read_call<'a>(name: &str, words: &mut Words<'_>) -> Option<Call<'a>>
     ensures { gives result words.new.rest.now ≡ call_named name.now words.old.rest.now }
 {
     Some(match name {
-        "nmt" => Call::NmtEvent(words.bits64()?),
+        "nmt" => Call::NmtEvent(words.numeral::<NmtEvent>()?),
         "dll" => Call::DllEvent {
-            event: words.bits64()?,
+            event: words.numeral::<DllCsEvent>()?,
             expect_preq: words.flag()?,
         },
         "error" => words.error()?,
@@ -122,10 +144,11 @@ fn read_named<'a>(name: &str, words: &mut Words<'_>, bytes: &'a mut LineBytes) -
             entry: words.entry()?,
         }),
         "entryread" => Some(Line::EntryRead(words.entry_bytes(bytes)?)),
-        "state" => Some(Line::State(words.bits64()?)),
-        "command" => Some(Line::Command(words.bits64()?)),
+        "state" => Some(Line::State(words.numeral::<NmtState>()?)),
+        "command" => Some(Line::Command(words.numeral::<NmtStateCommand>()?)),
         "kind" => Some(Line::Kind(words.bits64()?)),
         "show" => Some(Line::Show),
+        "why" => Some(Line::Why),
         _ => Some(Line::Call(read_call(name, words)?)),
     }
 }

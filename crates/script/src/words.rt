@@ -1,8 +1,12 @@
 //! The words of a line, each behind one space, and the numbers that they are.
 ghost use Rattle.std.specs.Prelude.{◌≡◌, ◌≤◌, length, option_copied, IfSome};
 ghost use Rattle.script.specs.Reads.{gives, word_length, first_word, behind_word, word, next_is};
-ghost use Rattle.script.specs.Reads.{behind_next, ends, digit_behind, value_of, number_of, up_to};
+ghost use Rattle.script.specs.Reads.{behind_next, ends, digit_behind, value_of, number_of};
+ghost use Rattle.script.specs.Reads.{number_within, up_to};
 ghost use Rattle.script.specs.Reads.{bits8, bits16, bits32, bits64, flag, object};
+ghost use Rattle.script.specs.Numerals.{number_named, numeral_of, numeral};
+
+use crate::numerals::{Named, number_named};
 
 /// The words of a line that are not read yet: nothing, or each behind its space. What is read
 /// leaves the rest.
@@ -63,6 +67,27 @@ fn number_of(word: &[u8]) -> Option<u64>
     }
 }
 
+/// The number that a word is, of at most so much.
+#[tactic(auto, unfolding(crate::specs::Reads::number_within))]
+pub(crate) fn number_within(word: &[u8], most: u64) -> Option<u64>
+    ensures read { result ≡ number_within most word.now }
+    ensures within { IfSome result (λ n. n ≤ most) }
+{
+    let number = number_of(word)?;
+    (number <= most).then_some(number)
+}
+
+// The number that a word is by its digits, or by the name of an item.
+#[tactic(auto, unfolding(crate::specs::Numerals::numeral_of))]
+fn numeral_of<T: Named>(word: &[u8]) -> Option<u64>
+    ensures { result ≡ numeral_of (number_named T.name_of T.number_of T.items) word.now }
+{
+    match number_of(word) {
+        Some(number) => Some(number),
+        None => number_named::<T>(word),
+    }
+}
+
 impl<'a> Words<'a> {
     /// The name that a line begins with, and the words behind it.
     pub(crate) fn of(line: &'a [u8]) -> (&'a [u8], Words<'a>)
@@ -111,8 +136,7 @@ impl<'a> Words<'a> {
         ensures read { gives result self.new.rest.now ≡ up_to most self.old.rest.now }
         ensures within { IfSome result (λ n. n ≤ most) }
     {
-        let number = number_of(self.word()?)?;
-        (number <= most).then_some(number)
+        number_within(self.word()?, most)
     }
 
     /// A number of 64 bits.
@@ -120,6 +144,15 @@ impl<'a> Words<'a> {
         ensures { gives result self.new.rest.now ≡ bits64 self.old.rest.now }
     {
         self.up_to(u64::MAX)
+    }
+
+    /// A number of 64 bits, or the name of an item.
+    #[tactic(auto, unfolding(crate::specs::Numerals::numeral))]
+    pub(crate) fn numeral<T: Named>(&mut self) -> Option<u64>
+        ensures { gives result self.new.rest.now
+            ≡ numeral (number_named T.name_of T.number_of T.items) self.old.rest.now }
+    {
+        numeral_of::<T>(self.word()?)
     }
 
     /// A number of 32 bits.

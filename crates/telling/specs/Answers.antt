@@ -29,42 +29,45 @@ use Rattle.reception.specs.declared.FrameAnswer.{FrameAnswer}
 use Rattle.reception.specs.declared.FrameAnswer.TheVariants.{NotOurs, Ours}
 use Rattle.calling.specs.declared.Answer.{Answer}
 use Rattle.calling.specs.declared.Answer.TheVariants as answer
-use Rattle.forms.specs.Errors.{errors_text}
 use Rattle.forms.specs.Hex.{hex_form}
 use Rattle.telling.specs.declared.answers.Bitmap.{Bitmap}
 use Rattle.telling.specs.declared.answers.Told.{Told}
 use Rattle.telling.specs.declared.answers.Told.TheVariants as told
+use Rattle.telling.specs.declared.styles.Style.{Style}
+use Rattle.telling.specs.declared.styles.Machine.TheVariants as machine
+use Rattle.telling.specs.Styles.{state_form, command_form, kind_form, refusal_form, code_form, errors_form}
 use Rattle.telling.specs.Texts.{joined, flag_text, bytes_text, entry_text}
 
--- the states that a reset enters, by their numbers
-abbrev pub entered_text : List NmtState → List ℕ
-entered_text ss = flat_map (λ s. joined (codes " " ∷ hex_form 2 (state_number s) ∷ [])) ss
+-- the states that a reset enters
+abbrev pub entered_text : Style → List NmtState → List ℕ
+entered_text y ss = flat_map (λ s. joined (codes " " ∷ state_form y s ∷ [])) ss
 
 -- the ranges to restore after a reset, by their first and last index
 abbrev pub restored_text : List IndexRange → List ℕ
 restored_text rs = flat_map (λ (r : IndexRange). joined (codes " (" ∷ hex_form 4 r.first ∷ codes " " ∷ hex_form 4 r.last ∷ codes ")" ∷ [])) rs
 
 -- a reset: the states that it enters, and the ranges to restore
-abbrev pub reset_text : ResetSequence → List ℕ
-reset_text r = joined (codes " (entered" ∷ entered_text (entered_states r) ∷ codes ") (restore" ∷ restored_text (restored_ranges r) ∷ codes ")" ∷ [])
+abbrev pub reset_text : Style → ResetSequence → List ℕ
+reset_text y r = joined (codes " (entered" ∷ entered_text y (entered_states r) ∷ codes ") (restore" ∷ restored_text (restored_ranges r) ∷ codes ")" ∷ [])
 
 -- an NMT event: a reset as such, any other its errors, which are given as text
-abbrev pub nmt_by : ResetSequence → List ℕ → List ℕ
-nmt_by reset.None errors = joined (codes " (errors" ∷ errors ∷ codes ")" ∷ [])
-nmt_by reset.Whole errors = reset_text reset.Whole
-nmt_by reset.Node errors = reset_text reset.Node
-nmt_by reset.Communication errors = reset_text reset.Communication
-nmt_by reset.Configuration errors = reset_text reset.Configuration
+abbrev pub nmt_by : Style → ResetSequence → List ℕ → List ℕ
+nmt_by y reset.None errors = joined (codes " (errors" ∷ errors ∷ codes ")" ∷ [])
+nmt_by y reset.Whole errors = reset_text y reset.Whole
+nmt_by y reset.Node errors = reset_text y reset.Node
+nmt_by y reset.Communication errors = reset_text y reset.Communication
+nmt_by y reset.Configuration errors = reset_text y reset.Configuration
 
 -- what an NMT event is answered that is taken
-abbrev pub nmt_text : NmtTaken → List ℕ
-nmt_text t = nmt_by t.reset (errors_text t.errors)
+abbrev pub nmt_text : Style → NmtTaken → List ℕ
+nmt_text y t = nmt_by y t.reset (errors_form y machine.Nmt t.errors)
 
 -- what an error is answered that is taken: its action's number, whether it signals, what is logged
-abbrev pub error_taken_text : ErrorTaken → List ℕ
-error_taken_text t =
+abbrev pub error_taken_text : Style → ErrorTaken → List ℕ
+error_taken_text y t =
     joined
-    (codes " (action " ∷ decimal (action_number t.action) ∷ codes ") (signal " ∷ flag_text t.signal ∷ codes ") (logged" ∷ errors_text t.logged ∷ codes ")" ∷ [])
+    (codes " (action " ∷ decimal (action_number t.action) ∷ codes ") (signal " ∷ flag_text t.signal ∷ codes ") (logged"
+    ∷ errors_form y machine.Nmt t.logged ∷ codes ")" ∷ [])
 
 -- what a hand-out is answered: the entry's 20 bytes, or none
 abbrev pub handed_out_text : Option ErrorEntry → List ℕ
@@ -82,30 +85,31 @@ abbrev pub due_text : Option ℕ → List ℕ
 due_text None = codes " none"
 due_text (Some t) = joined (codes " " ∷ decimal t ∷ [])
 
--- what the NMT event of a frame answers; without one there are no errors
-abbrev pub reply_to_text : Option NmtTaken → List ℕ
-reply_to_text (Some t) = nmt_text t
-reply_to_text None = codes " (errors)"
+-- what the NMT event of a frame is answered; without one there are no errors
+abbrev pub reply_to_text : Style → Option NmtTaken → List ℕ
+reply_to_text y (Some t) = nmt_text y t
+reply_to_text y None = codes " (errors)"
 
--- a frame: that it is for another node, or what was logged and what its NMT event answers
-abbrev pub frame_text : FrameAnswer → List ℕ
-frame_text NotOurs = codes " not_ours"
-frame_text (Ours d) =
-    joined (codes " (logged" ∷ errors_text d.logged ∷ codes ")" ∷ reply_to_text d.nmt ∷ [])
+-- what a frame is answered: that it is for another node, or what was logged, and its NMT event
+abbrev pub frame_text : Style → FrameAnswer → List ℕ
+frame_text y NotOurs = codes " not_ours"
+frame_text y (Ours d) =
+    joined
+    (codes " (logged" ∷ errors_form y machine.Dll d.logged ∷ codes ")" ∷ reply_to_text y d.nmt ∷ [])
 
 -- what a call answers that is taken
-abbrev pub answer_text : Answer → List ℕ
-answer_text answer.Taken = []
-answer_text (answer.Nmt t) = nmt_text t
-answer_text (answer.Dll es) = joined (codes " (errors" ∷ errors_text es ∷ codes ")" ∷ [])
-answer_text (answer.Error t) = error_taken_text t
-answer_text (answer.Cycle b) = joined (codes " (cleared " ∷ flag_text b ∷ codes ")" ∷ [])
-answer_text (answer.HandedOut e) = handed_out_text e
-answer_text (answer.Tick es) = joined (codes " (logged" ∷ errors_text es ∷ codes ")" ∷ [])
-answer_text (answer.Range v) = verdict_text v
-answer_text (answer.Margin z) = joined (codes " " ∷ signed_decimal z ∷ [])
-answer_text (answer.Due d) = due_text d
-answer_text (answer.Frame a) = frame_text a
+abbrev pub answer_text : Style → Answer → List ℕ
+answer_text y answer.Taken = []
+answer_text y (answer.Nmt t) = nmt_text y t
+answer_text y (answer.Dll es) = joined (codes " (errors" ∷ errors_form y machine.Dll es ∷ codes ")" ∷ [])
+answer_text y (answer.Error t) = error_taken_text y t
+answer_text y (answer.Cycle b) = joined (codes " (cleared " ∷ flag_text b ∷ codes ")" ∷ [])
+answer_text y (answer.HandedOut e) = handed_out_text e
+answer_text y (answer.Tick es) = joined (codes " (logged" ∷ errors_form y machine.Nmt es ∷ codes ")" ∷ [])
+answer_text y (answer.Range v) = verdict_text v
+answer_text y (answer.Margin z) = joined (codes " " ∷ signed_decimal z ∷ [])
+answer_text y (answer.Due d) = due_text d
+answer_text y (answer.Frame a) = frame_text y a
 
 -- the type of an entry that is read: its marks, its mode's number and its profile
 abbrev pub type_text : EntryType → List ℕ
@@ -115,10 +119,10 @@ type_text t =
     ∷ codes ") (profile " ∷ decimal t.profile ∷ codes ")" ∷ [])
 
 -- an entry that is read, with all its parts
-abbrev pub read_text : ErrorEntry → List ℕ
-read_text e =
+abbrev pub read_text : Style → ErrorEntry → List ℕ
+read_text y e =
     joined
-    (type_text e.entry_type ∷ codes " (code " ∷ hex_form 4 e.error_code ∷ codes ") (seconds " ∷ decimal e.timestamp.seconds ∷ codes ") (ns "
+    (type_text e.entry_type ∷ codes " (code " ∷ code_form y e.error_code ∷ codes ") (seconds " ∷ decimal e.timestamp.seconds ∷ codes ") (ns "
     ∷ decimal e.timestamp.nanoseconds ∷ codes ") (additional " ∷ decimal e.additional_information ∷ codes ")" ∷ [])
 
 -- the watched nodes as 32 bytes, behind their number
@@ -126,15 +130,15 @@ abbrev pub bitmap_text : Bitmap → List ℕ
 bitmap_text b = joined (codes " (nodes " ∷ decimal b.number ∷ codes ")" ∷ bytes_text b.bytes ∷ [])
 
 -- what a line tells that is taken
-abbrev pub told_text : Told → List ℕ
-told_text (told.Answer a) = answer_text a
-told_text (told.Bitmap b) = bitmap_text b
-told_text (told.Entry e) = joined (codes " (entry " ∷ read_text e ∷ codes ")" ∷ [])
-told_text (told.State s) = joined (codes " " ∷ hex_form 2 (state_number s) ∷ [])
-told_text (told.Command c) = joined (codes " " ∷ hex_form 2 (command_number c) ∷ [])
-told_text (told.Kind k) = joined (codes " " ∷ decimal (kind_place k) ∷ [])
+abbrev pub told_text : Style → Told → List ℕ
+told_text y (told.Answer a) = answer_text y a
+told_text y (told.Bitmap b) = bitmap_text b
+told_text y (told.Entry e) = joined (codes " (entry " ∷ read_text y e ∷ codes ")" ∷ [])
+told_text y (told.State s) = joined (codes " " ∷ state_form y s ∷ [])
+told_text y (told.Command c) = joined (codes " " ∷ command_form y c ∷ [])
+told_text y (told.Kind k) = joined (codes " " ∷ kind_form y k ∷ [])
 
 -- what a line is answered: a refusal by its number alone
-abbrev pub reply_text : Result Told Refusal → List ℕ
-reply_text (Ok t) = joined (codes "(taken" ∷ told_text t ∷ codes ")\n" ∷ [])
-reply_text (Err r) = joined (codes "(refused " ∷ decimal (refusal_number r) ∷ codes ")\n" ∷ [])
+abbrev pub reply_text : Style → Result Told Refusal → List ℕ
+reply_text y (Ok t) = joined (codes "(taken" ∷ told_text y t ∷ codes ")\n" ∷ [])
+reply_text y (Err r) = joined (codes "(refused " ∷ refusal_form y r ∷ codes ")\n" ∷ [])

@@ -15,13 +15,15 @@ use Rattle.head.specs.Head.{moment_in}
 use Rattle.head.specs.declared.state.SocWatch.{SocWatch}
 use Rattle.head.specs.declared.state.Dictionary.{Dictionary}
 use Rattle.forms.specs.Hex.{hex_form}
+use Rattle.telling.specs.declared.styles.Style.{Style}
+use Rattle.telling.specs.Styles.{state_form, cs_state_form}
 use Rattle.telling.specs.Texts.{joined, flag_text}
 
--- the NMT state's number, and whether the machine is enabled and the application ready
-unfoldable pub standing_text : CnNmtStateMachine → List ℕ
-standing_text m =
+-- the NMT state, and whether the machine is enabled and the application ready
+unfoldable pub standing_text : Style → CnNmtStateMachine → List ℕ
+standing_text y m =
     joined
-    (codes "(state " ∷ hex_form 2 (state_number m.current_state) ∷ codes ") (enabled " ∷ flag_text m.ready_to_operate_enabled
+    (codes "(state " ∷ state_form y m.current_state ∷ codes ") (enabled " ∷ flag_text m.ready_to_operate_enabled
     ∷ codes ") (ready " ∷ flag_text m.app_ready ∷ codes ")" ∷ [])
 
 -- what a start gave the NMT machine: the node's number, the feature flags and the basic timeout in
@@ -33,12 +35,12 @@ identity_text m =
     ∷ codes ")" ∷ [])
 
 -- the line of the NMT machine
-unfoldable pub nmt_line : CnNmtStateMachine → List ℕ
-nmt_line m = joined (codes "(nmt " ∷ standing_text m ∷ codes " " ∷ identity_text m ∷ codes ")\n" ∷ [])
+unfoldable pub nmt_line : Style → CnNmtStateMachine → List ℕ
+nmt_line y m = joined (codes "(nmt " ∷ standing_text y m ∷ codes " " ∷ identity_text m ∷ codes ")\n" ∷ [])
 
--- the line of the DLL machine: its state's number
-unfoldable pub dll_line : DllCsStateMachine → List ℕ
-dll_line m = joined (codes "(dll " ∷ decimal (cs_state_number m.state) ∷ codes ")\n" ∷ [])
+-- the line of the DLL machine: its state
+unfoldable pub dll_line : Style → DllCsStateMachine → List ℕ
+dll_line y m = joined (codes "(dll " ∷ cs_state_form y m.state ∷ codes ")\n" ∷ [])
 
 -- a counter by its name: its level, and the cumulative count of its errors
 unfoldable pub counter_line : List ℕ → ThresholdCounter → List ℕ

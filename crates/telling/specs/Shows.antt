@@ -14,6 +14,7 @@ use Rattle.telling.specs.declared.shows.Shown.{Shown}
 use Rattle.head.specs.Places as at
 use Rattle.head.specs.Words.{nmt_of, dll_state, word, errors_of, soc_of, od_of, queue_of, history_of, earliest_of}
 use Rattle.watched.specs.declared.nodes.WatchedNode.{WatchedNode}
+use Rattle.telling.specs.declared.styles.Style.{Style}
 use Rattle.telling.specs.Texts.{joined, bytes_text, entries_text}
 use Rattle.telling.specs.Heads.{nmt_line, dll_line, error_lines, moment_text, soc_line, dictionary_line, each_text}
 
@@ -75,10 +76,10 @@ desk_line [] = codes "(desk)\n"
 desk_line (b ∷ bs) = joined (codes "(desk" ∷ bytes_text (b ∷ bs) ∷ codes ")\n" ∷ [])
 
 -- the machines, the counters with the lost links, the watch over the cycle, the dictionary
-unfoldable pub head_lines : List ℕ → List ℕ
-head_lines ws =
+unfoldable pub head_lines : Style → List ℕ → List ℕ
+head_lines y ws =
     joined
-    (nmt_line (nmt_of ws) ∷ dll_line (record { state = dll_state (word ws at.dll) }) ∷ error_lines (errors_of ws)
+    (nmt_line y (nmt_of ws) ∷ dll_line y (record { state = dll_state (word ws at.dll) }) ∷ error_lines (errors_of ws)
     ∷ soc_line (soc_of ws) ∷ dictionary_line (od_of ws) ∷ [])
 
 -- the earliest moment at which a watched node would be late, and how often each counter crossed its
@@ -96,12 +97,12 @@ threshold_line ws =
 
 -- all of it: of the words of a head, the bytes of its queue and history, the run that is lent, its
 -- number, and the desk's bytes
-unfoldable pub show_text : List ℕ → List ℕ → List ℕ → List WatchedNode → ℕ → List ℕ → List ℕ
-show_text ws q m places n desk =
+unfoldable pub show_text : Style → List ℕ → List ℕ → List ℕ → List WatchedNode → ℕ → List ℕ → List ℕ
+show_text y ws q m places n desk =
     joined
-    (head_lines ws ∷ queue_line q (queue_of ws) ∷ history_line m (history_of ws) ∷ run_lines places n ∷ crossing_lines ws ∷ desk_line desk
+    (head_lines y ws ∷ queue_line q (queue_of ws) ∷ history_line m (history_of ws) ∷ run_lines places n ∷ crossing_lines ws ∷ desk_line desk
     ∷ threshold_line ws ∷ [])
 
 -- what `show` prints of what it is lent
 abbrev pub shown_text : Shown → List ℕ
-shown_text s = show_text s.head.now s.queue.now s.history.now s.run.now s.number s.desk.now
+shown_text s = show_text s.style s.head.now s.queue.now s.history.now s.run.now s.number s.desk.now

@@ -5,16 +5,17 @@ ghost use Rattle.telling.specs.Answers.{entered_text, restored_text, nmt_text, e
 ghost use Rattle.telling.specs.Answers.{answer_text, type_text, read_text, bitmap_text, told_text};
 ghost use Rattle.telling.specs.Answers.{reply_text, frame_text};
 
+use crate::styles::{
+    CodeForm, CommandForm, Errors, KindForm, Machine, RefusalForm, StateForm, Style,
+};
 use crate::texts::{Digits, EntryBytes, Flag, text_of};
 use calling::Answer;
 use counters::counters::ErrorTaken;
 use entries::status_response::{EntryType, ErrorEntry};
-use forms::errors::ErrorsForm;
-use forms::hex::HexByte;
 use nmt::state_machine::{IndexRange, ResetSequence};
 use node::calls::NmtTaken;
 use node::range::SocVerdict;
-use reception::{FrameAnswer, FrameTaken};
+use reception::FrameAnswer;
 use std::fmt;
 use std::fmt::Display;
 use types::frame::error::kinds::DllErrorKind;
@@ -52,82 +53,92 @@ impl Display for Bitmap {
     }
 }
 
-/// What a line is answered: what it tells, or the number of its refusal.
+/// What a line is answered: what it tells, or its refusal.
 #[derive(Clone, Copy)]
 pub struct Reply(pub Result<Told, Refusal>);
 
-impl Display for Reply {
-    ghost output = { λ x. Some (reply_text x.0) };
+/// A reply as it is printed.
+#[derive(Clone, Copy)]
+pub struct ReplyForm(pub Style, pub Reply);
+
+impl Display for ReplyForm {
+    ghost output = { λ x. Some (reply_text x.0 x.1.0) };
 
     fn fmt<W: fmt::Write>(&self, f: &mut fmt::Formatter<W>) -> fmt::Result {
-        match self.0 {
-            Ok(told) => writeln!(f, "(taken{told})"),
-            Err(refusal) => writeln!(f, "(refused {})", refusal.number()),
+        let ReplyForm(style, Reply(answer)) = *self;
+        match answer {
+            Ok(told) => writeln!(f, "(taken{})", ToldForm(style, told)),
+            Err(refusal) => writeln!(f, "(refused {})", RefusalForm(style, refusal)),
         }
     }
 }
 
-impl Display for Told {
-    ghost output = { λ x. Some (told_text x) };
+// What a line tells that is taken.
+#[derive(Clone, Copy)]
+struct ToldForm(Style, Told);
+
+impl Display for ToldForm {
+    ghost output = { λ x. Some (told_text x.0 x.1) };
 
     fn fmt<W: fmt::Write>(&self, f: &mut fmt::Formatter<W>) -> fmt::Result {
-        match *self {
-            Told::Answer(answer) => write!(f, "{}", AnswerForm(answer)),
+        let ToldForm(style, told) = *self;
+        match told {
+            Told::Answer(answer) => write!(f, "{}", AnswerForm(style, answer)),
             Told::Bitmap(bitmap) => write!(f, "{bitmap}"),
-            Told::Entry(entry) => write!(f, " (entry {})", EntryForm(entry)),
-            Told::State(state) => write!(f, " {}", HexByte(state.as_u8())),
-            Told::Command(command) => write!(f, " {}", HexByte(command.as_u8())),
-            Told::Kind(kind) => write!(f, " {}", kind.place()),
+            Told::Entry(entry) => write!(f, " (entry {})", EntryForm(style, entry)),
+            Told::State(state) => write!(f, " {}", StateForm(style, state)),
+            Told::Command(command) => write!(f, " {}", CommandForm(style, command)),
+            Told::Kind(kind) => write!(f, " {}", KindForm(style, kind)),
         }
     }
 }
 
 // What a call answers.
 #[derive(Clone, Copy)]
-struct AnswerForm(Answer);
+struct AnswerForm(Style, Answer);
 
 impl Display for AnswerForm {
-    ghost output = { λ x. Some (answer_text x.0) };
+    ghost output = { λ x. Some (answer_text x.0 x.1) };
 
     fn fmt<W: fmt::Write>(&self, f: &mut fmt::Formatter<W>) -> fmt::Result {
-        match self.0 {
+        let AnswerForm(style, answer) = *self;
+        match answer {
             Answer::Taken => Ok(()),
-            Answer::Nmt(taken) => write!(f, "{}", NmtForm(taken)),
-            Answer::Dll(errors) => write!(f, " (errors{})", ErrorsForm(errors)),
-            Answer::Error(taken) => write!(f, "{}", ErrorTakenForm(taken)),
+            Answer::Nmt(taken) => write!(f, "{}", NmtForm(style, taken)),
+            Answer::Dll(errors) => { write!(f, " (errors{})", Errors(style, Machine::Dll, errors)) }
+            Answer::Error(taken) => write!(f, "{}", ErrorTakenForm(style, taken)),
             Answer::Cycle(cleared) => write!(f, " (cleared {})", Flag(cleared)),
             Answer::HandedOut(Some(entry)) => write!(f, " (entry{})", EntryBytes(entry)),
             Answer::HandedOut(None) => write!(f, " none"),
-            Answer::Tick(errors) => write!(f, " (logged{})", ErrorsForm(errors)),
+            Answer::Tick(errors) => write!(f, " (logged{})", Errors(style, Machine::Nmt, errors)),
             Answer::Range(SocVerdict::Lost) => write!(f, " lost"),
             Answer::Range(SocVerdict::Kept) => write!(f, " kept"),
             Answer::Range(SocVerdict::Open) => write!(f, " open"),
             Answer::Margin(margin) => write!(f, " {margin}"),
             Answer::Due(Some(moment)) => write!(f, " {moment}"),
             Answer::Due(None) => write!(f, " none"),
-            Answer::Frame(answer) => write!(f, "{}", FrameForm(answer)),
+            Answer::Frame(answer) => write!(f, "{}", FrameForm(style, answer)),
         }
     }
 }
 
 // What a frame answers: what was logged, and what its NMT event answers, or no errors.
 #[derive(Clone, Copy)]
-struct FrameForm(FrameAnswer);
+struct FrameForm(Style, FrameAnswer);
 
 impl Display for FrameForm {
-    ghost output = { λ x. Some (frame_text x.0) };
+    ghost output = { λ x. Some (frame_text x.0 x.1) };
 
     fn fmt<W: fmt::Write>(&self, f: &mut fmt::Formatter<W>) -> fmt::Result {
-        match self.0 {
+        let FrameForm(style, answer) = *self;
+        match answer {
             FrameAnswer::NotOurs => write!(f, " not_ours"),
-            FrameAnswer::Ours(
-                FrameTaken {
-                    logged,
-                    nmt: Some(nmt),
-                },
-            ) => write!(f, " (logged{}){}", ErrorsForm(logged), NmtForm(nmt)),
-            FrameAnswer::Ours(FrameTaken { logged, nmt: None }) => {
-                write!(f, " (logged{}) (errors)", ErrorsForm(logged))
+            FrameAnswer::Ours(taken) => {
+                write!(f, " (logged{})", Errors(style, Machine::Dll, taken.logged))?;
+                match taken.nmt {
+                    Some(nmt) => write!(f, "{}", NmtForm(style, nmt)),
+                    None => write!(f, " (errors)"),
+                }
             }
         }
     }
@@ -136,18 +147,21 @@ impl Display for FrameForm {
 // What an NMT event answers: a reset the states that it enters and the ranges to restore, any
 // other its errors.
 #[derive(Clone, Copy)]
-struct NmtForm(NmtTaken);
+struct NmtForm(Style, NmtTaken);
 
 impl Display for NmtForm {
-    ghost output = { λ x. Some (nmt_text x.0) };
+    ghost output = { λ x. Some (nmt_text x.0 x.1) };
 
     fn fmt<W: fmt::Write>(&self, f: &mut fmt::Formatter<W>) -> fmt::Result {
-        match self.0.reset {
-            ResetSequence::None => write!(f, " (errors{})", ErrorsForm(self.0.errors)),
+        let NmtForm(style, taken) = *self;
+        match taken.reset {
+            ResetSequence::None => {
+                write!(f, " (errors{})", Errors(style, Machine::Nmt, taken.errors))
+            }
             reset => write!(
                 f,
                 " (entered{}) (restore{})",
-                Entered(reset.entered()),
+                Entered(style, reset.entered()),
                 Restored(reset.restored())
             ),
         }
@@ -156,14 +170,14 @@ impl Display for NmtForm {
 
 // States, each behind a space.
 #[derive(Clone, Copy)]
-struct Entered<'a>(&'a [NmtState]);
+struct Entered<'a>(Style, &'a [NmtState]);
 
 impl Display for Entered<'_> {
-    ghost output = { λ x. Some (entered_text x.0.now) };
+    ghost output = { λ x. Some (entered_text x.0 x.1.now) };
 
     fn fmt<W: fmt::Write>(&self, f: &mut fmt::Formatter<W>) -> fmt::Result {
-        for state in self.0 {
-            write!(f, " {}", HexByte(state.as_u8()))?;
+        for state in self.1 {
+            write!(f, " {}", StateForm(self.0, *state))?;
         }
         Ok(())
     }
@@ -184,9 +198,9 @@ impl Display for Restored<'_> {
     }
 }
 
-// A number of 16 bits as 0x and four digits.
+/// A number of 16 bits as 0x and four digits.
 #[derive(Clone, Copy)]
-struct Hex16(u16);
+pub(crate) struct Hex16(pub(crate) u16);
 
 impl Display for Hex16 {
     ghost output = { λ x. Some (hex_form 4 x.0) };
@@ -199,36 +213,36 @@ impl Display for Hex16 {
 
 // What an error answers.
 #[derive(Clone, Copy)]
-struct ErrorTakenForm(ErrorTaken);
+struct ErrorTakenForm(Style, ErrorTaken);
 
 impl Display for ErrorTakenForm {
-    ghost output = { λ x. Some (error_taken_text x.0) };
+    ghost output = { λ x. Some (error_taken_text x.0 x.1) };
 
     fn fmt<W: fmt::Write>(&self, f: &mut fmt::Formatter<W>) -> fmt::Result {
         write!(
             f,
             " (action {}) (signal {}) (logged{})",
-            self.0.action.number(),
-            Flag(self.0.signal),
-            ErrorsForm(self.0.logged)
+            self.1.action.number(),
+            Flag(self.1.signal),
+            Errors(self.0, Machine::Nmt, self.1.logged)
         )
     }
 }
 
 // What an entry says.
 #[derive(Clone, Copy)]
-struct EntryForm(ErrorEntry);
+struct EntryForm(Style, ErrorEntry);
 
 impl Display for EntryForm {
-    ghost output = { λ x. Some (read_text x.0) };
+    ghost output = { λ x. Some (read_text x.0 x.1) };
 
     fn fmt<W: fmt::Write>(&self, f: &mut fmt::Formatter<W>) -> fmt::Result {
-        let entry = self.0;
+        let EntryForm(style, entry) = *self;
         write!(
             f,
             "{} (code {}) (seconds {}) (ns {}) (additional {})",
             EntryTypeForm(entry.entry_type),
-            Hex16(entry.error_code),
+            CodeForm(style, entry.error_code),
             entry.timestamp.seconds,
             entry.timestamp.nanoseconds,
             entry.additional_information

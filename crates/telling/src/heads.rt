@@ -5,10 +5,10 @@ ghost use Rattle.telling.specs.Heads.{counter_line, counter_lines, error_lines, 
 ghost use Rattle.telling.specs.Heads.{soc_line, object_text, objects_text, statistics_text};
 ghost use Rattle.telling.specs.Heads.{dictionary_line, each_text};
 
+use crate::styles::{CsStateForm, StateForm, Style};
 use crate::texts::Flag;
 use counters::counters::{ByKind, CnErrorCounters, ThresholdCounter};
 use dll::cs_state_machine::DllCsStateMachine;
-use forms::hex::HexByte;
 use head::state::{Dictionary, SocWatch};
 use nmt::cn_state_machine::CnNmtStateMachine;
 use std::fmt;
@@ -16,19 +16,19 @@ use std::fmt::Display;
 
 // Where the state machine of the node's life stands.
 #[derive(Clone, Copy)]
-struct Standing(CnNmtStateMachine);
+struct Standing(Style, CnNmtStateMachine);
 
 #[tactic(auto, unfolding(crate::specs::Heads::standing_text))]
 impl Display for Standing {
-    ghost output = { λ x. Some (standing_text x.0) };
+    ghost output = { λ x. Some (standing_text x.0 x.1) };
 
     fn fmt<W: fmt::Write>(&self, f: &mut fmt::Formatter<W>) -> fmt::Result {
         write!(
             f,
             "(state {}) (enabled {}) (ready {})",
-            HexByte(self.0.current_state.as_u8()),
-            Flag(self.0.ready_to_operate_enabled),
-            Flag(self.0.app_ready)
+            StateForm(self.0, self.1.current_state),
+            Flag(self.1.ready_to_operate_enabled),
+            Flag(self.1.app_ready)
         )
     }
 }
@@ -52,27 +52,33 @@ impl Display for Identity {
 
 /// The state machine of the node's life.
 #[derive(Clone, Copy)]
-pub(crate) struct NmtLine(pub(crate) CnNmtStateMachine);
+pub(crate) struct NmtLine(pub(crate) Style, pub(crate) CnNmtStateMachine);
 
 #[tactic(auto, unfolding(crate::specs::Heads::nmt_line))]
 impl Display for NmtLine {
-    ghost output = { λ x. Some (nmt_line x.0) };
+    ghost output = { λ x. Some (nmt_line x.0 x.1) };
 
     fn fmt<W: fmt::Write>(&self, f: &mut fmt::Formatter<W>) -> fmt::Result {
-        writeln!(f, "(nmt {} {})", Standing(self.0), Identity(self.0))
+        let NmtLine(style, machine) = *self;
+        writeln!(
+            f,
+            "(nmt {} {})",
+            Standing(style, machine),
+            Identity(machine)
+        )
     }
 }
 
 /// That of the cycle.
 #[derive(Clone, Copy)]
-pub(crate) struct DllLine(pub(crate) DllCsStateMachine);
+pub(crate) struct DllLine(pub(crate) Style, pub(crate) DllCsStateMachine);
 
 #[tactic(auto, unfolding(crate::specs::Heads::dll_line))]
 impl Display for DllLine {
-    ghost output = { λ x. Some (dll_line x.0) };
+    ghost output = { λ x. Some (dll_line x.0 x.1) };
 
     fn fmt<W: fmt::Write>(&self, f: &mut fmt::Formatter<W>) -> fmt::Result {
-        writeln!(f, "(dll {})", self.0.current_state().as_u8())
+        writeln!(f, "(dll {})", CsStateForm(self.0, self.1.current_state()))
     }
 }
 

@@ -4,5 +4,8 @@
 
 pub mod answers;
 mod heads;
+pub mod moves;
 pub mod shows;
+pub mod styles;
 mod texts;
+pub mod why;

@@ -9,6 +9,7 @@ ghost use Rattle.telling.specs.Shows.{each_of, desk_line, head_lines, crossing_l
 ghost use Rattle.telling.specs.Shows.{threshold_line, shown_text};
 
 use crate::heads::{DictionaryLine, DllLine, Each, ErrorLines, Moment, NmtLine, SocLine};
+use crate::styles::Style;
 use crate::texts::{Bytes, EntryBytes};
 use counters::counters::ByKind;
 use entries::emergency_queue::EmergencyQueue;
@@ -24,10 +25,11 @@ use std::fmt;
 use std::fmt::Display;
 use watched::nodes::WatchedNode;
 
-/// A head, the memory of its queue and its history, the run of watched nodes that is lent with its
-/// number, and the bytes on the desk.
+/// How it is printed, a head, the memory of its queue and its history, the run of watched nodes
+/// that is lent with its number, and the bytes on the desk.
 #[derive(Clone, Copy)]
 pub struct Shown<'a> {
+    pub style: Style,
     pub head: &'a Head,
     pub queue: &'a QueueBytes,
     pub history: &'a HistoryBytes,
@@ -44,7 +46,7 @@ impl Display for Shown<'_> {
         write!(
             f,
             "{}{}{}{}{}{}{}",
-            HeadLines(self.head),
+            HeadLines(self.style, self.head),
             QueueLine(queue_of(self.head), self.queue),
             HistoryLine(history_of(self.head), self.history),
             RunLines(self.run, self.number),
@@ -88,21 +90,22 @@ fn thresholds(head: &Head) -> ByKind<u32>
 
 // The machines, the counters with the lost links, the watch over the cycle, the dictionary.
 #[derive(Clone, Copy)]
-struct HeadLines<'a>(&'a Head);
+struct HeadLines<'a>(Style, &'a Head);
 
 #[tactic(auto, unfolding(crate::specs::Shows::head_lines))]
 impl Display for HeadLines<'_> {
-    ghost output = { λ x. Some (head_lines x.0.now) };
+    ghost output = { λ x. Some (head_lines x.0 x.1.now) };
 
     fn fmt<W: fmt::Write>(&self, f: &mut fmt::Formatter<W>) -> fmt::Result {
+        let HeadLines(style, head) = *self;
         write!(
             f,
             "{}{}{}{}{}",
-            NmtLine(nmt_of(self.0)),
-            DllLine(dll_of(self.0)),
-            ErrorLines(errors_of(self.0)),
-            SocLine(soc_of(self.0)),
-            DictionaryLine(od_of(self.0))
+            NmtLine(style, nmt_of(head)),
+            DllLine(style, dll_of(head)),
+            ErrorLines(errors_of(head)),
+            SocLine(soc_of(head)),
+            DictionaryLine(od_of(head))
         )
     }
 }

@@ -8,7 +8,7 @@ use Rattle.replay.proofs.play.play.Goals as goal
 
 pub returns-then-branch-eq0 : goal.returns-then-branch-eq0
 returns-then-branch-eq0 g c =
-    finish _ _ _ _ _ _ _ _ _ c.loop-place.invariant (c.in_ok-read_until.ensures.end c.if-branch-eq0.true)
+    finish _ _ _ _ _ _ _ _ _ _ c.loop-place.invariant (c.in_ok-read_until.ensures.end c.if-branch-eq0.true)
     c.flush_before_reading.ensures c.flush.ensures.bytes
 
 pub loop-place-preserved : goal.loop-place-preserved
@@ -22,7 +22,11 @@ loop-place-preserved g c =
     let more : 0 < length c.read_until.new.buf.items =
     omega (arith, c.in_ok-read_until.ensures.ok, c.clear.ensures.len, c.read_until.new.buf.ok.0, c.if-branch-eq0.false)
     in
-    next _ _ _ _ _ _ _ _ _ _ read c.read.result c.play-said.result _ _ c.is_played.ensures c.loop-place.invariant c.flush_before_reading.ensures bytes
-    c.in_ok-read_until.ensures.rest more
-    (c.read.ensures ∙ ap line_says (c.without_newline.ensures ∙ ap (strip_last 10) c.deref.ensures.value))
-    c.play-said.ensures c.in_ok-write.ensures.bytes
+    let how = ap
+    (λ (m : Option Moved). said_text c.args.options.style c.play-said.result c.loop-place.place c.play-said.new.self ++ trace_text m)
+    (c.moved_from.ensures ∙ ap (λ (m : Option CnNmtStateMachine). moved_from m c.read-read_line.result c.play-said.new.self) c.before-before.ensures)
+    in
+    next _ _ _ _ _ _ _ _ _ _ _ read c.read-read_line.result c.play-said.result _ _ c.is_played.ensures c.loop-place.invariant
+    c.flush_before_reading.ensures bytes c.in_ok-read_until.ensures.rest more
+    (c.read-read_line.ensures ∙ ap line_says (c.without_newline.ensures ∙ ap (strip_last 10) c.deref.ensures.value))
+    c.play-said.ensures (subst (λ (text : List ℕ). Appends _ _ text) how c.in_ok-write.ensures.bytes)

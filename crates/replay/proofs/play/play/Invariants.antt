@@ -7,4 +7,4 @@ use Rattle.replay.proofs.play.play.Given as goal
 abbrev pub invariant-loop-place : goal.invariant-loop-place
 invariant-loop-place g l =
     IfSome (reader_remaining g.R.Read.remaining l.fn.script)
-    (λ bs. Goes bs (reader_remaining g.R.Read.remaining l.script) l.station l.place l.all_played (g.W.Write.contents l.fn.out) (g.W.Write.contents l.out))
+    (λ bs. Goes l.fn.options bs (reader_remaining g.R.Read.remaining l.script) l.station l.place l.all_played (g.W.Write.contents l.fn.out) (g.W.Write.contents l.out))
