@@ -1,9 +1,11 @@
 //! Counts what a script reached, from the head's answers and from the head before and after each line.
 
+mod frames;
 mod partners;
 
 use crate::places::{ERRORS, kind_behind};
 use crate::view::{COUNTER_NAMES, HEARTBEAT, HIGHEST_THRESHOLD, Lent, View};
+use frames::Received;
 use partners::Arrivals;
 use std::io::{self, Write};
 
@@ -291,6 +293,8 @@ pub struct Coverage {
     run_lines: u64,
     /// Of RULES 8.
     arrivals: Arrivals,
+    /// Of RULES 13.
+    received: Received,
 }
 
 /// Ready and enabled.
@@ -368,7 +372,9 @@ impl Coverage {
     }
 
     pub fn total_calls(&self) -> u64 {
-        self.calls.iter().sum::<u64>() + self.arrivals.total_calls()
+        self.calls.iter().sum::<u64>()
+            + self.arrivals.total_calls()
+            + self.received.total_calls()
     }
 
     /// Counts one line.
@@ -387,13 +393,14 @@ impl Coverage {
         match CALLS.iter().position(|c| *c == call) {
             Some(place) => self.count_call(place, answer),
             None if call == "show" => self.shows += 1,
-            None if partners::LINES.contains(&call) => {}
+            None if partners::LINES.contains(&call) || call == frames::LINE => {}
             None => self.run_lines += 1,
         }
         if call == "start" {
             self.count_start(step, answer);
         }
         self.arrivals.count(step, answer);
+        self.received.count(step, answer);
         if let Some(after) = step.after {
             self.states[state_place(after.nmt)] += 1;
         }
@@ -743,6 +750,7 @@ impl Coverage {
     fn groups(&self) -> Vec<(&'static str, Vec<Count>)> {
         let mut groups = self.all_groups();
         groups.extend(self.arrivals.groups());
+        groups.extend(self.received.groups());
         if self.script == Ticks::Without {
             for (_, counts) in &mut groups {
                 counts.retain(|count| !count.by_tick);
@@ -1063,6 +1071,7 @@ impl Coverage {
     /// Calls that are lent the run, without the tick if the script has none.
     fn run_groups(&self) -> Vec<Group> {
         let mut groups = Vec::from(self.arrivals.pair_groups());
+        groups.extend(self.received.pair_groups());
         if self.script == Ticks::Without {
             for (_, counts) in &mut groups {
                 counts.retain(|count| !count.by_tick);

@@ -131,6 +131,10 @@ fn read_named<'a>(name: &str, words: &mut Words<'_>, bytes: &'a mut LineBytes) -
             values: words.update()?,
             history: words.history(bytes)?,
         })),
+        "frame" => Some(Line::Call(Call::Frame {
+            time: words.bits64()?,
+            bytes: words.frame(bytes)?,
+        })),
         "watch" => Some(Line::Watch(words.watched()?)),
         "unwatch" => Some(Line::Unwatch),
         "lend" => Some(Line::Lend {
