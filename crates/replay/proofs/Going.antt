@@ -70,7 +70,7 @@ pub record Goes (how : Options) (bs : List ℕ) (left : Option (List ℕ)) (x : 
 module _ (how : Options) (x : Station) (n : ℕ) (played : Bool) (before : Option (List ℕ)) where
   -- a line more was played, and what it prints written
   pub next :
-      (first left left' now now' now'' : Option (List ℕ)) (read : List ℕ) (l : Line) (o : Said) (y : Station) (told : Bool) →
+      (first left left' now now' now'' : Option (List ℕ)) (read text : List ℕ) (l : Line) (o : Said) (y : Station) (told : Bool) →
       told ≡ is_played o →
       IfSome first (λ bs. Goes how bs left x n played before now) →
       Keeps now now' →
@@ -79,17 +79,19 @@ module _ (how : Options) (x : Station) (n : ℕ) (played : Bool) (before : Optio
       0 < length read →
       says l ≡ line_says (strip_last 10 read) →
       Plays l x o y →
-      Appends now' now'' (line_text how l o n x y) →
+      text ≡ line_text how l o n x y →
+      Appends now' now'' text →
       IfSome first (λ bs. Goes how bs left' y (n + 1) (played && told) before now'')
-  next None left left' now now' now'' read l o y told e g k t d more s p a = tt
-  next (Some bs) left left' now now' now'' read l o y told e g k t d more s p a =
+  next None left left' now now' now'' read text l o y told e g k t d more s p h a = tt
+  next (Some bs) left left' now now' now'' read text l o y told e g k t d more s p h a =
       let piece : read ≡ take_through 10 g.rest = rw g.left_is at t in
       let behind : left' ≡ Some (drop_through 10 g.rest) = rw g.left_is at d in
       record {
         rest = drop_through 10 g.rest;
         text = g.text ++ line_text how l o n x y;
         left_is = behind;
-        written = joins before now' now'' g.text (line_text how l o n x y) (keeps before now now' g.text g.written k) a;
+        written = joins before now' now'' g.text (line_text how l o n x y) (keeps before now now' g.text g.written k)
+            (subst (λ (xs : List ℕ). Appends now' now'' xs) h a);
         going = subst (λ (b : Bool). Going how bs y (n + 1) (drop_through 10 g.rest) (g.text ++ line_text how l o n x y) (played && b)) (sym e)
             (goes_on l o g.going (some_left g.rest read piece more) (s ∙ ap (λ (cs : List ℕ). line_says (strip_last 10 cs)) piece) p);
       }
