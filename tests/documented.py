@@ -11,7 +11,7 @@ import pathlib
 import re
 import sys
 
-CRATES = """types nmt dll counters entries head watched bitmap node partners start phases heartbeats tick
+CRATES = """types nmt dll counters entries frames head watched bitmap node partners start phases heartbeats tick reception
 due lentlaws lent calling recipes weigh trace dosing forms shift shiftreport reach positions readings transitions
 counting entry_bytes chart examples script telling replay""".split()
 ROOT = pathlib.Path(__file__).resolve().parent.parent

@@ -1,10 +1,12 @@
 //! Counts what a script reached, from the head's answers and from the head before and after each line.
 
+mod frames;
 mod partners;
 mod recipes;
 
 use crate::places::{ERRORS, kind_behind};
 use crate::view::{COUNTER_NAMES, HEARTBEAT, HIGHEST_THRESHOLD, Lent, View};
+use frames::Received;
 use partners::Arrivals;
 use recipes::Recipes;
 use std::io::{self, Write};
@@ -295,6 +297,8 @@ pub struct Coverage {
     arrivals: Arrivals,
     /// Of RULES 12.
     recipes: Recipes,
+    /// Of RULES 13.
+    received: Received,
 }
 
 /// Ready and enabled.
@@ -372,7 +376,10 @@ impl Coverage {
     }
 
     pub fn total_calls(&self) -> u64 {
-        self.calls.iter().sum::<u64>() + self.arrivals.total_calls() + self.recipes.total_calls()
+        self.calls.iter().sum::<u64>()
+            + self.arrivals.total_calls()
+            + self.recipes.total_calls()
+            + self.received.total_calls()
     }
 
     /// Counts one line.
@@ -391,7 +398,9 @@ impl Coverage {
         match CALLS.iter().position(|c| *c == call) {
             Some(place) => self.count_call(place, answer),
             None if call == "show" => self.shows += 1,
-            None if partners::LINES.contains(&call) || recipes::LINES.contains(&call) => {}
+            None if partners::LINES.contains(&call)
+                || recipes::LINES.contains(&call)
+                || call == frames::LINE => {}
             None => self.run_lines += 1,
         }
         if call == "start" {
@@ -399,6 +408,7 @@ impl Coverage {
         }
         self.arrivals.count(step, answer);
         self.recipes.count(step, answer);
+        self.received.count(step, answer);
         if let Some(after) = step.after {
             self.states[state_place(after.nmt)] += 1;
         }
@@ -749,6 +759,7 @@ impl Coverage {
         let mut groups = self.all_groups();
         groups.extend(self.arrivals.groups());
         groups.extend(self.recipes.groups());
+        groups.extend(self.received.groups());
         if self.script == Ticks::Without {
             for (_, counts) in &mut groups {
                 counts.retain(|count| !count.by_tick);
@@ -1069,6 +1080,7 @@ impl Coverage {
     /// Calls that are lent the run, without the tick if the script has none.
     fn run_groups(&self) -> Vec<Group> {
         let mut groups = Vec::from(self.arrivals.pair_groups());
+        groups.extend(self.received.pair_groups());
         if self.script == Ticks::Without {
             for (_, counts) in &mut groups {
                 counts.retain(|count| !count.by_tick);

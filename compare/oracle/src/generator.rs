@@ -2,6 +2,7 @@
 //! at the head between its lines, so that it reaches what single random calls would hardly meet: a time at the very
 //! deadline, a level of 14, a full queue.
 
+mod frames;
 mod partners;
 mod recipes;
 
@@ -63,8 +64,8 @@ const TOLERANCES: [u64; 8] = [0, 999, 1000, 1999, 100_000, 100_000, 5_000_000, 0
 const COUNTER_VALUES: [u64; 6] = [0, 0, 1, 7, 0xFFFF_FFFE, 0xFFFF_FFFF];
 const REGISTERS: [u64; 6] = [0, 0, 1, 2, 0xFE, 0xFF];
 /// 15 is the most frequent, so that the other scenarios cross as before.
-const THRESHOLDS: [u64; 20] = [
-    0, 0, 1, 7, 8, 8, 9, 9, 14, 15, 15, 15, 15, 15, 16, 16, 17, 24, 33, 1_000_000,
+const THRESHOLDS: [u64; 21] = [
+    0, 0, 1, 1, 7, 8, 8, 9, 9, 14, 15, 15, 15, 15, 15, 16, 16, 17, 24, 33, 1_000_000,
 ];
 const THRESHOLDS_ABOVE: [u64; 3] = [1_000_001, 1_000_001, 0xFFFF_FFFF];
 /// Numbers that name no event, kind, state or command.
@@ -114,6 +115,7 @@ pub fn generate(
     };
     script.partners_before_the_first_start()?;
     script.recipes_before_the_first_start()?;
+    script.frames_before_the_first_start()?;
     script.before_the_first_start()?;
     while script.coverage.total_calls() < calls {
         script.life(calls)?;
@@ -291,9 +293,10 @@ impl Script<'_> {
             if self.coverage.total_calls() >= calls {
                 break;
             }
-            match self.random.below(18) {
-                0..3 => self.partners()?,
-                3 => self.recipes()?,
+            match self.random.below(25) {
+                0..4 => self.partners()?,
+                4..7 => self.frames()?,
+                7 => self.recipes()?,
                 _ => self.scenario()?,
             }
         }

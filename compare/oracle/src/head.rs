@@ -3,6 +3,7 @@
 
 use crate::clock::Watch;
 use crate::dictionary::{self, Defaults, Dictionary};
+use crate::frame::Frame;
 use crate::occurrences::Occurrences;
 use crate::partners::{self, Consumers};
 use crate::places::{self, DLL_EVENTS, NMT_EVENTS};
@@ -25,9 +26,10 @@ use powerlink_rs::nmt::cn_state_machine::CnNmtStateMachine;
 use powerlink_rs::nmt::events::{NmtEvent, NmtStateCommand};
 use powerlink_rs::nmt::flags::FeatureFlags;
 use powerlink_rs::nmt::states::NmtState;
-use powerlink_rs::node::cn::{run_tick, state::CnContext};
+use powerlink_rs::node::cn::{handle_error, run_tick, state::CnContext};
 use powerlink_rs::node::{CoreNodeContext, NodeAction};
 use powerlink_rs::sdo::transport::AsndTransport;
+use powerlink_rs::types::C_ADR_BROADCAST_NODE_ID;
 use std::collections::{BTreeMap, VecDeque};
 use std::panic::{AssertUnwindSafe, catch_unwind};
 
@@ -110,6 +112,11 @@ impl Head {
 
     pub fn nmt(&mut self, event: u64) -> Answer {
         let event = *at(&NMT_EVENTS, event)?;
+        Ok(forms::taken(&self.process_event(event)))
+    }
+
+    /// What the original's NMT machine makes of an event, in parts of an answer.
+    fn process_event(&mut self, event: NmtEvent) -> Vec<String> {
         let from = self.context.nmt_state_machine.current_state;
         let errors = self
             .context
@@ -123,18 +130,45 @@ impl Head {
         match entered.last() {
             None => {
                 assert!(!reset::is_reset(event), "a reset enters states");
-                Ok(forms::taken(&[forms::errors(errors)]))
+                vec![forms::errors(errors)]
             }
             Some(last) => {
                 assert!(reset::is_reset(event), "only a reset enters states");
                 assert_eq!(to, *last, "the machine ends where the recorder does");
                 assert_eq!(errors, None, "a reset reports no errors");
-                Ok(forms::taken(&[
-                    forms::entered(&entered),
-                    forms::restore(&ranges),
-                ]))
+                vec![forms::entered(&entered), forms::restore(&ranges)]
             }
         }
+    }
+
+    /// A frame that arrived at a time: the original's machines in the order of RULES 13.
+    pub fn frame(&mut self, time: u64, bytes: &[u8]) -> Answer {
+        let frame = Frame::read(bytes)?;
+        try_time(time)?;
+        let nmt = &self.context.nmt_state_machine;
+        let (state, node) = (nmt.current_state, nmt.node_id);
+        if frame.destination != node.0 && frame.destination != C_ADR_BROADCAST_NODE_ID {
+            return Ok(forms::taken(&["not_ours".to_string()]));
+        }
+        let errors = self
+            .context
+            .dll_state_machine
+            .process_event(frame.dll, state, node, true);
+        let ended = errors.into_iter().flatten().any(|error| {
+            let ended = handle_error(&mut self.context, error, time);
+            let counters = &self.context.dll_error_manager.counters;
+            self.occurrences.handled(counters);
+            ended
+        });
+        let mut parts = vec![forms::logged(&kinds::take_logged())];
+        match frame.nmt.filter(|_| !ended) {
+            Some(event) => parts.extend(self.process_event(event)),
+            None => parts.push(forms::errors(None)),
+        }
+        if frame.arms && !ended {
+            self.arm(time)?;
+        }
+        Ok(forms::taken(&parts))
     }
 
     pub fn dll(&mut self, event: u64, expected: bool) -> Answer {
@@ -311,11 +345,14 @@ impl Head {
     pub fn check(&self) {
         let capacity = self.context.emergency_queue.capacity();
         assert_eq!(capacity, self.capacity, "the queue keeps its capacity");
-        assert!(kinds::take_logged().is_empty(), "only error and tick log");
+        assert!(
+            kinds::take_logged().is_empty(),
+            "only error, tick and frame log"
+        );
         assert_eq!(
             self.occurrences.seen,
             held(&self.context.dll_error_manager.counters),
-            "only error, cycle and tick change the counters"
+            "only error, cycle, tick and frame change the counters"
         );
         assert_eq!(
             self.context.heartbeat_consumers, self.left,

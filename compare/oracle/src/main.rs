@@ -29,6 +29,7 @@ mod places;
 mod reset;
 
 mod forms;
+mod frame;
 mod generator;
 mod head;
 mod incident;

@@ -94,6 +94,7 @@ impl Oracle {
             Call::Due => head.due(&self.run),
             Call::HandOut => head.hand_out(),
             Call::Arm(time) => head.arm(time),
+            Call::Frame { time, bytes } => head.frame(time, &bytes),
             Call::Load(load) => head.load(&load),
             Call::State(number) => head::read_state(number),
             Call::Command(number) => head::read_command(number),
@@ -170,6 +171,7 @@ impl Driven for Oracle {
         let counters = seven(&context.dll_error_manager.counters);
         let od = &context.core.od;
         Some(View {
+            node: nmt.node_id.0,
             nmt: nmt.current_state as u8,
             enabled: nmt.ready_to_operate_enabled,
             ready: nmt.app_ready,

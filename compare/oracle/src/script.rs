@@ -81,6 +81,7 @@ pub enum Call {
     Due,
     HandOut,
     Arm(u64),
+    Frame { time: u64, bytes: Vec<u8> },
     Load(Load),
     State(u64),
     Command(u64),
@@ -112,6 +113,7 @@ const LONGEST_HISTORY: usize = 300;
 const LONGEST_DESK: usize = 100;
 /// More than a recipe may have, so that one that is too long can be tried.
 const MOST_COMPONENTS: usize = 20;
+const LONGEST_FRAME: usize = 1518;
 
 /// What a line says; none: it is unreadable.
 pub fn read(line: &[u8]) -> Option<Line> {
@@ -133,7 +135,7 @@ pub fn read(line: &[u8]) -> Option<Line> {
             places: words.number().filter(|places| *places <= MOST_PLACES)?,
             number: words.number()?,
         },
-        b"desk" => Line::Desk(words.desk()?),
+        b"desk" => Line::Desk(words.bytes(LONGEST_DESK)?),
         b"show" => Line::Show,
         name => Line::Call(read_call(name, &mut words)?),
     };
@@ -165,6 +167,10 @@ fn read_call(name: &[u8], words: &mut Words) -> Option<Call> {
         b"due" => Call::Due,
         b"handout" => Call::HandOut,
         b"arm" => Call::Arm(words.number()?),
+        b"frame" => Call::Frame {
+            time: words.number()?,
+            bytes: words.bytes(LONGEST_FRAME)?,
+        },
         b"load" => Call::Load(read_load(words)?),
         b"state" => Call::State(words.number()?),
         b"command" => Call::Command(words.number()?),
@@ -299,14 +305,14 @@ impl<'a> Words<'a> {
         read(self).map(Some)
     }
 
-    /// The bytes of the desk's buffer; none of them is `-`.
-    fn desk(&mut self) -> Option<Vec<u8>> {
+    /// The bytes of the desk's buffer or of a frame; none of them is `-`.
+    fn bytes(&mut self, longest: usize) -> Option<Vec<u8>> {
         let word = self.next()?;
         if word == b"-" {
             return Some(Vec::new());
         }
         let bytes = bytes(word)?;
-        (1..=LONGEST_DESK).contains(&bytes.len()).then_some(bytes)
+        (1..=longest).contains(&bytes.len()).then_some(bytes)
     }
 
     fn components(&mut self) -> Option<Vec<Component>> {

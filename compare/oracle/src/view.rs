@@ -25,6 +25,7 @@ pub fn is_node(number: u8) -> bool {
 /// The head between two lines of a script.
 #[derive(Debug, Clone, PartialEq, Eq)]
 pub struct View {
+    pub node: u8,
     /// The number of the NMT state, as 0x1C.
     pub nmt: u8,
     pub enabled: bool,

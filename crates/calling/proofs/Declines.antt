@@ -23,12 +23,19 @@ use Rattle.types.specs.declared.frame.error.types.DllError.{DllError}
 use Rattle.std.specs.List.{AllByRecursion}
 use Rattle.types.proofs.Reading.{reads_holds}
 use Rattle.watched.specs.Watched.{in_time, heard_at, unheard, Run, watching, changing}
-use Rattle.node.specs.Plain.{Plain, Call, nmt_event, dll_event, error, cycle_complete, withdraw, heard, hand_out, load, arm, tick, range, margin, add, remove, next_due, refused, taken, range_answer, margin_answer, due_answer, Step, Start, Begun, begins, declined, FirstStep}
+use Rattle.node.specs.Plain.{Plain, Call, nmt_event, dll_event, error, cycle_complete, withdraw, heard, hand_out, load, arm, tick, range, margin, add, remove, next_due, frame, refused, taken, range_answer, margin_answer, due_answer, not_ours, Step, Start, Begun, begins, declined, FirstStep}
 use Rattle.node.specs.Steps.{Test, tried, no_run, answers, declines, leaves, with_nmt, with_soc, nmt_step, dll_step, error_step, withdrawn, withdraw_tests, heard_tests, add_tests, remove_tests, added, removed, arm_tests, armed, fresh, start_tests, started}
 use Rattle.node.specs.Heartbeats.{refreshed_at}
 use Rattle.node.specs.Tick.{tick_tests, tick_taken, tick_answered}
 use Rattle.node.specs.Range.{range_tests, margin_tests, verdict_of, margin_of}
 use Rattle.node.specs.Due.{due, due_tests}
+use Rattle.node.specs.FrameSteps.{is_ours, received, stops, follows, frame_taken, frame_tests, by_frame, frame_step}
+use Rattle.frames.specs.declared.Message.{Message}
+use Rattle.frames.specs.declared.Frame.{Frame}
+use Rattle.frames.specs.Frame.{read_frame}
+use Rattle.frames.specs.Reading.{IsRefused, short, other_ether_type, other_message_type, no_service, no_command, other_command}
+use Rattle.frames.proofs.ReadingLaws.{refusals_lem}
+use Rattle.reception.specs.FrameIn.{taken_words, words_by, frame_words}
 use Rattle.node.specs.Run.{step}
 use Rattle.node.specs.Refines.{plain, joins_all}
 use Rattle.node.specs.InPlace.{withdraw_words, nmt_words, dll_words, error_words, arm_words}
@@ -125,6 +132,39 @@ tried_declines ns p l (t ∷ ts) accept f x r h = by t.holds (tried_declines ns 
     by true more h = more h
     by false more h = (subst (Among ns) (refusal_of h) f.0, refl, refl)
 
+-- a frame: the refusals of its reading, and of its time; one that is ours is taken
+abbrev frame_refusals : List ℕ
+frame_refusals = 18 ∷ 19 ∷ 20 ∷ 4 ∷ 5 ∷ []
+
+read_among : {b : List ℕ} {r : Refusal} → IsRefused b r → Among frame_refusals (refusal_number r)
+read_among (short n) = refl
+read_among (other_ether_type n) = refl
+read_among (other_message_type n) = refl
+read_among no_service = refl
+read_among no_command = refl
+read_among (other_command n) = refl
+
+taken_accepts : (t : ℕ) (p : Plain) (m : Message) → (parts (frame_taken t p m).answer).declines ≡ false
+unfolding frame_taken
+taken_accepts t p m =
+    picked (λ (k : Step). (parts k.answer).declines ≡ false) (received t p m).ended (stops (received t p m)) (follows t m (received t p m)) refl refl
+
+frame_declines :
+    (p : Plain) (t : ℕ) (b : List ℕ) (r : ℕ) → (frame_step t p b).answer ≡ refused r →
+    Plainly frame_refusals no_run (frame_step t p b) r
+unfolding frame_step
+frame_declines p t b r h = by (read_frame b) refl h
+  where
+    by :
+        (x : Result Frame Refusal) → read_frame b ≡ x → (by_frame t p x).answer ≡ refused r →
+        Plainly frame_refusals no_run (by_frame t p x) r
+    by (Ok f) e g =
+        tried_declines frame_refusals p no_run (frame_tests t)
+        (pick (is_ours p.nmt.node_id f.destination) (frame_taken t p f.message) (answers p not_ours no_run)) (refl, tt)
+        (picked (λ (k : Step). (parts k.answer).declines ≡ false) (is_ours p.nmt.node_id f.destination) (frame_taken t p f.message) (answers p not_ours no_run)
+        (taken_accepts t p f.message) refl) r g
+    by (Err x) e g = (subst (Among frame_refusals) (refusal_of g) (read_among ((refusals_lem b x).0 e)), refl, refl)
+
 -- the run that a call is lent
 abbrev pub lent_to : Call → Run
 lent_to c = lent_in (row_of c).lends
@@ -156,8 +196,30 @@ plain_declines p (add n o l) r h =
 plain_declines p (remove n l) r h =
     tried_declines (3 ∷ 7 ∷ []) p l (remove_tests n l) (leaves p (removed n l)) (refl, (refl, tt)) refl r h
 plain_declines p (next_due l) r h = tried_declines (3 ∷ []) p l (due_tests l) (answers p (due_answer (due p (watching l))) l) (refl, tt) refl r h
+plain_declines p (frame t b) r h = frame_declines p t b r h
 
 -- the words that a declined call leaves
+frame_words_lem :
+    (ws q m : List ℕ) (t : ℕ) (b : List ℕ) (r : ℕ) →
+    (frame_step t (plain (head_of ws) q m) b).answer ≡ refused r → frame_words ws q m t b ≡ ws
+unfolding frame_step frame_words head_of
+frame_words_lem ws q m t b r h = by (read_frame b) h
+  where
+    p : Plain
+    p = plain (head_of ws) q m
+
+    by : (x : Result Frame Refusal) → (by_frame t p x).answer ≡ refused r → words_by ws q m t x ≡ ws
+    by (Err x) g = refl
+    by (Ok f) g = ours (in_time t) (is_ours (nmt_of ws).node_id f.destination) g
+      where
+        ours :
+            (a b : Bool) →
+            (pick a (pick b (frame_taken t p f.message) (answers p not_ours no_run)) (declines p no_run 5)).answer ≡ refused r →
+            pick a (pick b (taken_words ws q m t f.message) ws) ws ≡ ws
+        ours false b g = refl
+        ours true false g = refl
+        ours true true g = apart (sym g) refl (taken_accepts t p f.message)
+
 pub nmt_words_lem : (ws : List ℕ) (p : Plain) (x : Result NmtEvent Refusal) (r : ℕ) → (nmt_step p x).answer ≡ refused r → nmt_words ws x ≡ ws
 nmt_words_lem ws p (Ok e) r h = apart (sym h) refl refl
 nmt_words_lem ws p (Err x) r h = refl
@@ -214,6 +276,10 @@ module _ {x x' : Held} (r : Refusal) where
   stays (call.Add i o) t = same_held t.words (t.lent ∙ (plain_declines (plain_at x) (add i o x.lent) (refusal_number r) (sym t.refines.answer)).1) t.rings
   stays (call.Remove i) t = same_held t.words (t.lent ∙ (plain_declines (plain_at x) (remove i x.lent) (refusal_number r) (sym t.refines.answer)).1) t.rings
   stays call.NextDue t = same_held t.words (t.lent ∙ (plain_declines (plain_at x) (next_due x.lent) (refusal_number r) (sym t.refines.answer)).1) t.rings
+  stays (call.Frame s b) t =
+      let d = plain_declines (plain_at x) (frame s b.now) (refusal_number r) (sym t.refines.answer) in
+      same_held (t.words ∙ frame_words_lem x.head x.queue x.history s b.now (refusal_number r) (sym t.refines.answer)) t.lent
+      (t.rings ∙ ap (joins_all (rings_of x)) d.2)
 
   -- OF ANY CALL ON ANY HEAD
   pub refused_changes_nothing : (c : made.Call) → Made x c (Err r) x' → Declined x c (refusal_number r) x'

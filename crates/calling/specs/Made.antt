@@ -16,8 +16,9 @@ use Rattle.node.specs.Refines.{Refines, Rings, left, joins_all, loaded_places, l
 use Rattle.node.specs.InPlace.{unless_refused, nmt_words, dll_words, error_words, cycle_words, withdraw_words, arm_words, hand_out_words}
 use Rattle.node.specs.Loaded.{load_words, bytes_named}
 use Rattle.tick.specs.TickWords.{tick_words}
+use Rattle.reception.specs.FrameIn.{frame_words}
 use Rattle.calling.specs.declared.Call.{Call}
-use Rattle.calling.specs.declared.Call.TheVariants.{NmtEvent, DllEvent, Error, CycleComplete, Withdraw, Heard, HandOut, Load, Arm, Tick, Range, Margin, Add, Remove, NextDue}
+use Rattle.calling.specs.declared.Call.TheVariants.{NmtEvent, DllEvent, Error, CycleComplete, Withdraw, Heard, HandOut, Load, Arm, Tick, Range, Margin, Add, Remove, NextDue, Frame}
 use Rattle.calling.specs.Held.{Held, plain_at, rings_of}
 use Rattle.calling.specs.Values.{call_of, Reply, said}
 use Rattle.calling.specs.Table.{row_of, if_lent}
@@ -67,15 +68,16 @@ module _ (x : Held) where
             };
       }
 
+  -- the entries of the crossings join queue and history
+  abbrev crossed : List ℕ → plain.Step → Stored
+  crossed ws s = record { words = ws; rings = joins_all (rings_of x) s.crossings }
+
   abbrev ticked : Reply → plain.Step → ℕ → Run → Stored
   ticked o s t r =
-      record {
-        words =
-            unless_refused o x.head
-            (earliest_written (tick_words x.head x.queue x.history t (watching x.lent))
-            (earliest (watching r)));
-        rings = joins_all (rings_of x) s.crossings;
-      }
+      crossed
+      (unless_refused o x.head
+      (earliest_written (tick_words x.head x.queue x.history t (watching x.lent))
+      (earliest (watching r)))) s
 
   -- what is stored behind a call which answered o and left the run r; one that is refused leaves
   -- all as it was
@@ -95,6 +97,8 @@ module _ (x : Held) where
   stored_after (Add n p) o r = moment_only o r
   stored_after (Remove n) o r = moment_only o r
   stored_after NextDue o r = words_only x.head
+  stored_after (Frame t b) o r =
+      crossed (frame_words x.head x.queue x.history t b.now) (step_of (Frame t b))
 
 -- A call c as it was made on x, which answered o and left x'. Head, answer and run are the plain
 -- head's; the run is known whether or not it was lent; every word of the head is known, and every

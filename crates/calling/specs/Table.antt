@@ -4,7 +4,7 @@
 use Rattle.std.specs.Prelude.{ℕ, Bool, true, false, List, [], ◌∷◌}
 use Rattle.watched.specs.Watched.{Run}
 use Rattle.node.specs.declared.load.DictionaryUpdate.{DictionaryUpdate}
-use Rattle.node.specs.Plain.{HistoryUpdate, Call, nmt_event, dll_event, error, cycle_complete, withdraw, heard, hand_out, load, arm, tick, range, margin, add, remove, next_due}
+use Rattle.node.specs.Plain.{HistoryUpdate, Call, nmt_event, dll_event, error, cycle_complete, withdraw, heard, hand_out, load, arm, tick, range, margin, add, remove, next_due, frame}
 use Rattle.node.specs.Steps.{no_run}
 
 -- the watched nodes that a call is lent
@@ -65,6 +65,7 @@ row_of (margin t) = row (5 ∷ []) no_nodes nothing none
 row_of (add n o r) = row (1 ∷ 3 ∷ 10 ∷ 9 ∷ []) (nodes r) nothing none
 row_of (remove n r) = row (3 ∷ 7 ∷ []) (nodes r) nothing none
 row_of (next_due r) = row (3 ∷ []) (read r) nothing none
+row_of (frame t b) = row (18 ∷ 19 ∷ 20 ∷ 4 ∷ 5 ∷ []) no_nodes event crossings
 
 -- the run that is lent
 abbrev pub lent_in : Lends → Run

@@ -4,6 +4,8 @@
 use Rattle.std.specs.Prelude.{Bool, true, false, List, [], ◌∷◌}
 use Rattle.types.specs.declared.nmt.states.NmtState.{NmtState}
 use Rattle.types.specs.declared.refusals.Refusal.{Refusal}
+use Rattle.std.specs.declared.option.Option.{Option}
+use Rattle.std.specs.declared.option.Option.TheVariants.{Some, None}
 use Rattle.std.specs.declared.result.Result.{Result}
 use Rattle.watched.specs.Watched.{Run}
 use Rattle.node.specs.Plain as plain
@@ -11,8 +13,9 @@ use Rattle.node.specs.Refines.{history_update}
 use Rattle.node.specs.InPlace.{answered, nmt_says, dll_says, error_says}
 use Rattle.node.specs.Loaded.{bytes_named}
 use Rattle.tick.specs.TickIn.{tick_says}
+use Rattle.reception.specs.FrameIn.{frame_says}
 use Rattle.calling.specs.declared.Call.{Call}
-use Rattle.calling.specs.declared.Call.TheVariants.{NmtEvent, DllEvent, Error, CycleComplete, Withdraw, Heard, HandOut, Load, Arm, Tick, Range, Margin, Add, Remove, NextDue}
+use Rattle.calling.specs.declared.Call.TheVariants.{NmtEvent, DllEvent, Error, CycleComplete, Withdraw, Heard, HandOut, Load, Arm, Tick, Range, Margin, Add, Remove, NextDue, Frame}
 use Rattle.calling.specs.declared.Answer.{Answer}
 use Rattle.calling.specs.declared.Answer.TheVariants as answer
 
@@ -33,6 +36,7 @@ call_of (Margin t) r = plain.margin t
 call_of (Add n o) r = plain.add n o r
 call_of (Remove n) r = plain.remove n r
 call_of NextDue r = plain.next_due r
+call_of (Frame t b) r = plain.frame t b.now
 
 -- what an answer says, as the plain head's
 abbrev pub says : Answer → plain.Answer
@@ -46,6 +50,7 @@ says (answer.Tick es) = tick_says es
 says (answer.Range v) = plain.range_answer v
 says (answer.Margin z) = plain.margin_answer z
 says (answer.Due d) = plain.due_answer d
+says (answer.Frame a) = frame_says a
 
 -- what comes back from a call: its answer or its refusal
 abbrev pub Reply : Type 0
@@ -60,6 +65,11 @@ abbrev pub enters_some : List NmtState → Bool
 enters_some [] = false
 enters_some (s ∷ ss) = true
 
+-- whether what an NMT event answered tells of a reset, where one came
+abbrev pub event_tells_reset : Option plain.NmtReply → Bool
+event_tells_reset None = false
+event_tells_reset (Some n) = enters_some n.reset.states
+
 -- whether an answer tells of a reset: it names the states that were entered (RULES 4.4)
 abbrev pub tells_reset : plain.Answer → Bool
 tells_reset (plain.nmt_answer es r) = enters_some r.states
@@ -73,3 +83,5 @@ tells_reset (plain.tick_answer es) = false
 tells_reset (plain.range_answer v) = false
 tells_reset (plain.margin_answer z) = false
 tells_reset (plain.due_answer d) = false
+tells_reset plain.not_ours = false
+tells_reset (plain.frame_answer es n) = event_tells_reset n

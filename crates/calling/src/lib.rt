@@ -12,6 +12,7 @@ ghost use Rattle.watched.specs.Watched.{run};
 ghost use Rattle.watched.specs.Nodes.{nodes_of};
 ghost use Rattle.partners.specs.Partners.{words_of};
 ghost use Rattle.calling.specs.Held.{held};
+ghost use Rattle.reception.specs.FrameIn.{frame_says};
 ghost use Rattle.calling.specs.Values.{says, tells_reset};
 ghost use Rattle.calling.specs.Made.{Made, lent_after};
 
@@ -26,6 +27,7 @@ use node::calls::{
 };
 use node::load::{DictionaryUpdate, load};
 use node::range::{SocVerdict, soc_margin, soc_range};
+use reception::{FrameAnswer, process_frame};
 use types::frame::error::types::DllErrors;
 use types::refusals::Refusal;
 use watched::nodes::{NodeWords, WatchedNode};
@@ -104,6 +106,15 @@ pub enum Call<'a> {
     /// When the next tick is due (RULES 7.13): a tick that is taken before then finds nothing to
     /// do. Head and nodes are only read. Refused by WatchedNodes. Answers `Due`.
     NextDue,
+    /// A frame that arrived at a time: the bytes of an Ethernet frame, from its destination's
+    /// address on (RULES 13). Refused by FrameTooShort below 17 bytes, then by OtherEtherType, then
+    /// by OtherMessageType, then by FrameTooShort where an ASnd ends before its service or its
+    /// command, then by UnknownNumber where service 4 has no state command, then by TimeLimit.
+    /// Answers `Frame`.
+    Frame {
+        time: u64,
+        bytes: &'a [u8],
+    },
 }
 
 /// What a call answers that is not refused.
@@ -131,6 +142,9 @@ pub enum Answer {
     Margin(i64),
     /// A moment in µs, 0 meaning at once; where it is none, no tick finds anything to do.
     Due(Option<u64>),
+    /// That the frame is for another node, and nothing changed; or what was logged, and what its
+    /// NMT event answers, where one came.
+    Frame(FrameAnswer),
 }
 
 impl Answer {
@@ -149,7 +163,20 @@ impl Answer {
             | Answer::Range(_)
             | Answer::Margin(_)
             | Answer::Due(_) => false,
+            Answer::Frame(answer) => frame_tells_reset(answer),
         }
+    }
+}
+
+// Whether the NMT event of a frame was a reset.
+fn frame_tells_reset(answer: FrameAnswer) -> bool
+    ensures { result ≡ tells_reset (frame_says answer) }
+{
+    match answer {
+        FrameAnswer::NotOurs => false,
+        FrameAnswer::Ours(taken) => taken
+            .nmt
+            .is_some_and(|event| event.reset != ResetSequence::None),
     }
 }
 
@@ -200,6 +227,9 @@ pub fn make<N: Nodes>(
             .map(|()| Answer::Taken),
         Call::Remove(node) => nodes.remove(head, number, node).map(|()| Answer::Taken),
         Call::NextDue => nodes.next_due(head, *number).map(Answer::Due),
+        Call::Frame { time, bytes } => {
+            process_frame(head, queue, history, time, bytes).map(Answer::Frame)
+        }
     }
 }
 

@@ -22,6 +22,7 @@ use Rattle.types.proofs.Tests.{both_first, both_second}
 use Rattle.head.specs.Head.{moment_in}
 use Rattle.head.specs.Words.{nmt_of, soc_of, head_of}
 use Rattle.head.specs.declared.state.Deadline.{Deadline}
+use Rattle.types.specs.declared.frame.cs_state_machine.DllCsEvent.TheVariants.{SocTimeout}
 use Rattle.head.specs.declared.state.Deadline.TheVariants.{At, Nothing}
 use Rattle.head.specs.Written.{earliest_written}
 use Rattle.watched.specs.declared.nodes.WatchedNode.{WatchedNode}
@@ -30,13 +31,13 @@ use Rattle.watched.specs.Nodes.{nodes_of, rests, not_before}
 use Rattle.watched.proofs.Lists.{each_nodes, few}
 use Rattle.watched.proofs.Watching.{lent_inside}
 use Rattle.node.specs.Plain.{Plain, Call, tick_answer, Step}
-use Rattle.node.specs.Steps.{declines, up_to_date, with_dll, cycle_of, tolerance_of, limit_of, late_from, smaller, earliest}
+use Rattle.node.specs.Steps.{declines, up_to_date, dll_outcome, with_dll, cycle_of, tolerance_of, limit_of, late_from, smaller, earliest}
 use lib.ListN.{set}
 use Rattle.head.specs.Places as at
 use Rattle.node.specs.Phases.{Ticked, goes_on, behind}
 use Rattle.node.specs.Heartbeats.{checks_heartbeats, is_late, refreshed, late_ones, on_late_all, heartbeats, refreshed_at}
 use Rattle.node.specs.DllErrors.{on_dll_errors}
-use Rattle.node.specs.Deadline.{used_up, with_deadline, rescheduled, within_limit, last_soc, soc_timeout, lost, is_loss, soc_check, at_not_active, basic_timeout, by_deadline}
+use Rattle.node.specs.Deadline.{used_up, with_deadline, rescheduled, within_limit, last_soc, lost, is_loss, soc_check, at_not_active, basic_timeout, by_deadline}
 use Rattle.node.specs.Tick.{tick_taken, tick_answered}
 use Rattle.node.specs.Run.{step}
 use Rattle.node.specs.Refines.{plain, Rings, rings, joins_all}
@@ -198,9 +199,9 @@ module _ (t : ℕ) where
 
   lost_later : (p : Plain) → p.soc.next_tick_us ≡ Nothing → Later t (lost p t).head
   lost_later p n =
-      let g : Plain = with_dll p (soc_timeout p).state in
-      let k : Ticked = on_dll_errors t g (soc_timeout p).errors in
-      let none : k.head.soc.next_tick_us ≡ Nothing = on_dll_errors_deadline t g (soc_timeout p).errors ∙ n in
+      let g : Plain = with_dll p (dll_outcome p SocTimeout true).state in
+      let k : Ticked = on_dll_errors t g (dll_outcome p SocTimeout true).errors in
+      let none : k.head.soc.next_tick_us ≡ Nothing = on_dll_errors_deadline t g (dll_outcome p SocTimeout true).errors ∙ n in
       tested (λ (k : Ticked). Later t k.head) k.ended (λ c. none_later k.head none) (λ c. rescheduled_later k.head none)
 
   check_later : (p : Plain) → p.soc.next_tick_us ≡ Nothing → Later t (soc_check p t).head

@@ -21,7 +21,7 @@ use Rattle.types.specs.declared.frame.error.types.DllErrors.{DllErrors}
 use Rattle.counters.specs.declared.counters.ErrorTaken.{ErrorTaken}
 use Rattle.node.specs.declared.range.SocVerdict.{SocVerdict}
 use Rattle.node.specs.declared.range.SocVerdict.TheVariants.{Open}
-use Rattle.node.specs.Plain.{Call, Answer, refused, taken, nmt_answer, dll_answer, error_answer, cycle_answer, hand_out_answer, tick_answer, range_answer, margin_answer, due_answer}
+use Rattle.node.specs.Plain.{Call, Answer, refused, taken, nmt_answer, dll_answer, error_answer, cycle_answer, hand_out_answer, tick_answer, range_answer, margin_answer, due_answer, not_ours, frame_answer}
 use Rattle.node.specs.InPlace.{InPlace, said, nmt_said, dll_said, error_said, range_said, margin_said}
 
 -- a call leaves one answer and one head
@@ -51,6 +51,8 @@ parts (tick_answer es) = record { declines = false; refusal = 0; errors = es; re
 parts (range_answer v) = record { declines = false; refusal = 0; errors = []; reset = record { states = []; ranges = [] }; action = None; signal = false }
 parts (margin_answer z) = record { declines = false; refusal = 0; errors = []; reset = record { states = []; ranges = [] }; action = None; signal = false }
 parts (due_answer d) = record { declines = false; refusal = 0; errors = []; reset = record { states = []; ranges = [] }; action = None; signal = false }
+parts not_ours = record { declines = false; refusal = 0; errors = []; reset = record { states = []; ranges = [] }; action = None; signal = false }
+parts (frame_answer es r) = record { declines = false; refusal = 0; errors = es; reset = record { states = []; ranges = [] }; action = None; signal = false }
 
 -- the verdict and the margin, where an answer is one
 abbrev pub verdict_in : Answer → SocVerdict
@@ -65,6 +67,8 @@ verdict_in (tick_answer es) = Open
 verdict_in (range_answer v) = v
 verdict_in (margin_answer z) = Open
 verdict_in (due_answer d) = Open
+verdict_in not_ours = Open
+verdict_in (frame_answer es r) = Open
 
 abbrev margin_in : Answer → ℤ
 margin_in (refused n) = pos 0
@@ -78,6 +82,8 @@ margin_in (tick_answer es) = pos 0
 margin_in (range_answer v) = pos 0
 margin_in (margin_answer z) = z
 margin_in (due_answer d) = pos 0
+margin_in not_ours = pos 0
+margin_in (frame_answer es r) = pos 0
 
 -- one that is declined and one that is taken are not alike
 pub apart : {A : Type 0} {a b : Answer} → a ≡ b → (parts a).declines ≡ true → (parts b).declines ≡ false → A

@@ -24,7 +24,7 @@ use Rattle.types.specs.declared.frame.error.types.DllError.{DllError}
 use Rattle.nmt.specs.Resets.{Passed, is_reset}
 use Rattle.nmt.specs.Nmt as Nmt
 use Rattle.dll.specs.Dll as Dll
-use Rattle.dll.specs.declared.cs_state_machine.DllAnswer.{DllAnswer}
+use Rattle.types.specs.declared.frame.error.types.DllErrors.{DllErrors}
 use Rattle.counters.specs.Counters.{handled, completed, HandledError, CompletedCycle}
 use Rattle.counters.specs.Marks.{error_marks, cycle_marks}
 use Rattle.entries.specs.Ring.{nth, rest}
@@ -39,7 +39,7 @@ use Rattle.head.specs.declared.state.Dictionary.{Dictionary}
 use Rattle.node.specs.declared.load.DictionaryUpdate.{DictionaryUpdate}
 use Rattle.node.specs.Plain.{Plain, Step, Call, nmt_event, dll_event, error, cycle_complete, withdraw, hand_out, load, arm, refused, taken, nmt_answer, dll_answer, error_answer, cycle_answer, hand_out_answer}
 use Rattle.watched.specs.Watched.{in_time, Run}
-use Rattle.node.specs.Steps.{forgets, must, tried, plain_of, with_nmt, with_soc, no_run, answers, declines, nmt_taken, nmt_step, dll_taken, dll_step, error_taken, error_step, cycle_taken, withdrawn, hand_out_step, updated, updated_history, cycle_of, limit_of, armed}
+use Rattle.node.specs.Steps.{forgets, must, tried, plain_of, with_nmt, with_soc, no_run, answers, declines, nmt_taken, nmt_step, dll_outcome, dll_taken, dll_step, error_taken, error_step, cycle_taken, withdrawn, hand_out_step, updated, updated_history, cycle_of, limit_of, armed}
 use Rattle.node.specs.Run.{step}
 use Rattle.node.specs.Refines.{plain, Left, left, history_update, loaded_places, loaded_memory, Refines, SamePlaces}
 
@@ -93,14 +93,15 @@ nmt_taken_lem h n e es t r x y = (
 )
 
 pub dll_taken_lem :
-    (h : Head) (n : ℕ) (expected : Bool) (e : DllCsEvent) (a : DllAnswer) →
+    (h : Head) (n : ℕ) (expected : Bool) (e : DllCsEvent) (es : DllErrors) →
     read_cs_event n ≡ Ok e →
-    Dll.cs_outcome a ≡ Dll.cs_processed h.dll.state e h.nmt.current_state expected →
-    Alone h (dll_event n expected) (left (head_with_dll h a.machine) (dll_answer (reported a.errors)))
-dll_taken_lem h n expected e a r o = (
+    reported es ≡ (Dll.cs_processed h.dll.state e h.nmt.current_state expected).errors →
+    Alone h (dll_event n expected)
+    (left (head_with_dll h (record { state = (Dll.cs_processed h.dll.state e h.nmt.current_state expected).state })) (dll_answer (reported es)))
+dll_taken_lem h n expected e es r o = (
   λ q m.
       let p : Plain = plain h q m in
-      refined h q m (dll_event n expected) _ q m no_run (dll_taken p (Dll.cs_outcome a)) (ap (dll_step p expected) r ∙ ap (dll_taken p) (sym o)) refl refl refl,
+      refined h q m (dll_event n expected) _ q m no_run (dll_taken p (dll_outcome p e expected)) (ap (dll_step p expected) r) refl (ap dll_answer o) refl,
   record { queue = refl; history = refl },
 )
 

@@ -1,6 +1,7 @@
 pub mod Laws
 pub mod Refining
 pub mod Watch
+pub mod FrameLaws
 pub mod Moments
 pub mod OnRuns
 pub mod Hearing

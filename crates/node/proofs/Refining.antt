@@ -19,6 +19,7 @@ use Rattle.types.specs.declared.nmt.events.NmtEvent.{NmtEvent}
 use Rattle.std.specs.declared.result.Result.TheVariants.{Ok}
 use Rattle.types.specs.declared.frame.cs_state_machine.DllCsEvent.{DllCsEvent}
 use Rattle.types.specs.declared.frame.error.types.DllError.{DllError}
+use Rattle.types.specs.declared.frame.error.types.DllErrors.{DllErrors}
 use Rattle.types.specs.declared.frame.error.types.DllErrors.TheVariants as errors
 use Rattle.types.specs.declared.frame.error.types.NmtAction.TheVariants as action
 use Rattle.nmt.specs.Resets.{passed, states_entered, is_reset}
@@ -38,18 +39,17 @@ use Rattle.entries.specs.declared.emergency_queue.EmergencyQueue.{EmergencyQueue
 use Rattle.entries.specs.Queue.{HandedOut}
 use Rattle.entries.proofs.Lists.{handed_capacity}
 use Rattle.head.specs.Head.{Head, head_with_errors, head_with_queue}
-use Rattle.head.specs.declared.state.SocWatch.{SocWatch}
 use Rattle.node.specs.Plain.{Call, nmt_event, dll_event, error, cycle_complete, withdraw, hand_out, arm, Answer, refused, taken, nmt_answer, dll_answer, error_answer, cycle_answer, hand_out_answer}
 use Rattle.watched.specs.Watched.{in_time}
-use Rattle.node.specs.Steps.{Test, tried, no_run, armed}
+use Rattle.node.specs.Steps.{Test, tried, no_run}
 use Rattle.node.specs.Refines.{left, Refines}
 use Rattle.node.proofs.Laws.{Alone, forgetting_if, nmt_taken_lem, dll_taken_lem, error_taken_lem, cycle_taken_lem, withdraw_taken, withdraw_refused, arm_taken, hand_out_taken}
 use Rattle.node.specs.declared.calls.NmtTaken.{NmtTaken}
 use Rattle.counters.specs.declared.counters.ErrorTaken.{ErrorTaken}
 use Rattle.head.specs.Places as at
-use Rattle.head.specs.Words.{word, one, state_of, nmt_of, dll_state, counter_at, errors_of, soc_of, od_of, queue_of, head_of}
-use Rattle.head.specs.Written.{nmt_written, levels_written, soc_written, queue_written}
-use Rattle.node.specs.InPlace.{InPlace, withdraw_words, reset_words, processed_words, Processed, nmt_words, dll_words, effect_words, error_words, cycle_words, arm_words, hand_out_words}
+use Rattle.head.specs.Words.{word, one, state_of, nmt_of, counter_at, errors_of, queue_of, head_of}
+use Rattle.head.specs.Written.{nmt_written, levels_written, queue_written}
+use Rattle.node.specs.InPlace.{InPlace, withdraw_words, reset_words, processed_words, Processed, nmt_words, dll_outcome_of, dll_event_words, DllProcessed, dll_words, effect_words, error_words, cycle_words, armed_words, arm_words, hand_out_words}
 use Rattle.head.proofs.Laws.{nmt_written_lem, forgotten_written_lem, ready_written, dll_written, counter_written_lem, links_written, levels_written_lem, soc_written_lem, queue_written_lem}
 
 -- a call that wrote the words `to`, which stand for the head k that the call is to leave
@@ -179,6 +179,18 @@ module _ (ws : List ℕ) where
     effect_written Counters.is_logged e = refl
     effect_written Counters.nothing e = refl
 
+  -- a DLL event, by the machine's answer
+  pub dll_processed :
+      (e : DllCsEvent) (expected : Bool) (a : DllAnswer) (ws' : List ℕ) →
+      Dll.cs_outcome a ≡ dll_outcome_of ws e expected →
+      ws' ≡ set ws at.dll (Dll.cs_state_number a.machine.state) →
+      DllProcessed ws e expected a.errors ws'
+  dll_processed e expected a ws' o w =
+      record {
+        errors = ap (λ (o : Dll.CsOutcome). o.errors) o;
+        words = w ∙ ap (λ (o : Dll.CsOutcome). set ws at.dll (Dll.cs_state_number o.state)) o;
+      }
+
   -- the calls
   pub withdraw_no : state_of (word ws at.state) ≡ NmtReadyToOperate → InPlace ws withdraw (refused 8) ws (withdraw_words ws)
   unfolding head_of
@@ -210,16 +222,15 @@ module _ (ws : List ℕ) where
         (ap (nmt_words ws) r) p.words
 
     pub dll_yes :
-        (n : ℕ) (expected : Bool) (e : DllCsEvent) (a : DllAnswer) →
+        (n : ℕ) (expected : Bool) (e : DllCsEvent) (es : DllErrors) →
         read_cs_event n ≡ Ok e →
-        Dll.cs_outcome a ≡ Dll.cs_processed (dll_state (word ws at.dll)) e (state_of (word ws at.state)) expected →
-        ws' ≡ set ws at.dll (Dll.cs_state_number a.machine.state) →
-        InPlace ws (dll_event n expected) (dll_answer (reported a.errors)) ws' (dll_words ws expected (read_cs_event n))
+        DllProcessed ws e expected es ws' →
+        InPlace ws (dll_event n expected) (dll_answer (reported es)) ws' (dll_words ws expected (read_cs_event n))
     unfolding head_of
-    dll_yes n expected e a r o w =
-        in_place ws (dll_event n expected) _ _ (set ws at.dll (Dll.cs_state_number a.machine.state)) _ ws'
-        (dll_taken_lem (head_of ws) n expected e a r o) (dll_written ws long a.machine.state)
-        (ap (dll_words ws expected) r ∙ ap (λ (o : Dll.CsOutcome). set ws at.dll (Dll.cs_state_number o.state)) (sym o)) w
+    dll_yes n expected e es r p =
+        in_place ws (dll_event n expected) _ _ (dll_event_words ws e expected) _ ws'
+        (dll_taken_lem (head_of ws) n expected e es r p.errors)
+        (dll_written ws long (dll_outcome_of ws e expected).state) (ap (dll_words ws expected) r) p.words
 
     pub error_yes :
         (kind a b : ℕ) (e : DllError) (t : ErrorTaken) →
@@ -245,15 +256,11 @@ module _ (ws : List ℕ) where
         (levels_written_lem ws long ∙ ap (head_with_errors (head_of ws)) (sym s)) refl (w ∙ ap (levels_written ws) s)
 
     pub arm_yes :
-        (t : ℕ) (s : SocWatch) →
-        in_time t ≡ true →
-        s ≡ armed (soc_of ws) (od_of ws) t →
-        ws' ≡ soc_written ws s →
-        InPlace ws (arm t) taken ws' (arm_words ws t)
+        (t : ℕ) → in_time t ≡ true → ws' ≡ armed_words ws t → InPlace ws (arm t) taken ws' (arm_words ws t)
     unfolding head_of
-    arm_yes t s e o w =
-        in_place ws (arm t) taken _ (soc_written ws s) _ ws' (arm_taken (head_of ws) t s e o) (soc_written_lem ws long _ _ _ _)
-        (ap (λ (b : Bool). pick b (soc_written ws (armed (soc_of ws) (od_of ws) t)) ws) e ∙ ap (soc_written ws) (sym o)) w
+    arm_yes t e w =
+        in_place ws (arm t) taken _ (armed_words ws t) _ ws' (arm_taken (head_of ws) t _ e refl) (soc_written_lem ws long _ _ _ _)
+        (ap (λ (b : Bool). pick b (armed_words ws t) ws) e) w
 
     pub hand_out_yes :
         (q : List ℕ) (r : HandedOut) →

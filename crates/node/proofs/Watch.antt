@@ -17,6 +17,7 @@ use Rattle.types.specs.declared.frame.error.types.DllError.{DllError}
 use Rattle.types.proofs.Tests.{both_second}
 use Rattle.counters.specs.Counters.{handled, HandledError}
 use Rattle.counters.specs.Marks.{Mark, crosses, error_marks}
+use Rattle.types.specs.declared.frame.cs_state_machine.DllCsEvent.TheVariants.{SocTimeout}
 use Rattle.entries.specs.Entry.{crossing_entry}
 use Rattle.entries.specs.declared.status_response.ErrorEntry.{ErrorEntry}
 use Rattle.std.specs.declared.option.Option.{Option}
@@ -28,11 +29,11 @@ use Rattle.head.proofs.Laws.{state_is}
 use Rattle.watched.specs.declared.nodes.WatchedNode.{WatchedNode}
 use Rattle.watched.specs.Watched.{latest}
 use Rattle.node.specs.Plain.{Plain}
-use Rattle.node.specs.Steps.{with_dll, with_errors, cycle_of, tolerance_of, limit_of, value_or, armed}
+use Rattle.node.specs.Steps.{dll_outcome, with_dll, with_errors, cycle_of, tolerance_of, limit_of, value_or, armed}
 use Rattle.node.specs.Phases.{Ticked, goes_on, behind, acts, signalled, finished}
 use Rattle.node.specs.Heartbeats.{checks_heartbeats, on_late_by, timeout_of, on_late, on_late_all, late_ones, heartbeats}
 use Rattle.node.specs.DllErrors.{counter1, kept, dropped_one, queued, on_dll_error_by, on_dll_error, on_dll_errors}
-use Rattle.node.specs.Deadline.{with_deadline, at_not_active, timed_out, last_soc, elapsed, next_deadline, rescheduled, within_limit, soc_timeout, lost, soc_check, by_deadline}
+use Rattle.node.specs.Deadline.{with_deadline, at_not_active, timed_out, last_soc, elapsed, next_deadline, rescheduled, within_limit, lost, soc_check, by_deadline}
 use Rattle.node.specs.Tick.{tick_taken}
 use Rattle.node.specs.Watch.{Watching, OffOrLater, off, later, Sleeps, Raised, Moves}
 use Rattle.node.proofs.Refining.{picked}
@@ -120,9 +121,14 @@ on_dll_errors_lem t p (e ∷ es) =
     (on_dll_error_by_lem p (error_marks p.errors e) (crosses p.errors e) (crossing_entry e t) (handled p.errors e))
     (on_dll_errors_lem t (on_dll_error t p e).head es)
 
--- the errors of the check leave the deadline
+-- the errors of a DLL event leave the deadline, and an action puts the check off
 pub on_dll_errors_deadline : (t : ℕ) (p : Plain) (es : List DllError) → (on_dll_errors t p es).head.soc.next_tick_us ≡ p.soc.next_tick_us
 on_dll_errors_deadline t p es = (on_dll_errors_lem t p es).deadline
+
+pub on_dll_errors_check :
+    (t : ℕ) (p : Plain) (es : List DllError) → (on_dll_errors t p es).ended ≡ true →
+    (on_dll_errors t p es).head.soc.soc_timeout_check_active ≡ false
+on_dll_errors_check t p es h = (on_dll_errors_lem t p es).ends h
 
 -- the cycles that have begun end at most one cycle after now, and after it
 pub ahead : (e k : ℕ) → (e / k + 1) * k ≤ e + k
@@ -173,8 +179,8 @@ within_renewed p t n =
 
 lost_renewed : (p : Plain) (t : ℕ) → p.soc.next_tick_us ≡ Nothing → Renewed (watch p) t (lost p t).head.soc
 lost_renewed p t n =
-    let k = on_dll_errors t (with_dll p (soc_timeout p).state) (soc_timeout p).errors in
-    let f = on_dll_errors_lem t (with_dll p (soc_timeout p).state) (soc_timeout p).errors in
+    let k = on_dll_errors t (with_dll p (dll_outcome p SocTimeout true).state) (dll_outcome p SocTimeout true).errors in
+    let f = on_dll_errors_lem t (with_dll p (dll_outcome p SocTimeout true).state) (dll_outcome p SocTimeout true).errors in
     tested (λ (k : Ticked). Renewed (watch p) t k.head.soc) k.ended
     (λ h. record { wakes = off (f.ends h); soon = λ e g. none_due (f.deadline ∙ n) g })
     (λ h. subst (λ (w : Watch). Renewed w t (rescheduled k.head t).soc) (f.stays h) (rescheduled_renewed k.head t (f.deadline ∙ n)))

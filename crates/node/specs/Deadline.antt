@@ -1,21 +1,20 @@
 -- What a tick does behind the heartbeats (RULES 7.5 to 7.8): the basic timeout, the deadline and
 -- the SoC check.
 -- Assumes nothing.
-use Rattle.std.specs.Prelude.{ℕ, ◌+◌, ◌-◌, ◌*◌, ◌/◌, min, Bool, true, false, [], leb, ltb}
+use Rattle.std.specs.Prelude.{ℕ, ◌+◌, ◌-◌, ◌*◌, ◌/◌, min, Bool, false, [], leb, ltb}
 use Rattle.types.specs.Pick.{pick, both}
 use Rattle.types.specs.States.{same_state}
 use Rattle.types.specs.declared.nmt.states.NmtState.TheVariants.{NmtNotActive}
 use Rattle.types.specs.declared.nmt.events.NmtEvent.TheVariants.{Timeout}
 use Rattle.types.specs.declared.frame.cs_state_machine.DllCsEvent.TheVariants.{SocTimeout}
-use Rattle.dll.specs.Dll as Dll
 use Rattle.head.specs.declared.state.Deadline.{Deadline}
 use Rattle.head.specs.declared.state.Deadline.TheVariants.{At, Nothing}
 use Rattle.watched.specs.Watched.{latest}
 use Rattle.node.specs.Plain.{Plain, made, no_event}
-use Rattle.node.specs.Steps.{with_dll, with_soc, cycle_of, tolerance_of, limit_of}
+use Rattle.node.specs.Steps.{with_soc, cycle_of, tolerance_of, limit_of}
 use Rattle.head.specs.Head.{soc_watch}
 use Rattle.node.specs.Phases.{Ticked, goes_on, behind, check_off, event_in_tick}
-use Rattle.node.specs.DllErrors.{on_dll_errors}
+use Rattle.node.specs.DllErrors.{on_dll_event}
 
 -- the head with another deadline, or none
 abbrev pub with_deadline : Plain → Deadline → Plain
@@ -82,18 +81,14 @@ within_limit p t =
 abbrev pub is_loss : Plain → ℕ → Bool
 is_loss p t = ltb (limit_of p.od) (elapsed p t)
 
--- a lost SoC is the DLL event SocTimeout, with a PReq expected
-abbrev pub soc_timeout : Plain → Dll.CsOutcome
-soc_timeout p = Dll.cs_processed p.dll SocTimeout p.nmt.current_state true
-
 -- a tick behind the errors of a lost SoC: where none ended it, the deadline is set anew
 abbrev pub after_loss : ℕ → Ticked → Ticked
 after_loss t k = pick k.ended k (behind k (goes_on (rescheduled k.head t)))
 
--- a lost SoC (RULES 7.8): the DLL machine takes SocTimeout, its errors are handled in order, and
--- where none ends the tick the deadline is set anew
+-- a lost SoC (RULES 7.8): the DLL event SocTimeout, and where none of its errors ends the tick the
+-- deadline is set anew
 abbrev pub lost : Plain → ℕ → Ticked
-lost p t = after_loss t (on_dll_errors t (with_dll p (soc_timeout p).state) (soc_timeout p).errors)
+lost p t = after_loss t (on_dll_event t p SocTimeout)
 
 -- the SoC check, where it is on; otherwise the tick ends
 unfoldable pub soc_check : Plain → ℕ → Ticked

@@ -1,7 +1,9 @@
--- The errors of the DLL machine that the SoC check handles (RULES 7.8).
+-- The DLL events of which the errors are handled: the SocTimeout of the SoC check (RULES 7.8), and
+-- those of frames (RULES 13.4).
 -- Assumes nothing.
-use Rattle.std.specs.Prelude.{ℕ, ◌+◌, Bool, List, [], ◌∷◌, ◌++◌, ltb, length, take}
+use Rattle.std.specs.Prelude.{ℕ, Bool, true, List, [], ◌∷◌, ◌++◌, ltb, length, take}
 use Rattle.types.specs.Pick.{pick}
+use Rattle.types.specs.declared.frame.cs_state_machine.DllCsEvent.{DllCsEvent}
 use Rattle.types.specs.declared.frame.error.types.DllError.{DllError}
 use Rattle.counters.specs.Counters.{handled, HandledError}
 use Rattle.counters.specs.Marks.{Mark, crosses, error_marks}
@@ -10,7 +12,7 @@ use Rattle.entries.specs.Entry.{crossing_entry}
 use Rattle.entries.specs.declared.status_response.ErrorEntry.{ErrorEntry}
 use Rattle.head.specs.declared.state.Dictionary.{Dictionary}
 use Rattle.node.specs.Plain.{Plain}
-use Rattle.node.specs.Steps.{plain_of, with_errors}
+use Rattle.node.specs.Steps.{plain_of, with_dll, with_errors, dll_outcome}
 use Rattle.node.specs.Phases.{Ticked, goes_on, behind, one_more, signalled, on_handled}
 
 -- the head with other values of the dictionary
@@ -30,7 +32,7 @@ statistics o a b c =
       counter_5 = o.counter_5;
     }
 
--- an error at the SoC check adds to counter 1
+-- an error adds to counter 1
 abbrev pub counter1 : Plain → Plain
 counter1 p = with_od p (statistics p.od (one_more p.od.counter_1) p.od.counter_2 p.od.counter_3)
 
@@ -49,18 +51,23 @@ dropped_one p = with_od p (statistics p.od p.od.counter_1 p.od.counter_2 (one_mo
 unfoldable pub queued : Plain → ErrorEntry → Plain
 queued p e = pick (ltb (length p.queue) p.capacity) (kept p e) (dropped_one p)
 
--- one error of the SoC check, with its marks ms, whether it crosses, the entry x of its crossing,
--- and what the counters answer; one that crosses signals, and its entry is queued
+-- one error, with its marks ms, whether it crosses, the entry x of its crossing, and what the
+-- counters answer; one that crosses signals, and its entry is queued
 abbrev pub on_dll_error_by : Plain → List Mark → Bool → ErrorEntry → HandledError → Ticked
 on_dll_error_by p ms crosses x r =
     on_handled r ms ms (pick crosses (x ∷ []) [])
     (pick crosses (queued (signalled (with_errors (counter1 p) r.counters)) x) (with_errors (counter1 p) r.counters))
 
--- one error of the SoC check at the time t
+-- one error of a DLL event at the time t
 unfoldable pub on_dll_error : ℕ → Plain → DllError → Ticked
 on_dll_error t p e = on_dll_error_by p (error_marks p.errors e) (crosses p.errors e) (crossing_entry e t) (handled p.errors e)
 
--- the errors of the SoC check in order: the first that brings an action ends the tick
+-- the errors in order: the first that brings an action ends the tick, or the frame
 unfoldable pub on_dll_errors : ℕ → Plain → List DllError → Ticked
 on_dll_errors t p [] = goes_on p
 on_dll_errors t p (e ∷ es) = pick (on_dll_error t p e).ended (on_dll_error t p e) (behind (on_dll_error t p e) (on_dll_errors t (on_dll_error t p e).head es))
+
+-- a DLL event of the cycle at t: a PReq is expected, and its errors are handled
+abbrev pub on_dll_event : ℕ → Plain → DllCsEvent → Ticked
+on_dll_event t p e =
+    on_dll_errors t (with_dll p (dll_outcome p e true).state) (dll_outcome p e true).errors

@@ -121,10 +121,25 @@ abbrev pub nmt_words : List ℕ → Result NmtEvent Refusal → List ℕ
 nmt_words ws (Ok e) = processed_words ws e
 nmt_words ws (Err r) = ws
 
+-- what the DLL machine in the words makes of an event, in their NMT state
+abbrev pub dll_outcome_of : List ℕ → DllCsEvent → Bool → Dll.CsOutcome
+dll_outcome_of ws e expected =
+    Dll.cs_processed (dll_state (word ws at.dll)) e (state_of (word ws at.state)) expected
+
+-- the words after a DLL event: the DLL state is written
+abbrev pub dll_event_words : List ℕ → DllCsEvent → Bool → List ℕ
+dll_event_words ws e expected =
+    set ws at.dll (Dll.cs_state_number (dll_outcome_of ws e expected).state)
+
+-- Of a DLL event e on the words ws, which reported es and left ws': the machine's errors, and every
+-- word.
+pub record DllProcessed (ws : List ℕ) (e : DllCsEvent) (expected : Bool) (es : DllErrors) (ws' : List ℕ) : Type 0 where
+  pub errors : reported es ≡ (dll_outcome_of ws e expected).errors
+  pub words : ws' ≡ dll_event_words ws e expected
+
 -- the words after a DLL event by the reading of its number: the DLL state is written, or all stay
 abbrev pub dll_words : List ℕ → Bool → Result DllCsEvent Refusal → List ℕ
-dll_words ws expected (Ok e) =
-    set ws at.dll (Dll.cs_state_number (Dll.cs_processed (dll_state (word ws at.dll)) e (state_of (word ws at.state)) expected).state)
+dll_words ws expected (Ok e) = dll_event_words ws e expected
 dll_words ws expected (Err r) = ws
 
 -- the words after an error with this effect: only the counter that it counts for changes, or the
@@ -144,10 +159,13 @@ error_words ws (Err r) = ws
 abbrev pub cycle_words : List ℕ → List ℕ
 cycle_words ws = levels_written ws (Counters.lowered (errors_of ws))
 
--- the words after an arm at t: the watch over the SoC is written; after one that is refused all
--- stay
+-- the words after an SoC at t: the watch over the SoC is written
+abbrev pub armed_words : List ℕ → ℕ → List ℕ
+armed_words ws t = soc_written ws (armed (soc_of ws) (od_of ws) t)
+
+-- the words after an arm at t; after one that is refused all stay
 abbrev pub arm_words : List ℕ → ℕ → List ℕ
-arm_words ws t = pick (in_time t) (soc_written ws (armed (soc_of ws) (od_of ws) t)) ws
+arm_words ws t = pick (in_time t) (armed_words ws t) ws
 
 -- the words after a hand-out: the places of the queue are written
 abbrev pub hand_out_words : List ℕ → List ℕ → List ℕ

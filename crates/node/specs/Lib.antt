@@ -8,6 +8,7 @@ pub mod Tick
 pub mod Watch
 pub mod Due
 pub mod Range
+pub mod FrameSteps
 pub mod Run
 pub mod Examples
 pub mod Refines

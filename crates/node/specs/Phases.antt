@@ -19,7 +19,7 @@ use Rattle.node.specs.Plain.{Plain, EventMade, made, no_event}
 use Rattle.node.specs.Steps.{plain_of, with_nmt, with_soc}
 use Rattle.head.specs.Head.{soc_watch}
 
--- what a tick, or a part of one, has come to
+-- what a tick, a part of one, or the DLL event of a frame has come to
 pub record Ticked : Type 0 where
   -- the head after it
   pub head : Plain
@@ -85,7 +85,7 @@ abbrev pub changed : SocWatch → SocWatch
 changed s =
     soc_watch s.last_soc_reception_time_us s.soc_timeout_check_active s.next_tick_us true
 
--- a signal, of a heartbeat or at the SoC check
+-- a signal, of a heartbeat, at the SoC check or of a frame
 abbrev pub signalled : Plain → Plain
 signalled p =
     plain_of p.nmt p.dll p.errors (changed p.soc) (registered p.od) p.capacity p.queue p.history p.earliest

@@ -71,6 +71,8 @@ pub data Call : Type 0 where
   -- a node
   remove : ℕ → Run → Call
   next_due : Run → Call
+  -- a frame's time of arrival, and its bytes
+  frame : ℕ → List ℕ → Call
 
 -- what start is given
 pub record Start : Type 0 where
@@ -89,6 +91,12 @@ pub record Start : Type 0 where
   -- the run of watched nodes that is lent; where it is not well formed it is refused by 3,
   -- WatchedNodes
   pub watched : Run
+
+-- what the NMT event of a frame answers: the errors reported, the states entered and the ranges to
+-- restore
+pub record NmtReply : Type 0 where
+  pub errors : List DllError
+  pub reset : Passed
 
 -- what a call answers: the number of its refusal, or, where it is taken, one of the others
 pub data Answer : Type 0 where
@@ -113,6 +121,10 @@ pub data Answer : Type 0 where
   margin_answer : ℤ → Answer
   -- the moment of the next tick in µs, or none
   due_answer : Option ℕ → Answer
+  -- a frame for another node
+  not_ours : Answer
+  -- what a frame logged, and what its NMT event answered, where one came
+  frame_answer : List DllError → Option NmtReply → Answer
 
 -- the NMT event that a call gave the machine, or none
 pub data EventMade : Type 0 where

@@ -7,11 +7,12 @@ use Rattle.types.specs.Errors.{read_error}
 use Rattle.counters.specs.Counters.{completed}
 use Rattle.counters.specs.Marks.{cycle_marks}
 use Rattle.watched.specs.Watched.{heard_at, Run, changing}
-use Rattle.node.specs.Plain.{Plain, Call, nmt_event, dll_event, error, cycle_complete, withdraw, heard, hand_out, load, arm, tick, range, margin, add, remove, next_due, Answer, taken, Step}
+use Rattle.node.specs.Plain.{Plain, Call, nmt_event, dll_event, error, cycle_complete, withdraw, heard, hand_out, load, arm, tick, range, margin, add, remove, next_due, frame, Answer, taken, Step}
 use Rattle.node.specs.Steps.{tried, with_nmt, with_soc, with_values, no_run, answers, declines, leaves, nmt_step, dll_step, error_step, cycle_taken, withdrawn, withdraw_tests, heard_tests, add_tests, remove_tests, added, removed, hand_out_step, updated, updated_history, arm_tests, armed}
 use Rattle.node.specs.Tick.{tick_step}
 use Rattle.node.specs.Range.{range_step, margin_step}
 use Rattle.node.specs.Due.{due_step}
+use Rattle.node.specs.FrameSteps.{frame_step}
 
 -- what the plain head does at a call
 abbrev pub step : Plain → Call → Step
@@ -30,6 +31,7 @@ step p (margin t) = margin_step p t
 step p (add n o r) = tried (add_tests n o r) (declines p r) (leaves p (added n o r))
 step p (remove n r) = tried (remove_tests n r) (declines p r) (leaves p (removed n r))
 step p (next_due r) = due_step p r
+step p (frame t bytes) = frame_step t p bytes
 
 -- a list of calls, each on the head that the last one left: the head after it
 unfoldable pub step_all : Plain → List Call → Plain

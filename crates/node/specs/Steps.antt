@@ -171,6 +171,11 @@ abbrev pub nmt_step : Plain → Result NmtEvent Refusal → Step
 nmt_step p (Ok e) = nmt_taken p e (Nmt.processed p.nmt e)
 nmt_step p (Err r) = declines p no_run (refusal_number r)
 
+-- a DLL event in the head's own NMT state, told whether a PReq is expected: what the machine makes
+-- of it
+abbrev pub dll_outcome : Plain → DllCsEvent → Bool → Dll.CsOutcome
+dll_outcome p e expected = Dll.cs_processed p.dll e p.nmt.current_state expected
+
 -- A DLL event that is taken, with what the machine makes of it. Its errors are reported and not
 -- counted.
 abbrev pub dll_taken : Plain → Dll.CsOutcome → Step
@@ -179,7 +184,7 @@ dll_taken p o = answers (with_dll p o.state) (dll_answer o.errors) no_run
 -- a DLL event by the reading of its number, in the head's own NMT state, told whether a PReq is
 -- expected; or UnknownNumber
 abbrev pub dll_step : Plain → Bool → Result DllCsEvent Refusal → Step
-dll_step p expected (Ok e) = dll_taken p (Dll.cs_processed p.dll e p.nmt.current_state expected)
+dll_step p expected (Ok e) = dll_taken p (dll_outcome p e expected)
 dll_step p expected (Err r) = declines p no_run (refusal_number r)
 
 -- An error that is given to the counters, with what they make of it: it changes only them.

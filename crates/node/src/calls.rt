@@ -12,9 +12,10 @@ ghost use Rattle.entries.specs.Queue.{handed_out};
 ghost use Rattle.head.specs.Head.{head_with_queue};
 ghost use Rattle.head.specs.Places as at;
 ghost use Rattle.head.specs.Words.{counter_at, errors_of, head_of};
-ghost use Rattle.node.specs.InPlace.{InPlace, Processed, said, nmt_said, dll_said, error_said};
+ghost use Rattle.node.specs.InPlace.{InPlace, Processed, DllProcessed, said, nmt_said, dll_said};
 ghost use Rattle.node.specs.InPlace.{effect_words, withdraw_words, nmt_words, dll_words};
-ghost use Rattle.node.specs.InPlace.{error_words, cycle_words, arm_words, hand_out_words};
+ghost use Rattle.node.specs.InPlace.{error_said, error_words, cycle_words, armed_words, arm_words};
+ghost use Rattle.node.specs.InPlace.{hand_out_words};
 
 use crate::timing::armed;
 pub use counters::counters::ErrorTaken;
@@ -56,8 +57,9 @@ pub fn withdraw(head: &mut Head) -> Result<(), Refusal>
     Ok(())
 }
 
-// An NMT event on a head, a reset too: whatever leads to one comes here.
-fn process_event(head: &mut Head, event: NmtEvent) -> NmtTaken
+/// An NMT event on a head: whatever leads to one comes here. The errors are reported and not
+/// counted; a reset forgets (RULES 4.5).
+pub fn process_event(head: &mut Head, event: NmtEvent) -> NmtTaken
     ensures { Processed head.old event result head.new }
 {
     let answer = nmt_of(head).process_event(event);
@@ -81,6 +83,16 @@ pub fn nmt_event(head: &mut Head, event: u64) -> Result<NmtTaken, Refusal>
     Ok(process_event(head, event))
 }
 
+/// A DLL event in the head's own NMT state, with whether a PReq is expected: the errors that it
+/// reports.
+pub fn process_dll_event(head: &mut Head, event: DllCsEvent, expect_preq: bool) -> DllErrors
+    ensures { DllProcessed head.old event expect_preq result head.new }
+{
+    let answer = dll_of(head).process_event(event, state_at(head), expect_preq);
+    set_dll(head, answer.machine);
+    answer.errors
+}
+
 /// A DLL event by its place, 0 to 5 (RULES 5.4), in the head's own NMT state, with whether a PReq
 /// is expected. Refused by UnknownNumber; then no word changes. The errors are reported and not
 /// counted.
@@ -89,9 +101,7 @@ pub fn dll_event(head: &mut Head, event: u64, expect_preq: bool) -> Result<DllEr
         head.new (dll_words head.old expect_preq (read_cs_event event)) }
 {
     let event = DllCsEvent::try_from(event)?;
-    let answer = dll_of(head).process_event(event, state_at(head), expect_preq);
-    set_dll(head, answer.machine);
-    Ok(answer.errors)
+    Ok(process_dll_event(head, event, expect_preq))
 }
 
 // Whether an error that counts for a kind crosses: of the counters, only that kind's is read and
@@ -147,6 +157,15 @@ pub fn on_cycle_complete(head: &mut Head) -> bool
     cleared
 }
 
+/// An SoC was received at a time: with a cycle above 0 the check goes on, with the deadline behind
+/// the limit; with cycle 0 it is off and no deadline stands.
+pub fn arm_at(head: &mut Head, time: Time)
+    ensures { head.new ≡ armed_words head.old time.us }
+{
+    let soc = armed(soc_of(head), od_of(head), time);
+    set_soc(head, soc);
+}
+
 /// An SoC was received at a time in µs, 0 to 2^62 - 1: with a cycle above 0 the check goes on, with
 /// the deadline behind the limit; with cycle 0 it is off and no deadline stands. Refused by
 /// TimeLimit; then no word changes.
@@ -154,8 +173,7 @@ pub fn arm(head: &mut Head, time: u64) -> Result<(), Refusal>
     ensures { InPlace head.old (Call.arm time) (said result) head.new (arm_words head.old time) }
 {
     let time = Time::try_from(time)?;
-    let soc = armed(soc_of(head), od_of(head), time);
-    set_soc(head, soc);
+    arm_at(head, time);
     Ok(())
 }
 

@@ -1,8 +1,9 @@
 //! What a line made of the NMT machine's state, for the trace.
 ghost use Rattle.std.specs.Prelude.{◌≡◌, option_and_then};
-ghost use Rattle.replay.specs.Traced.{event_of, cause_of, moved};
+ghost use Rattle.replay.specs.Traced.{event_of, frame_event, cause_of, moved};
 
 use calling::Call;
+use frames::Frame;
 use nmt::cn_state_machine::CnNmtStateMachine;
 use script::Line;
 use telling::moves::{Cause, Moved};
@@ -10,21 +11,35 @@ use telling::why::{left_by, position_of};
 use types::nmt::events::NmtEvent;
 use weigh::WeighCall;
 
-// The event that moved a machine at a tick: a tick gives it Timeout or Error, of which the table
-// leads at most one to the state in which it stands behind it.
-fn event_of(before: CnNmtStateMachine, after: CnNmtStateMachine) -> NmtEvent
-    ensures { result ≡ event_of before after }
+// Of an event and Error the one that moved a machine: the table leads at most one of them to the
+// state in which it stands behind it.
+fn event_of(
+    event: NmtEvent,
+    before: CnNmtStateMachine,
+    after: CnNmtStateMachine,
+) -> NmtEvent
+    ensures { result ≡ event_of event before after }
 {
-    let timed_out = left_by(position_of(before), NmtEvent::Timeout).position;
-    if timed_out.state.as_u8() == after.current_state.as_u8() {
-        NmtEvent::Timeout
+    let moved = left_by(position_of(before), event).position;
+    if moved.state.as_u8() == after.current_state.as_u8() {
+        event
     } else {
         NmtEvent::Error
     }
 }
 
+// The NMT event of a frame's bytes; Error where they have none.
+fn frame_event(bytes: &[u8]) -> NmtEvent
+    ensures { result ≡ frame_event bytes.now }
+{
+    match Frame::read(bytes) {
+        Ok(frame) => frame.message.nmt_event().unwrap_or(NmtEvent::Error),
+        Err(_) => NmtEvent::Error,
+    }
+}
+
 // What moved a machine by a line: a start, the event that the line names, the ready word of a load,
-// or the event of a tick.
+// that of a frame or Error, or Timeout or Error of a tick.
 fn cause_of(line: Line<'_>, before: CnNmtStateMachine, after: CnNmtStateMachine) -> Cause
     ensures { result ≡ cause_of line.entry before after }
 {
@@ -32,10 +47,13 @@ fn cause_of(line: Line<'_>, before: CnNmtStateMachine, after: CnNmtStateMachine)
         Line::Start(_) => Cause::Start,
         Line::Call(WeighCall::Node(Call::NmtEvent(number))) => match NmtEvent::try_from(number) {
             Ok(event) => Cause::Event(event),
-            Err(_) => Cause::Event(event_of(before, after)),
+            Err(_) => Cause::Event(event_of(NmtEvent::Timeout, before, after)),
         },
+        Line::Call(WeighCall::Node(Call::Frame { bytes, .. })) => {
+            Cause::Event(event_of(frame_event(bytes), before, after))
+        }
         Line::Call(WeighCall::LoadRecipe(_)) => Cause::Event(NmtEvent::CnConfigurationComplete),
-        _ => Cause::Event(event_of(before, after)),
+        _ => Cause::Event(event_of(NmtEvent::Timeout, before, after)),
     }
 }
 

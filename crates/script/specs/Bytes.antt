@@ -48,15 +48,23 @@ history rest =
     then option_map (λ bs. (Some bs, [])) (entries_of (behind_next (codes "history") rest))
     else Some (None, rest)
 
--- the bytes of the desk by their digits, 1 to 100 bytes; or no bytes, by `-`
-unfoldable pub desk_of : List ℕ → Option (List ℕ)
-desk_of digits =
+-- bytes by their digits, from 1 up to so many; or no bytes, by `-`
+unfoldable pub bytes_of : ℕ → List ℕ → Option (List ℕ)
+bytes_of most digits =
     if bytes_eq digits (codes "-") then Some []
-    else (if nat_lt 0 (length digits) && nat_le (length digits / 2) 100 then bytes_at digits [] else None)
+    else (if nat_lt 0 (length digits) && nat_le (length digits / 2) most then bytes_at digits [] else None)
+
+-- a word with up to so many bytes
+abbrev pub up_to_bytes : ℕ → Reads (List ℕ)
+up_to_bytes most = word >>= λ digits. only (bytes_of most digits)
 
 -- a word with the bytes of the desk
 abbrev pub desk_bytes : Reads (List ℕ)
-desk_bytes = word >>= λ digits. only (desk_of digits)
+desk_bytes = up_to_bytes 100
+
+-- a word with the bytes of a frame
+abbrev pub frame_bytes : Reads (List ℕ)
+frame_bytes = up_to_bytes 1518
 
 -- the 20 bytes of an entry, of their 40 digits
 unfoldable pub entry_of : List ℕ → Option (List ℕ)

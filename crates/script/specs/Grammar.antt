@@ -25,7 +25,7 @@ use Rattle.script.specs.declared.Line.TheVariants as line
 use Rattle.script.specs.Reads.{Reads, just, only, ◌>>=◌, optional, ends, first_word, behind_word, up_to, bits8, bits16, bits32, bits64, flag, object}
 use Rattle.script.specs.Numerals.{numeral, event_named, cs_event_named, kind_named, state_named, command_named}
 use Rattle.script.specs.Keys.{by_place, setup_by_keys}
-use Rattle.script.specs.Bytes.{history, desk_bytes, entry_bytes}
+use Rattle.script.specs.Bytes.{history, desk_bytes, frame_bytes, entry_bytes}
 use Rattle.script.specs.Components.{components}
 
 -- what a line says: a `Line`, with its bytes and components themselves
@@ -36,6 +36,7 @@ pub data Reading : Type 0 where
   load : DictionaryUpdate → Option (List ℕ) → Reading
   recipe : List Component → Reading
   weight : ℕ → Reading
+  frame : ℕ → List ℕ → Reading
   start : Setup → Reading
   watch : WatchedNode → Reading
   unwatch : Reading
@@ -50,9 +51,10 @@ pub data Reading : Type 0 where
   show : Reading
   why : Reading
 
--- what a line says that is a call on the node: of a load its bytes themselves
+-- what a line says that is a call on the node: of a load and of a frame its bytes themselves
 abbrev pub node_says : Call → Reading
 node_says (calls.Load u h) = load u (bytes_named h)
+node_says (calls.Frame t b) = frame t b.now
 node_says c = call c
 
 -- what a line says that is a call: of a recipe its components themselves
@@ -196,7 +198,7 @@ abbrev pub named : {A : Type 0} → List (Row A) → List ℕ → Reads A → Re
 named [] name other = other
 named (row ∷ rows) name other = if bytes_eq name row.0 then row.1 else named rows name other
 
--- the calls on the node but for the load
+-- the calls on the node but for those that are given bytes
 abbrev pub call_rows : List (Row Call)
 call_rows =
     (codes "nmt", one (numeral event_named) calls.NmtEvent) ∷
@@ -225,6 +227,7 @@ line_rows =
     (codes "load", two update history load) ∷
     (codes "recipe", one components recipe) ∷
     (codes "weight", one bits64 weight) ∷
+    (codes "frame", two bits64 frame_bytes frame) ∷
     (codes "watch", one watched watch) ∷
     (codes "unwatch", just unwatch) ∷
     (codes "lend", two (up_to 40) bits64 lend) ∷

@@ -2,7 +2,7 @@
 ghost use Rattle.std.specs.Prelude.{◌≡◌, ◌+◌, ◌*◌, ◌/◌, ◌≤◌, length, option_map, option_copied};
 ghost use Rattle.script.specs.Reads.{gives};
 ghost use Rattle.script.specs.Bytes.{byte_of, bytes_at, word_at, entries_at, filled, history};
-ghost use Rattle.script.specs.Bytes.{desk_bytes, entry_bytes};
+ghost use Rattle.script.specs.Bytes.{up_to_bytes, desk_bytes, frame_bytes, entry_bytes};
 
 use crate::LineBytes;
 use crate::words::Words;
@@ -78,21 +78,37 @@ impl Words<'_> {
         Some(Some(bytes.as_slice()))
     }
 
-    /// The bytes of a desk, at most 100; `-` for none.
-    #[tactic(auto, unfolding(crate::specs::Bytes::desk_of))]
-    pub(crate) fn desk<'a>(&mut self, bytes: &'a mut LineBytes) -> Option<&'a [u8]>
-        ensures { gives (option_copied result) self.new.rest.now ≡ desk_bytes self.old.rest.now }
+    // At most so many bytes; `-` for none.
+    #[tactic(auto, unfolding(crate::specs::Bytes::bytes_of))]
+    fn bytes<'a>(&mut self, most: usize, bytes: &'a mut LineBytes) -> Option<&'a [u8]>
+        requires { most ≤ 6000 }
+        ensures { gives (option_copied result) self.new.rest.now
+            ≡ up_to_bytes most self.old.rest.now }
     {
         bytes.clear();
         let digits = self.word()?;
         if digits == b"-".as_slice() {
             return Some(&[]);
         }
-        if digits.is_empty() || 100 < digits.len() / 2 {
+        if digits.is_empty() || most < digits.len() / 2 {
             return None;
         }
         read_bytes(digits, bytes)?;
         Some(bytes.as_slice())
+    }
+
+    /// The bytes of a desk, at most 100; `-` for none.
+    pub(crate) fn desk<'a>(&mut self, bytes: &'a mut LineBytes) -> Option<&'a [u8]>
+        ensures { gives (option_copied result) self.new.rest.now ≡ desk_bytes self.old.rest.now }
+    {
+        self.bytes(100, bytes)
+    }
+
+    /// The bytes of a frame, at most 1,518; `-` for none.
+    pub(crate) fn frame<'a>(&mut self, bytes: &'a mut LineBytes) -> Option<&'a [u8]>
+        ensures { gives (option_copied result) self.new.rest.now ≡ frame_bytes self.old.rest.now }
+    {
+        self.bytes(1518, bytes)
     }
 
     /// The 20 bytes of an entry.

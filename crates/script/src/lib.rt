@@ -161,6 +161,10 @@ fn read_named<'a>(
             words.components(&mut memory.components)?,
         ))),
         "weight" => Some(Line::Call(WeighCall::Weight(words.bits64()? as usize))),
+        "frame" => Some(Line::Call(WeighCall::Node(Call::Frame {
+            time: words.bits64()?,
+            bytes: words.frame(&mut memory.bytes)?,
+        }))),
         "watch" => Some(Line::Watch(words.watched()?)),
         "unwatch" => Some(Line::Unwatch),
         "lend" => Some(Line::Lend {

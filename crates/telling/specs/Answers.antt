@@ -25,6 +25,8 @@ use Rattle.entries.specs.declared.status_response.ErrorEntry.{ErrorEntry}
 use Rattle.node.specs.declared.calls.NmtTaken.{NmtTaken}
 use Rattle.node.specs.declared.range.SocVerdict.{SocVerdict}
 use Rattle.node.specs.declared.range.SocVerdict.TheVariants as verdict
+use Rattle.reception.specs.declared.FrameAnswer.{FrameAnswer}
+use Rattle.reception.specs.declared.FrameAnswer.TheVariants.{NotOurs, Ours}
 use Rattle.calling.specs.declared.Answer.{Answer}
 use Rattle.calling.specs.declared.Answer.TheVariants as answer
 use Rattle.weigh.specs.declared.WeighAnswer.{WeighAnswer}
@@ -85,6 +87,18 @@ abbrev pub due_text : Option ℕ → List ℕ
 due_text None = codes " none"
 due_text (Some t) = joined (codes " " ∷ decimal t ∷ [])
 
+-- what the NMT event of a frame is answered; without one there are no errors
+abbrev pub reply_to_text : Style → Option NmtTaken → List ℕ
+reply_to_text y (Some t) = nmt_text y t
+reply_to_text y None = codes " (errors)"
+
+-- what a frame is answered: that it is for another node, or what was logged, and its NMT event
+abbrev pub frame_text : Style → FrameAnswer → List ℕ
+frame_text y NotOurs = codes " not_ours"
+frame_text y (Ours d) =
+    joined
+    (codes " (logged" ∷ errors_form y machine.Dll d.logged ∷ codes ")" ∷ reply_to_text y d.nmt ∷ [])
+
 -- what a call answers that is taken
 abbrev pub answer_text : Style → Answer → List ℕ
 answer_text y answer.Taken = []
@@ -97,6 +111,7 @@ answer_text y (answer.Tick es) = joined (codes " (logged" ∷ errors_form y mach
 answer_text y (answer.Range v) = verdict_text v
 answer_text y (answer.Margin z) = joined (codes " " ∷ signed_decimal z ∷ [])
 answer_text y (answer.Due d) = due_text d
+answer_text y (answer.Frame a) = frame_text y a
 
 -- what a call on a weigh head answers
 abbrev pub weigh_answer_text : Style → WeighAnswer → List ℕ

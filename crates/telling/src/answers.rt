@@ -3,7 +3,7 @@ ghost use Rattle.std.specs.Prelude.{Some};
 ghost use Rattle.forms.specs.Hex.{hex_form};
 ghost use Rattle.telling.specs.Answers.{entered_text, restored_text, nmt_text, error_taken_text};
 ghost use Rattle.telling.specs.Answers.{answer_text, weigh_answer_text, type_text, read_text};
-ghost use Rattle.telling.specs.Answers.{bitmap_text, told_text, reply_text};
+ghost use Rattle.telling.specs.Answers.{bitmap_text, told_text, reply_text, frame_text};
 
 use crate::styles::{
     CodeForm, CommandForm, Errors, KindForm, Machine, RefusalForm, StateForm, Style,
@@ -15,6 +15,7 @@ use entries::status_response::{EntryType, ErrorEntry};
 use nmt::state_machine::{IndexRange, ResetSequence};
 use node::calls::NmtTaken;
 use node::range::SocVerdict;
+use reception::FrameAnswer;
 use std::fmt;
 use std::fmt::Display;
 use types::frame::error::kinds::DllErrorKind;
@@ -134,6 +135,29 @@ impl Display for AnswerForm {
             Answer::Margin(margin) => write!(f, " {margin}"),
             Answer::Due(Some(moment)) => write!(f, " {moment}"),
             Answer::Due(None) => write!(f, " none"),
+            Answer::Frame(answer) => write!(f, "{}", FrameForm(style, answer)),
+        }
+    }
+}
+
+// What a frame answers: what was logged, and what its NMT event answers, or no errors.
+#[derive(Clone, Copy)]
+struct FrameForm(Style, FrameAnswer);
+
+impl Display for FrameForm {
+    ghost output = { λ x. Some (frame_text x.0 x.1) };
+
+    fn fmt<W: fmt::Write>(&self, f: &mut fmt::Formatter<W>) -> fmt::Result {
+        let FrameForm(style, answer) = *self;
+        match answer {
+            FrameAnswer::NotOurs => write!(f, " not_ours"),
+            FrameAnswer::Ours(taken) => {
+                write!(f, " (logged{})", Errors(style, Machine::Dll, taken.logged))?;
+                match taken.nmt {
+                    Some(nmt) => write!(f, "{}", NmtForm(style, nmt)),
+                    None => write!(f, " (errors)"),
+                }
+            }
         }
     }
 }

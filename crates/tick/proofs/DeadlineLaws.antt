@@ -6,30 +6,20 @@ use mathlib.Core.Bool.{Bool, true, false}
 use mathlib.Core.List.{List, [], append-nil}
 use lib.Dec.{ltb}
 use borrow.Author.Tests.{lt-ltb, le-ltb, le-leb, lt-leb}
-use Rattle.types.specs.Pick.{pick, both, all_of}
-use Rattle.types.specs.Errors.{reported}
-use Rattle.types.specs.declared.frame.error.types.DllErrors.{DllErrors}
+use Rattle.types.specs.Pick.{pick, both}
 use Rattle.types.specs.declared.frame.error.types.DllErrors.TheVariants as errors
 use Rattle.types.specs.declared.nmt.events.NmtEvent.TheVariants.{Timeout}
-use Rattle.dll.specs.Dll as Dll
-use Rattle.dll.specs.declared.cs_state_machine.DllAnswer.{DllAnswer}
-use Rattle.dll.specs.declared.cs_state_machine.DllCsState.{DllCsState}
-use Rattle.dll.specs.declared.cs_state_machine.DllCsState.TheVariants.{NonCyclic, WaitSoc, WaitPreq, WaitSoa}
-use Rattle.types.specs.declared.nmt.states.NmtState.{NmtState}
-use Rattle.entries.specs.Queue.{capacity_of, waiting}
-use Rattle.entries.specs.History.{history}
 use Rattle.types.specs.declared.frame.cs_state_machine.DllCsEvent.TheVariants.{SocTimeout}
 use Rattle.head.specs.declared.state.Deadline.TheVariants.{At, Nothing}
-use Rattle.head.specs.Head.{Head, head_with_dll}
+use Rattle.head.specs.Head.{Head}
 use Rattle.watched.specs.Watched.{latest}
 use Rattle.node.specs.Plain.{Plain}
-use Rattle.node.specs.Steps.{plain_of, with_soc, with_dll, cycle_of, tolerance_of, limit_of}
+use Rattle.node.specs.Steps.{with_soc, cycle_of, tolerance_of, limit_of}
 use Rattle.node.specs.Phases.{Ticked, goes_on, behind, check_off, event_in_tick}
-use Rattle.node.specs.DllErrors.{on_dll_errors}
-use Rattle.node.specs.Deadline.{with_deadline, next_deadline, rescheduled, within_limit, is_loss, soc_timeout, lost, soc_check, at_not_active, sets_basic, times_out, timed_out, used_up, by_deadline}
+use Rattle.node.specs.DllErrors.{on_dll_event}
+use Rattle.node.specs.Deadline.{with_deadline, next_deadline, rescheduled, within_limit, is_loss, lost, soc_check, at_not_active, sets_basic, times_out, timed_out, used_up, by_deadline}
 use Rattle.node.specs.Refines.{plain, Becomes, rings, joins_all}
-use Rattle.phases.specs.Parts.{PartLeft, Ticks, is_quiet}
-use Rattle.tick.specs.Ticks.{Loses}
+use Rattle.phases.specs.Parts.{PartLeft, Ticks}
 
 module _ (h : Head) (t : ℕ) where
   pub next_is :
@@ -139,49 +129,16 @@ on_ticks {h} {g} {q} {m} f b e =
 pub itself : (h : Head) → Becomes h (λ p. p) h
 itself h = (λ q m. refl, record { queue = refl; history = refl })
 
--- a SocTimeout, and its errors: all are quiet
-pub loses :
-    (h : Head) (a : DllAnswer) →
-    Dll.cs_outcome a ≡ Dll.cs_processed h.dll.state SocTimeout h.nmt.current_state true →
-    Loses h (head_with_dll h a.machine) a.errors
-loses h a e =
-    record {
-      head = (
-        λ q m i.
-            plain_of h.nmt (e i).state h.errors h.soc h.od (capacity_of h.queue) (waiting q h.queue) (history m h.history) h.earliest,
-        record { queue = refl; history = refl },
-      );
-      errors = λ q m. ap (λ (o : Dll.CsOutcome). o.errors) e;
-    }
+-- a lost SoC: the event SocTimeout, and where none of its errors ends the tick the check goes on
+module _ (h : Head) (q m : List ℕ) (t : ℕ) (d : PartLeft) (q' m' : List ℕ) (w : Ticks h q m (on_dll_event t (plain h q m) SocTimeout) d q' m') where
+  abbrev timed : Ticked
+  timed = on_dll_event t (plain h q m) SocTimeout
 
-timeouts_quiet : (s : DllCsState) (n : NmtState) → all_of is_quiet (Dll.cs_processed s SocTimeout n true).errors ≡ true
-unfolding Dll.cs_processed
-timeouts_quiet s n = by (Dll.is_cyclic n) s
-  where
-    by : (b : Bool) (s : DllCsState) → all_of is_quiet (pick b (Dll.cyclic s SocTimeout true) (Dll.goes NonCyclic [])).errors ≡ true
-    by true NonCyclic = refl
-    by true WaitSoc = refl
-    by true WaitPreq = refl
-    by true WaitSoa = refl
-    by false s = refl
-
-pub loses_quiet : (h g : Head) (es : DllErrors) → Loses h g es → all_of is_quiet (reported es) ≡ true
-loses_quiet h g es l = ap (all_of is_quiet) (l.errors [] []) ∙ timeouts_quiet h.dll.state h.nmt.current_state
-
--- a lost SoC: its errors are dealt with, and where none ends the tick the check goes on
-module _ (h : Head) (q m : List ℕ) (t : ℕ) (g : Head) (es : DllErrors) (l : Loses h g es) (d : PartLeft) (q' m' : List ℕ) (w : Ticks g q m (on_dll_errors t (plain g q m) (reported es)) d q' m') where
-  abbrev errors_handled : Ticked
-  errors_handled = on_dll_errors t (with_dll (plain h q m) (soc_timeout (plain h q m)).state) (soc_timeout (plain h q m)).errors
-
-  errors_handled_lem : Ticks h q m errors_handled d q' m'
-  errors_handled_lem =
-      ticks_from (λ p. with_dll p (soc_timeout p).state) (λ (p : Plain). on_dll_errors t p (soc_timeout (plain h q m)).errors) l.head
-      (ticks_as (on_dll_errors t (plain g q m) (reported es)) (on_dll_errors t (plain g q m) (soc_timeout (plain h q m)).errors) (ap (on_dll_errors t (plain g q m)) (sym (l.errors q m))) w)
+  abbrev either_way : Bool → Ticked
+  either_way b = pick b timed (behind timed (goes_on (rescheduled timed.head t)))
 
   pub lose_ends : d.ended ≡ true → Ticks h q m (lost (plain h q m) t) d q' m'
-  lose_ends y =
-      ticks_as errors_handled (lost (plain h q m) t)
-      (ap (λ (b : Bool). pick b errors_handled (behind errors_handled (goes_on (rescheduled errors_handled.head t)))) (sym errors_handled_lem.ended ∙ y)) errors_handled_lem
+  lose_ends y = ticks_as timed (lost (plain h q m) t) (ap either_way (sym w.ended ∙ y)) w
 
   pub lose_goes_on :
       d.ended ≡ false →
@@ -189,16 +146,15 @@ module _ (h : Head) (q m : List ℕ) (t : ℕ) (g : Head) (es : DllErrors) (l : 
       Becomes d.head (λ p. rescheduled p t) r →
       Ticks h q m (lost (plain h q m) t) (record { head = r; logged = d.logged; ended = false }) q' m'
   lose_goes_on y r b =
-      ticks_as (behind errors_handled (goes_on (rescheduled errors_handled.head t))) (lost (plain h q m) t)
-      (ap (λ (b : Bool). pick b errors_handled (behind errors_handled (goes_on (rescheduled errors_handled.head t)))) (sym errors_handled_lem.ended ∙ y))
+      ticks_as (behind timed (goes_on (rescheduled timed.head t))) (lost (plain h q m) t) (ap either_way (sym w.ended ∙ y))
       (record {
-        head = b.0 q' m' ∙ ap (λ (p : Plain). rescheduled p t) errors_handled_lem.head;
-        logged = errors_handled_lem.logged ∙ sym (append-nil errors_handled.logged);
+        head = b.0 q' m' ∙ ap (λ (p : Plain). rescheduled p t) w.head;
+        logged = w.logged ∙ sym (append-nil timed.logged);
         ended = refl;
         joined =
             becomes_rings (λ p. rescheduled p t) q' m' b
-            ∙ errors_handled_lem.joined
-            ∙ ap (joins_all (rings h q m)) (sym (append-nil errors_handled.crossings));
+            ∙ w.joined
+            ∙ ap (joins_all (rings h q m)) (sym (append-nil timed.crossings));
       })
 
 -- the SoC check

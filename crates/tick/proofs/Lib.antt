@@ -3,6 +3,7 @@ pub mod DeadlineLaws
 pub mod TickRefines
 pub mod Turning
 pub mod DllErrorWalk
+pub mod DllEvents
 pub mod Passings
 pub mod Tickings
 pub mod Fixed

@@ -4,83 +4,54 @@
 use Prim.Native.Nat.{ℕ, ◌-◌, ◌<◌, ◌≤◌, min}
 use mathlib.Core.Path.{◌≡◌, sym, ap, ap₂, subst, ◌∙◌}
 use mathlib.Core.Bool.{Bool, true, false}
-use mathlib.Core.List.{List, []}
+use mathlib.Core.List.{List}
 use lib.Dec.{ltb, leb}
-use lib.ListN.{length, set}
+use lib.ListN.{set}
 use borrow.Author.Tests.{le-leb, lt-leb}
 use Rattle.types.specs.Pick.{pick}
-use Rattle.types.specs.Errors.{reported}
-use Rattle.types.specs.declared.frame.error.types.DllError.{DllError}
-use Rattle.types.specs.declared.frame.error.types.DllErrors.{DllErrors}
 use Rattle.types.specs.declared.frame.error.types.DllErrors.TheVariants as errors
 use Rattle.types.specs.declared.frame.cs_state_machine.DllCsEvent.TheVariants.{SocTimeout}
-use Rattle.dll.specs.Dll as Dll
-use Rattle.dll.specs.declared.cs_state_machine.DllAnswer.{DllAnswer}
 use Rattle.head.specs.declared.state.Deadline.TheVariants.{At, Nothing}
-use Rattle.head.specs.Head.{Head}
 use Rattle.node.specs.Steps.{limit_of}
-use Rattle.node.specs.DllErrors.{on_dll_errors}
-use Rattle.node.specs.Deadline.{with_deadline, rescheduled, within_limit, is_loss, soc_timeout, lost, soc_check, at_not_active, sets_basic, times_out, by_deadline}
+use Rattle.node.specs.DllErrors.{on_dll_event}
+use Rattle.node.specs.Deadline.{with_deadline, rescheduled, within_limit, is_loss, lost, soc_check, at_not_active, sets_basic, times_out, by_deadline}
 use Rattle.node.specs.Refines.{plain}
-use Rattle.tick.specs.Ticks.{Loses}
-use Rattle.tick.proofs.DeadlineLaws.{loses, lose_ends, lose_goes_on, check_none, check_lost, check_within, none_stands, basic_set, not_passed, passed_idle, passed_check}
+use Rattle.tick.proofs.DeadlineLaws.{lose_ends, lose_goes_on, check_none, check_lost, check_within, none_stands, basic_set, not_passed, passed_idle, passed_check}
 use Rattle.head.specs.Places as at
-use Rattle.head.specs.Words.{word, state_of, dll_state, soc_of, od_of, head_of}
+use Rattle.head.specs.Words.{soc_of, od_of, head_of}
 use Rattle.head.specs.Written.{deadline_written}
-use Rattle.head.proofs.Laws.{dll_written}
 use Rattle.phases.specs.declared.PhaseOutcome.{PhaseOutcome}
-use Rattle.tick.specs.TickWords.{unlent, rescheduled_words, within_words, loss_words, after_loss_words, on_dll_errors_words, lost_words, check_words, basic_words, timeout_words, passed_words, deadline_words}
+use Rattle.tick.specs.TickWords.{unlent, rescheduled_words, within_words, after_loss_words, on_dll_event_words, lost_words, check_words, basic_words, timeout_words, passed_words, deadline_words}
 use Rattle.phases.specs.PartsIn.{Turns, outcome_of, TicksIn}
-use Rattle.tick.specs.TickIn.{LosesIn}
 
 abbrev pub on : PhaseOutcome
 on = record { logged = errors.None; ended = false }
 
-pub loses_in :
-    (ws : List ℕ) (long : length ws ≡ 60) (a : DllAnswer) →
-    Dll.cs_outcome a ≡ Dll.cs_processed (dll_state (word ws at.dll)) SocTimeout (state_of (word ws at.state)) true →
-    (ws' : List ℕ) →
-    ws' ≡ set ws at.dll (Dll.cs_state_number a.machine.state) →
-    LosesIn ws a.errors ws'
-unfolding head_of loss_words
-loses_in ws long a o ws' w =
-    record {
-      loses = subst (λ (g : Head). Loses (head_of ws) g a.errors) (sym (ap head_of w ∙ dll_written ws long a.machine.state)) (loses (head_of ws) a o);
-      words = w ∙ ap (λ (o : Dll.CsOutcome). set ws at.dll (Dll.cs_state_number o.state)) o;
-    }
-
 -- a lost SoC
-module _ (ws q m : List ℕ) (t : ℕ) (es : DllErrors) (ws₁ : List ℕ) (l : LosesIn ws es ws₁) (d : PhaseOutcome) (ws₂ q' m' : List ℕ) (w : TicksIn ws₁ q m (on_dll_errors t (plain (head_of ws₁) q m) (reported es)) d ws₂ q' m' (on_dll_errors_words ws₁ (reported es))) where
+module _ (ws q m : List ℕ) (t : ℕ) (d : PhaseOutcome) (ws₁ q' m' : List ℕ) (w : TicksIn ws q m (on_dll_event t (plain (head_of ws) q m) SocTimeout) d ws₁ q' m' (on_dll_event_words ws SocTimeout)) where
   abbrev after : Bool → List ℕ
-  after b = after_loss_words b (on_dll_errors_words (loss_words ws) (soc_timeout (unlent ws)).errors) t
+  after b = after_loss_words b (on_dll_event_words ws SocTimeout) t
 
-  reports : reported es ≡ (soc_timeout (unlent ws)).errors
-  reports = l.loses.errors [] []
+  ended : (b : Bool) → d.ended ≡ b → (on_dll_event t (plain (head_of ws) q m) SocTimeout).ended ≡ b
+  ended b e = sym w.ticks.ended ∙ e
 
-  counted : ws₂ ≡ on_dll_errors_words (loss_words ws) (soc_timeout (unlent ws)).errors
-  counted = w.words ∙ ap₂ on_dll_errors_words l.words reports
-
-  ended : (b : Bool) → d.ended ≡ b → (on_dll_errors t (plain (head_of (loss_words ws)) q m) (soc_timeout (unlent ws)).errors).ended ≡ b
-  ended b e =
-      sym (w.ticks.ended ∙ ap₂ (λ (l : List ℕ) (es : List DllError). (on_dll_errors t (plain (head_of l) q m) es).ended) l.words reports) ∙ e
-
-  pub lost_ends : d.ended ≡ true → TicksIn ws q m (lost (plain (head_of ws) q m) t) d ws₂ q' m' (lost_words ws q m t)
+  pub lost_ends : d.ended ≡ true → TicksIn ws q m (lost (plain (head_of ws) q m) t) d ws₁ q' m' (lost_words ws q m t)
   unfolding lost_words
   lost_ends e =
       record {
-        ticks = lose_ends (head_of ws) q m t (head_of ws₁) es l.loses (outcome_of ws₂ d) q' m' w.ticks e;
-        words = counted ∙ sym (ap after (ended true e));
+        ticks = lose_ends (head_of ws) q m t (outcome_of ws₁ d) q' m' w.ticks e;
+        words = w.words ∙ sym (ap after (ended true e));
       }
 
   pub lost_goes_on :
-      d.ended ≡ false → (ws₃ : List ℕ) → Turns ws₂ (λ p. rescheduled p t) ws₃ (rescheduled_words ws₂ t) →
-      TicksIn ws q m (lost (plain (head_of ws) q m) t) d ws₃ q' m' (lost_words ws q m t)
+      d.ended ≡ false → (ws₂ : List ℕ) → Turns ws₁ (λ p. rescheduled p t) ws₂ (rescheduled_words ws₁ t) →
+      TicksIn ws q m (lost (plain (head_of ws) q m) t) d ws₂ q' m' (lost_words ws q m t)
   unfolding lost_words
-  lost_goes_on e ws₃ k =
-      subst (λ (ended : Bool). TicksIn ws q m (lost (plain (head_of ws) q m) t) (record { logged = d.logged; ended = ended }) ws₃ q' m' (lost_words ws q m t)) (sym e)
+  lost_goes_on e ws₂ k =
+      subst (λ (ended : Bool). TicksIn ws q m (lost (plain (head_of ws) q m) t) (record { logged = d.logged; ended = ended }) ws₂ q' m' (lost_words ws q m t)) (sym e)
       (record {
-        ticks = lose_goes_on (head_of ws) q m t (head_of ws₁) es l.loses (outcome_of ws₂ d) q' m' w.ticks e (head_of ws₃) k.becomes;
-        words = k.words ∙ ap (λ (l : List ℕ). rescheduled_words l t) counted ∙ sym (ap after (ended false e));
+        ticks = lose_goes_on (head_of ws) q m t (outcome_of ws₁ d) q' m' w.ticks e (head_of ws₂) k.becomes;
+        words = k.words ∙ ap (λ (l : List ℕ). rescheduled_words l t) w.words ∙ sym (ap after (ended false e));
       })
 
 -- the SoC check

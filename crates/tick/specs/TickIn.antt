@@ -1,5 +1,4 @@
--- What a SocTimeout leaves of a head in words, against the plain tick; and the contract of the
--- tick.
+-- The contract of the tick.
 -- Assumes nothing.
 use Rattle.std.specs.Prelude.{ℕ, ◌≡◌, Bool, true, List, [], ◌∷◌}
 use Rattle.types.specs.Pick.{pick, all_of}
@@ -14,7 +13,6 @@ use Rattle.node.specs.Deadline.{by_deadline}
 use Rattle.node.specs.Run.{step}
 use Rattle.node.specs.InPlace.{answered, unless_refused}
 use Rattle.node.specs.Refines.{plain, left, rings, joins_all, Refines}
-use Rattle.tick.specs.Ticks.{Loses}
 use Rattle.head.specs.Words.{nmt_of, head_of}
 use Rattle.watched.specs.Nodes.{nodes_of, rests, not_before, never, soonest, moment_of}
 use Rattle.head.specs.Written.{earliest_written}
@@ -26,13 +24,7 @@ use Rattle.std.specs.declared.option.Option.TheVariants.{Some, None}
 use Rattle.std.specs.declared.result.Result.{Result}
 use Rattle.types.specs.declared.refusals.Refusal.{Refusal}
 use Rattle.heartbeats.specs.Words.{refreshed_words}
-use Rattle.tick.specs.TickWords.{loss_words, rest_words, tick_words}
-
--- a SocTimeout on a head in words: the head and the errors as the plain tick has them, and every
--- word
-pub record LosesIn (ws : List ℕ) (es : DllErrors) (ws' : List ℕ) : Type 0 where
-  pub loses : Loses (head_of ws) (head_of ws') es
-  pub words : ws' ≡ loss_words ws
+use Rattle.tick.specs.TickWords.{rest_words, tick_words}
 
 -- heartbeats are not checked, or all nodes rest: none asks for anything
 abbrev pub is_still : Bool → ℕ → List WatchedNode → Bool

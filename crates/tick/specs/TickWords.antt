@@ -1,11 +1,12 @@
 -- The words of the head after each part of the tick behind the heartbeats, and after the tick:
 -- every word, as a function of what came in.
 -- Assumes nothing.
-use Rattle.std.specs.Prelude.{ℕ, ◌+◌, Bool, List, [], ◌∷◌, leb, ltb, set}
+use Rattle.std.specs.Prelude.{ℕ, ◌+◌, Bool, true, List, [], ◌∷◌, leb, ltb, set}
 use Rattle.types.specs.Pick.{pick, both}
 use Rattle.types.specs.declared.nmt.events.NmtEvent.TheVariants.{Timeout}
+use Rattle.types.specs.declared.frame.cs_state_machine.DllCsEvent.{DllCsEvent}
+use Rattle.types.specs.declared.frame.cs_state_machine.DllCsEvent.TheVariants.{SocTimeout}
 use Rattle.types.specs.declared.frame.error.types.DllError.{DllError}
-use Rattle.dll.specs.Dll.{cs_state_number}
 use Rattle.counters.specs.Counters.{effect, handled}
 use Rattle.entries.specs.Queue.{pushed}
 use Rattle.entries.specs.History.{joined}
@@ -16,13 +17,13 @@ use Rattle.node.specs.Plain.{Plain}
 use Rattle.node.specs.Steps.{cycle_of, limit_of}
 use Rattle.node.specs.Phases.{one_more}
 use Rattle.node.specs.Heartbeats.{checks_heartbeats, late_ones, on_late_all}
-use Rattle.node.specs.DllErrors.{on_dll_errors}
-use Rattle.node.specs.Deadline.{last_soc, elapsed, next_deadline, soc_timeout, at_not_active}
+use Rattle.node.specs.DllErrors.{on_dll_event}
+use Rattle.node.specs.Deadline.{last_soc, elapsed, next_deadline, at_not_active}
 use Rattle.node.specs.Refines.{plain}
 use Rattle.head.specs.Places as at
 use Rattle.head.specs.Words.{word, nmt_of, errors_of, soc_of, od_of, queue_of, history_of, head_of}
 use Rattle.head.specs.Written.{deadline_written, queue_written, history_written}
-use Rattle.node.specs.InPlace.{effect_words}
+use Rattle.node.specs.InPlace.{dll_outcome_of, dll_event_words, effect_words}
 use Rattle.phases.specs.PartWords.{signal_words, event_words, finished_words, ends_by}
 use Rattle.heartbeats.specs.Words.{on_late_all_words}
 
@@ -38,21 +39,25 @@ entry_words ws =
     (history_written (queue_written (count2 ws) (pushed (queue_of ws)).queue) (joined (history_of ws)))
     (set ws at.counter3 (one_more (word ws at.counter3)))
 
--- the words after an error of the SoC check was counted: its counter's, and counter 1
+-- the words after an error of a DLL event was counted: its counter's, and counter 1
 unfoldable pub counted_words : List ℕ → DllError → List ℕ
 counted_words ws e = set (effect_words ws (effect e)) at.counter1 (one_more (word (effect_words ws (effect e)) at.counter1))
 
--- the words after one error of the SoC check
+-- the words after one error of a DLL event
 unfoldable pub on_dll_error_words : List ℕ → DllError → List ℕ
 on_dll_error_words ws e =
     finished_words (ends_by ws e)
     (pick (handled (errors_of ws) e).signal (entry_words (signal_words (counted_words ws e))) (counted_words ws e))
 
--- the words after the errors of the SoC check in order: the first that brings an action ends the
--- tick
+-- the words after the errors of a DLL event in order: the first that brings an action is the last
 unfoldable pub on_dll_errors_words : List ℕ → List DllError → List ℕ
 on_dll_errors_words ws [] = ws
 on_dll_errors_words ws (e ∷ es) = pick (ends_by ws e) (on_dll_error_words ws e) (on_dll_errors_words (on_dll_error_words ws e) es)
+
+-- the words after a DLL event and its errors
+unfoldable pub on_dll_event_words : List ℕ → DllCsEvent → List ℕ
+on_dll_event_words ws e =
+    on_dll_errors_words (dll_event_words ws e true) (dll_outcome_of ws e true).errors
 
 -- the plain head that the words stand for, lent no memory: the deadlines read no entry of queue or
 -- history
@@ -73,10 +78,6 @@ unfoldable pub within_words : List ℕ → ℕ → List ℕ
 within_words ws t =
     pick (both (ltb 0 (cycle_of (od_of ws))) (ltb t (limit_at ws))) (deadline_written ws (At (limit_at ws))) (rescheduled_words ws t)
 
--- the words after a lost SoC, before its errors: the DLL state is written
-unfoldable pub loss_words : List ℕ → List ℕ
-loss_words ws = set ws at.dll (cs_state_number (soc_timeout (unlent ws)).state)
-
 -- the words behind the errors of a lost SoC: where none ended the tick, the deadline is set anew
 abbrev pub after_loss_words : Bool → List ℕ → ℕ → List ℕ
 after_loss_words ended ws t = pick ended ws (rescheduled_words ws t)
@@ -85,8 +86,8 @@ after_loss_words ended ws t = pick ended ws (rescheduled_words ws t)
 -- deadline
 unfoldable pub lost_words : List ℕ → List ℕ → List ℕ → ℕ → List ℕ
 lost_words ws q m t =
-    after_loss_words (on_dll_errors t (plain (head_of (loss_words ws)) q m) (soc_timeout (unlent ws)).errors).ended
-    (on_dll_errors_words (loss_words ws) (soc_timeout (unlent ws)).errors) t
+    after_loss_words (on_dll_event t (plain (head_of ws) q m) SocTimeout).ended
+    (on_dll_event_words ws SocTimeout) t
 
 -- the words after the SoC check, where it is on; where it is off all stay
 unfoldable pub check_words : List ℕ → List ℕ → List ℕ → ℕ → List ℕ

@@ -10,19 +10,17 @@ ghost use Rattle.head.specs.Written.{deadline_written};
 ghost use Rattle.tick.specs.TickWords.{unlent, rescheduled_words, within_words, lost_words};
 ghost use Rattle.tick.specs.TickWords.{check_words, basic_words, timeout_words, deadline_words};
 ghost use Rattle.phases.specs.PartsIn.{Turns, TicksIn};
-ghost use Rattle.tick.specs.TickIn.{LosesIn};
 
-use crate::dll_errors::on_dll_errors;
+use crate::dll_errors::on_dll_event;
 use entries::sizes::{HistoryBytes, QueueBytes};
 use head::dictionary::od_of;
-use head::machines::{dll_of, set_dll, state_at, timeout_of};
+use head::machines::{state_at, timeout_of};
 use head::state::{Deadline, Head};
 use head::watch::{check_of, check_off, deadline_at, set_deadline, soc_of};
 use node::range::is_loss;
 use node::timing::{cycle, last_soc, limit, time_since, tolerance_us};
 use phases::{PhaseOutcome, timeout_in_tick};
 use types::frame::cs_state_machine::DllCsEvent;
-use types::frame::error::types::DllErrors;
 use types::nmt::states::NmtState;
 use watched::time::Time;
 
@@ -72,16 +70,8 @@ fn within_limit(head: &mut Head, time: Time)
     reschedule(head, time);
 }
 
-// A lost SoC is the DLL event SocTimeout, with a PReq expected: the errors that it reports.
-fn soc_timeout(head: &mut Head) -> DllErrors
-    ensures { LosesIn head.old result head.new }
-{
-    let answer = dll_of(head).process_event(DllCsEvent::SocTimeout, state_at(head), true);
-    set_dll(head, answer.machine);
-    answer.errors
-}
-
-// The errors of a lost SoC are dealt with; where none brings an action, the deadline is set anew.
+// A lost SoC is the DLL event SocTimeout; where none of its errors brings an action, the deadline
+// is set anew.
 fn lose(
     head: &mut Head,
     queue: &mut QueueBytes,
@@ -93,8 +83,7 @@ fn lose(
         result head.new queue.new history.new
         (lost_words head.old queue.old history.old time.us) }
 {
-    let errors = soc_timeout(head);
-    let outcome = on_dll_errors(head, queue, history, errors, time.us);
+    let outcome = on_dll_event(head, queue, history, DllCsEvent::SocTimeout, time.us);
     if outcome.ended {
         return outcome;
     }

@@ -3,5 +3,5 @@
 #![tactic(auto)]
 
 pub mod deadline;
-mod dll_errors;
+pub mod dll_errors;
 pub mod tick;

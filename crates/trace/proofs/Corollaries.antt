@@ -28,7 +28,7 @@ use Rattle.nmt.specs.Nmt.{processed}
 use Rattle.head.specs.declared.state.SocWatch.{SocWatch}
 use Rattle.head.specs.Words.{head_of}
 use Rattle.watched.specs.Watched.{latest, in_time, heard_at, Run, watching, changing}
-use Rattle.node.specs.Plain.{Plain, Call, nmt_event, dll_event, error, cycle_complete, withdraw, heard, hand_out, load, arm, tick, range, margin, add, remove, next_due, Start, taken, range_answer, margin_answer, due_answer, Step}
+use Rattle.node.specs.Plain.{Plain, Call, nmt_event, dll_event, error, cycle_complete, withdraw, heard, hand_out, load, arm, tick, range, margin, add, remove, next_due, frame, Start, taken, range_answer, margin_answer, due_answer, Step}
 use Rattle.node.specs.Steps.{no_run, forgets, answers, declines, with_nmt, with_soc, nmt_step, dll_step, error_step, withdrawn, heard_tests, add_tests, remove_tests, added, removed, armed, cycle_of, earliest, fresh, started}
 use Rattle.node.specs.Heartbeats.{refreshed_at}
 use Rattle.node.specs.Deadline.{last_soc}
@@ -48,6 +48,7 @@ use Rattle.calling.specs.Made.{by_lent, Made}
 use Rattle.trace.specs.Driven.{Driven, stop, call, lend, calls_of, says, said_by}
 use Rattle.trace.proofs.Ticking.{picked, tick_part}
 use Rattle.node.proofs.Refining.{tried_by_lem}
+use Rattle.trace.proofs.Framing.{Framed, turned_away, passed_by, taken_as, framed}
 use Rattle.trace.proofs.Shares.{Leaves, stays, goes, run_call}
 use Rattle.trace.proofs.Earliest.{ends_with}
 use Rattle.trace.proofs.Follows.{begins_unheard}
@@ -145,7 +146,8 @@ ends_afresh {s} {x₁} {x'} {l} {c = c} {o = o} b d t w a =
     k : Claim (start_of s l) (calls_of d) (said_by d) (head_of x₁.head) x₁.queue x₁.history
     k = claim_holds b d
 
--- the last SoC time: an arm that is taken has a time up to the latest, and no other call sets it
+-- the last SoC time: an arm that is taken, and an SoC frame, has a time up to the latest, and no
+-- other call sets it
 abbrev last : Plain → ℕ
 last p = p.soc.last_soc_reception_time_us
 
@@ -204,6 +206,12 @@ module _ (p : Plain) (h : last p ≤ latest) where
   timed (add n o r) = run_timed (run_call p (add_tests n o r) r (added n o r))
   timed (remove n r) = run_timed (run_call p (remove_tests n r) r (removed n r))
   timed (next_due r) = tried_by_lem Timed (due_tests r) (declines p r) (answers p (due_answer (due p (watching r))) r) (λ n. h) h
+  timed (frame t b) = by (framed p t b)
+    where
+      by : {k : Step} → Framed p t k → Timed k
+      by (turned_away n) = h
+      by passed_by = h
+      by (taken_as k g) = g.last h
 
 timed_all : (p : Plain) (cs : List Call) → last p ≤ latest → last (step_all p cs) ≤ latest
 unfolding step_all

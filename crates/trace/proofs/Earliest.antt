@@ -28,7 +28,7 @@ use Rattle.watched.specs.declared.nodes.WatchedNode.{WatchedNode}
 use Rattle.watched.specs.Watched.{heard_now, heard_at, unheard, Run, watching, well_lent, changing}
 use Rattle.watched.proofs.Lists.{each_nodes}
 use Rattle.watched.proofs.Watching.{lent_inside}
-use Rattle.node.specs.Plain.{Plain, Call, nmt_event, dll_event, error, cycle_complete, withdraw, heard, hand_out, load, arm, tick, range, margin, add, remove, next_due, taken, range_answer, margin_answer, due_answer, Step}
+use Rattle.node.specs.Plain.{Plain, Call, nmt_event, dll_event, error, cycle_complete, withdraw, heard, hand_out, load, arm, tick, range, margin, add, remove, next_due, frame, taken, range_answer, margin_answer, due_answer, Step}
 use Rattle.node.specs.Steps.{smaller, earliest, no_run, answers, declines, forgets, with_nmt, with_soc, nmt_step, dll_step, error_step, withdrawn, heard_tests, add_tests, remove_tests, added, removed, arm_tests, armed}
 use Rattle.node.specs.Heartbeats.{refreshed_at}
 use Rattle.node.specs.Tick.{tick_tests, tick_taken, tick_answered}
@@ -38,6 +38,7 @@ use Rattle.node.specs.Run.{step, step_all}
 use Rattle.trace.specs.Earliest.{works_out, accepted, left_by, last_left}
 use Rattle.trace.proofs.Ticking.{picked}
 use Rattle.node.proofs.Refining.{tried_by_lem}
+use Rattle.trace.proofs.Framing.{Framed, turned_away, passed_by, taken_as, framed}
 use Rattle.trace.proofs.Shares.{Leaves, stays, goes, run_call}
 
 -- START: no node was heard, so none would be late
@@ -111,6 +112,12 @@ renewed p (add n o l) r h = run_renewed p (run_call p (add_tests n o l) l (added
 renewed p (remove n l) r h = run_renewed p (run_call p (remove_tests n l) l (removed n l)) r h
 renewed p (next_due l) r h =
     tried_by_lem (Kept p) (due_tests l) (declines p l) (answers p (due_answer (due p (watching l))) l) (λ n. refl) refl ∙ h
+renewed p (frame t b) r h = by (framed p t b) ∙ h
+  where
+    by : {k : Step} → Framed p t k → Kept p k
+    by (turned_away n) = refl
+    by passed_by = refl
+    by (taken_as k g) = g.earliest
 
 -- ANY LIST: the earliest moment is that of the run which the last of these left
 pub moment_all : (p : Plain) (cs : List Call) (r : Run) → p.earliest ≡ earliest (watching r) → (step_all p cs).earliest ≡ earliest (watching (last_left p cs r))

@@ -1,6 +1,7 @@
 pub mod Modes
 pub mod Queues
 pub mod Ticking
+pub mod Framing
 pub mod Shares
 pub mod Earliest
 pub mod Moves

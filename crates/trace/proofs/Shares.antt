@@ -30,7 +30,7 @@ use Rattle.entries.specs.Ring.{nth, rest}
 use Rattle.entries.specs.declared.status_response.ErrorEntry.{ErrorEntry}
 use Rattle.node.specs.declared.load.DictionaryUpdate.{DictionaryUpdate}
 use Rattle.watched.specs.Watched.{heard_at, Run, watching, changing}
-use Rattle.node.specs.Plain.{Plain, HistoryUpdate, Call, nmt_event, dll_event, error, cycle_complete, withdraw, heard, hand_out, load, arm, tick, range, margin, add, remove, next_due, Answer, taken, nmt_answer, hand_out_answer, range_answer, margin_answer, due_answer, made, Step}
+use Rattle.node.specs.Plain.{Plain, HistoryUpdate, Call, nmt_event, dll_event, error, cycle_complete, withdraw, heard, hand_out, load, arm, tick, range, margin, add, remove, next_due, frame, Answer, taken, nmt_answer, hand_out_answer, range_answer, margin_answer, due_answer, not_ours, made, Step}
 use Rattle.node.specs.Steps.{Test, tried, no_run, answers, declines, leaves, forgets, with_nmt, with_soc, nmt_step, dll_step, error_step, withdrawn, heard_tests, add_tests, remove_tests, added, removed, updated_counter, updated, arm_tests, armed}
 use Rattle.node.specs.Phases.{Ticked}
 use Rattle.node.specs.Heartbeats.{refreshed_at}
@@ -43,6 +43,7 @@ use Rattle.trace.specs.Claim.{Queued, still, kept, dropped, handed, Rule}
 use Rattle.node.proofs.Refining.{tried_by_lem}
 use Rattle.trace.proofs.Modes.{mode, mode_event, mode_withdraw}
 use Rattle.counters.proofs.Counts.{Counting, counting_none, counting_handled, counting_completed}
+use Rattle.trace.proofs.Framing.{tells_moved, Framed, turned_away, passed_by, taken_as, framed}
 use Rattle.trace.proofs.Ticking.{seen, Enters, none, one, PartOf, tells, tick_part}
 
 -- the mode's share, the queue's, the counters', that of crossings, and counter 3's
@@ -297,6 +298,24 @@ range_shares p a b = asked_shares p (range a b) no_run (range_tests a b) (range_
 margin_shares : (p : Plain) (t : ℕ) → Shares p (margin t) (step p (margin t))
 margin_shares p t = asked_shares p (margin t) no_run (margin_tests t) (margin_answer (margin_of p t)) refl (λ t w. refl)
 
+-- a frame
+frame_shares : (p : Plain) (t : ℕ) (b : List ℕ) → Shares p (frame t b) (step p (frame t b))
+frame_shares p t b = by (framed p t b)
+  where
+    by : {k : Step} → Framed p t k → Shares p (frame t b) k
+    by (turned_away n) = declined p (frame t b) no_run n (λ w. refl)
+    by passed_by =
+        untouched p (frame t b) (answers p not_ours no_run)
+        (record { queue = refl; crossings = refl; crossed = refl; handed = refl; lost = λ l. refl }) refl (λ w. refl) refl refl
+    by (taken_as k g) =
+        record {
+          orders = tells_moved g.moves;
+          queue = rw g.handed (enters_queue p g.enters);
+          counts = g.counts;
+          crossed = g.crossed;
+          lost = enters_lost p (frame t b) k g.enters refl refl;
+        }
+
 -- each call
 pub shares : (p : Plain) (c : Call) → Shares p c (step p c)
 shares p (nmt_event n) = nmt_shares p n (read_event n) refl
@@ -314,6 +333,7 @@ shares p (margin t) = margin_shares p t
 shares p (add n o r) = run_shares p (add n o r) (run_call p (add_tests n o r) r (added n o r)) (λ t w. refl)
 shares p (remove n r) = run_shares p (remove n r) (run_call p (remove_tests n r) r (removed n r)) (λ t w. refl)
 shares p (next_due r) = asked_shares p (next_due r) r (due_tests r) (due_answer (due p (watching r))) refl (λ t w. refl)
+shares p (frame t b) = frame_shares p t b
 
 -- a hand-out answers none exactly where the queue was empty
 none_out :

@@ -13,9 +13,7 @@ use Rattle.types.specs.declared.frame.error.types.DllError.{DllError}
 use Rattle.types.proofs.Tests.{both_first, both_second}
 use Rattle.nmt.specs.Nmt as Nmt
 use Rattle.nmt.specs.declared.cn_state_machine.CnNmtStateMachine.{CnNmtStateMachine}
-use Rattle.dll.specs.Dll.{goes, cyclic, is_cyclic, cs_processed}
-use Rattle.dll.specs.declared.cs_state_machine.DllCsState.{DllCsState}
-use Rattle.dll.specs.declared.cs_state_machine.DllCsState.TheVariants.{NonCyclic, WaitSoc, WaitPreq, WaitSoa}
+use Rattle.types.specs.declared.frame.cs_state_machine.DllCsEvent.{DllCsEvent}
 use Rattle.types.specs.declared.frame.cs_state_machine.DllCsEvent.TheVariants.{SocTimeout}
 use Rattle.counters.specs.Counters.{counter, after_error, Effect, counts, loses_link, is_logged, nothing, effect, handled, HandledError}
 use Rattle.counters.specs.Marks.{Mark, given, crossed, is_crossing, count_of, effect_crosses, crosses, effect_marks, error_marks}
@@ -27,14 +25,15 @@ use Rattle.head.specs.declared.state.Deadline.{Deadline}
 use Rattle.head.specs.declared.state.Deadline.TheVariants.{At, Nothing}
 use Rattle.watched.specs.declared.nodes.WatchedNode.{WatchedNode}
 use Rattle.node.specs.Plain.{Plain, EventMade, made, no_event}
-use Rattle.node.specs.Steps.{with_dll, with_errors, with_soc, cycle_of, limit_of}
+use Rattle.node.specs.Steps.{dll_outcome, with_dll, with_errors, with_soc, cycle_of, limit_of}
 use Rattle.node.specs.Phases.{Ticked, goes_on, behind, acts, one_more, signalled, check_off, finished, on_handled, event_in_tick}
 use Rattle.node.specs.Heartbeats.{checks_heartbeats, on_late_by, timeout_of, on_late, on_late_all, late_ones, heartbeats}
-use Rattle.node.specs.DllErrors.{counter1, kept, dropped_one, queued, on_dll_error_by, on_dll_error, on_dll_errors}
-use Rattle.node.specs.Deadline.{with_deadline, at_not_active, basic_timeout, timed_out, last_soc, elapsed, next_deadline, rescheduled, within_limit, soc_timeout, lost, soc_check, used_up, by_deadline}
+use Rattle.node.specs.DllErrors.{counter1, kept, dropped_one, queued, on_dll_error_by, on_dll_error, on_dll_errors, on_dll_event}
+use Rattle.node.specs.Deadline.{with_deadline, at_not_active, basic_timeout, timed_out, last_soc, elapsed, next_deadline, rescheduled, within_limit, lost, soc_check, used_up, by_deadline}
 use Rattle.node.specs.Tick.{tick_taken}
 use Rattle.phases.specs.Parts.{is_quiet}
 use Rattle.phases.proofs.PartLaws.{handled_quiet, quiet_crosses}
+use Rattle.tick.proofs.DllEvents.{events_quiet}
 use Rattle.trace.specs.Tally.{Orders, orders_made}
 use Rattle.trace.proofs.Modes.{mode, mode_event}
 use Rattle.counters.proofs.Balance.{count_append}
@@ -285,17 +284,11 @@ on_dll_errors_walk t p (e ∷ es) q =
     (on_dll_errors t (on_dll_error t p e).head es)
     (on_dll_errors_walk t (on_dll_error t p e).head es (both_second (is_quiet e) (all_of is_quiet es) q))
 
--- a SocTimeout reports LossOfSoc, LossOfSoa or UnexpectedEventInState
-soc_quiet : (p : Plain) → all_of is_quiet (soc_timeout p).errors ≡ true
-unfolding cs_processed
-soc_quiet p = by (is_cyclic p.nmt.current_state) p.dll
-  where
-    by : (b : Bool) (d : DllCsState) → all_of is_quiet (pick b (cyclic d SocTimeout true) (goes NonCyclic [])).errors ≡ true
-    by true NonCyclic = refl
-    by true WaitSoc = refl
-    by true WaitPreq = refl
-    by true WaitSoa = refl
-    by false d = refl
+-- a DLL event with its errors
+pub on_dll_event_walk : (t : ℕ) (p : Plain) (e : DllCsEvent) → WalkOf p (on_dll_event t p e)
+on_dll_event_walk t p e =
+    on_dll_errors_walk t (with_dll p (dll_outcome p e true).state) (dll_outcome p e true).errors
+    (events_quiet p.dll e p.nmt.current_state)
 
 pub rescheduled_walk : (p : Plain) (t : ℕ) → WalkOf p (goes_on (rescheduled p t))
 rescheduled_walk p t =
@@ -309,9 +302,8 @@ within_walk p t =
 
 lost_walk : (p : Plain) (t : ℕ) → WalkOf p (lost p t)
 lost_walk p t =
-    let g = with_dll p (soc_timeout p).state in
-    let k = on_dll_errors t g (soc_timeout p).errors in
-    walk_then (seen p) p.errors k (on_dll_errors_walk t g (soc_timeout p).errors (soc_quiet p)) (goes_on (rescheduled k.head t))
+    let k = on_dll_event t p SocTimeout in
+    walk_then (seen p) p.errors k (on_dll_event_walk t p SocTimeout) (goes_on (rescheduled k.head t))
     (rescheduled_walk k.head t)
 
 pub soc_check_walk : (p : Plain) (t : ℕ) → WalkOf p (soc_check p t)

@@ -203,6 +203,9 @@ module _ {x x' : Held} {o : Reply} (long : length x.history ≡ 5080) where
   brings (of.Add n s) t = none_by x x' _ refl refl t.rings
   brings (of.Remove n) t = none_by x x' _ refl refl t.rings
   brings of.NextDue t = none_by x x' _ refl refl t.rings
+  brings (of.Frame s b) t =
+      brings_crossed (head_of x.head) (head_of x'.head) x.queue x.history x'.queue x'.history (step (plain_at x) (Call.frame s b.now)).crossings
+      (one_at_most (rule (plain_at x) (Call.frame s b.now)).queue) long t.rings
 
 -- and a list of them, between any two moments
 abbrev Stands : Held → List Call → Held → Type 0

@@ -22,7 +22,7 @@ use Rattle.nmt.specs.Resets.{is_reset, states_entered}
 use Rattle.nmt.specs.Nmt.{enter, row_of, applied, reset_by, processed}
 use Rattle.nmt.specs.declared.cn_state_machine.CnNmtStateMachine.{CnNmtStateMachine}
 use Rattle.head.proofs.Laws.{state_is}
-use Rattle.node.specs.Plain.{Plain, Call, nmt_event, dll_event, error, cycle_complete, withdraw, heard, hand_out, load, arm, tick, range, margin, add, remove, next_due, Start, taken, EventMade}
+use Rattle.node.specs.Plain.{Plain, Call, nmt_event, dll_event, error, cycle_complete, withdraw, heard, hand_out, load, arm, tick, range, margin, add, remove, next_due, frame, Start, taken, EventMade}
 use Rattle.node.specs.Steps.{no_run, answers, declines, with_nmt, withdrawn, fresh}
 use Rattle.node.specs.Run.{step, step_all}
 use Rattle.trace.specs.Tally.{Orders, orders, asks, in_pre_operational2}
@@ -131,20 +131,18 @@ module _ (p : Plain) (c : Call) (h : calm p.nmt ≡ true) where
   in_tick InTick.fails = by_event Error (unasked Error refl)
   in_tick InTick.times_out_lem = by_event Timeout (unasked Timeout refl)
 
-  came : {e : EventMade} {m : CnNmtStateMachine} → Moves p c e m → Came p c m
-  came Moves.same = stays
-  came Moves.takes_back = record { calms = h; opens = λ o. inl o; readies = λ r. inl r }
-  came (Moves.orders n e x r) =
+  came : {e : EventMade} {m : CnNmtStateMachine} → (step p c).event ≡ e → Moves p c e m → Came p c m
+  came y Moves.same = stays
+  came y Moves.takes_back = record { calms = h; opens = λ o. inl o; readies = λ r. inl r }
+  came y (Moves.orders e) =
       by_event e (λ a.
       record {
-        number = n;
         event = e;
-        call = x;
-        read = r;
+        given = y;
         passes = both_second (in_pre_operational2 p.nmt) (asks e) a;
         visit = state_is (nmt_state p) NmtPreOperational2 (both_first (in_pre_operational2 p.nmt) (asks e) a);
       })
-  came (Moves.ticks t) = in_tick t
+  came y (Moves.ticks t) = in_tick t
 
 -- after some calls from the head p
 record Known (p : Plain) (cs : List Call) : Type 0 where
@@ -175,7 +173,7 @@ known_then : (p : Plain) (cs : List Call) (c : Call) → Known p cs → Known p 
 unfolding Stays
 known_then p cs c k =
     let g = step_all p cs in
-    let z = came g c k.calms (moves g c) in
+    let z = came g c k.calms refl (moves g c) in
     let on : (step_all p (cs ++ (c ∷ []))).nmt ≡ (step g c).head.nmt = ap (λ (g : Plain). g.nmt) (run_then p cs c) in
     record {
       calms = ap calm on ∙ z.calms;
@@ -247,20 +245,18 @@ module _ (p : Plain) (c : Call) where
   word_in_tick InTick.fails h = word_by_lem Error (unworded Error refl) h
   word_in_tick InTick.times_out_lem h = word_by_lem Timeout (unworded Timeout refl) h
 
-  word_came : {e : EventMade} {m : CnNmtStateMachine} → Moves p c e m → m.app_ready ≡ true → (p.nmt.app_ready ≡ true) ⊎ Wording p c
-  word_came Moves.same h = inl h
-  word_came Moves.takes_back h = absurd (true≢false (sym h))
-  word_came (Moves.orders n e x r) h =
+  word_came : {e : EventMade} {m : CnNmtStateMachine} → (step p c).event ≡ e → Moves p c e m → m.app_ready ≡ true → (p.nmt.app_ready ≡ true) ⊎ Wording p c
+  word_came y Moves.same h = inl h
+  word_came y Moves.takes_back h = absurd (true≢false (sym h))
+  word_came y (Moves.orders e) h =
       word_by_lem e (λ a.
       record {
-        number = n;
         event = e;
-        call = x;
-        read = r;
+        given = y;
         passes = event_is e CnConfigurationComplete (both_second (in_pre_operational2 p.nmt) (same_event e CnConfigurationComplete) a);
         visit = state_is (nmt_state p) NmtPreOperational2 (both_first (in_pre_operational2 p.nmt) (same_event e CnConfigurationComplete) a);
       }) h
-  word_came (Moves.ticks t) h = word_in_tick t h
+  word_came y (Moves.ticks t) h = word_in_tick t h
 
 -- a call that leaves the machine ready is no withdrawal that was accepted
 not_withdrawn : (p : Plain) (c : Call) → (step p c).head.nmt.app_ready ≡ true → both (is_withdraw c) (is_taken (step p c).answer) ≡ false
@@ -286,6 +282,7 @@ not_withdrawn p (margin t) h = refl
 not_withdrawn p (add n o r) h = refl
 not_withdrawn p (remove n r) h = refl
 not_withdrawn p (next_due r) h = refl
+not_withdrawn p (frame t b) h = refl
 
 none_then :
     (p : Plain) (xs : List Call) (c : Call) → NoneWithdrawn p xs → both (is_withdraw c) (is_taken (step (step_all p xs) c).answer) ≡ false →
@@ -332,7 +329,7 @@ module _ (p : Plain) (c : Call) where
   reset_forgets : {e : EventMade} {m : CnNmtStateMachine} → Moves p c e m → resets e ≡ true → m.app_ready ≡ true → {A : Type 0} → A
   reset_forgets Moves.same r h = absurd (true≢false (sym r))
   reset_forgets Moves.takes_back r h = absurd (true≢false (sym r))
-  reset_forgets (Moves.orders n e x y) r h = forgotten_event e r h
+  reset_forgets (Moves.orders e) r h = forgotten_event e r h
   reset_forgets (Moves.ticks InTick.still) r h = absurd (true≢false (sym r))
   reset_forgets (Moves.ticks InTick.fails) r h = forgotten_event Error r h
   reset_forgets (Moves.ticks InTick.times_out_lem) r h = forgotten_event Timeout r h
@@ -341,7 +338,7 @@ module _ (p : Plain) (c : Call) where
   remains : {e : EventMade} {m : CnNmtStateMachine} → Moves p c e m → resets e ≡ false → initial p.nmt ≡ true → initial m ≡ true
   remains Moves.same r i = i
   remains Moves.takes_back r i = i
-  remains (Moves.orders n e x y) r i = remains_event e r i
+  remains (Moves.orders e) r i = remains_event e r i
   remains (Moves.ticks InTick.still) r i = i
   remains (Moves.ticks InTick.fails) r i = remains_event Error r i
   remains (Moves.ticks InTick.times_out_lem) r i = remains_event Timeout r i
@@ -424,7 +421,7 @@ module _ (p : Plain) (start : initial p.nmt ≡ true) where
           (b : Bool) → resets (step (step_all p cs) c).event ≡ b → (step (step_all p cs) c).head.nmt.app_ready ≡ true →
           NoReset p (cs ++ (c ∷ [])) ⊎ ReadyWord p (cs ++ (c ∷ []))
       by true r g = reset_forgets (step_all p cs) c (moves (step_all p cs) c) r g
-      by false r g = came_by (word_came (step_all p cs) c (moves (step_all p cs) c) g)
+      by false r g = came_by (word_came (step_all p cs) c refl (moves (step_all p cs) c) g)
         where
           taken_back_lem : both (is_withdraw c) (is_taken (step (step_all p cs) c).answer) ≡ false
           taken_back_lem = not_withdrawn (step_all p cs) c g

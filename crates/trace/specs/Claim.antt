@@ -108,7 +108,7 @@ pub record Claim (s : Start) (cs : List Call) (says : List Said) (h : Head) (q m
       (k : CounterKind) →
       (counter k h.errors).cumulative_cnt < top →
       (counter k h.errors).cumulative_cnt ≡ E k (tallied s cs).marks
-  -- RULES 10.4: there is one entry for each crossing of the errors that SoC checks dealt with
+  -- RULES 10.4: there is one entry for each crossing of the errors of SoC checks and of frames
   pub crossings : length (tallied s cs).crossings ≡ count_of is_crossing (tallied s cs).checked
   -- these entries are the ones that were handed out, the ones that wait and the ones that were
   -- dropped, each once: the kept ones in their order, and the dropped ones in theirs

@@ -1,16 +1,14 @@
 -- How a head came to ReadyToOperate (RULES 10.2): where in the list of calls the enable or
 -- StartNode stands, and where the ready word.
 -- Assumes nothing.
-use Rattle.std.specs.Prelude.{ℕ, ◌≡◌, Bool, true, false, List, [], ◌∷◌, ◌++◌}
+use Rattle.std.specs.Prelude.{◌≡◌, Bool, true, false, List, [], ◌∷◌, ◌++◌}
 use Rattle.types.specs.Pick.{both}
-use Rattle.types.specs.Events.{read_event}
 use Rattle.types.specs.declared.nmt.states.NmtState.{NmtState}
 use Rattle.types.specs.declared.nmt.states.NmtState.TheVariants.{NmtPreOperational2, NmtReadyToOperate}
 use Rattle.types.specs.declared.nmt.events.NmtEvent.{NmtEvent}
 use Rattle.types.specs.declared.nmt.events.NmtEvent.TheVariants.{CnConfigurationComplete}
-use Rattle.std.specs.declared.result.Result.TheVariants.{Ok}
 use Rattle.nmt.specs.Resets.{is_reset}
-use Rattle.node.specs.Plain.{Plain, Call, nmt_event, Answer, refused, taken, nmt_answer, dll_answer, error_answer, cycle_answer, hand_out_answer, tick_answer, range_answer, margin_answer, due_answer, EventMade, made, no_event}
+use Rattle.node.specs.Plain.{Plain, Call, Answer, refused, taken, nmt_answer, dll_answer, error_answer, cycle_answer, hand_out_answer, tick_answer, range_answer, margin_answer, due_answer, not_ours, frame_answer, EventMade, made, no_event}
 use Rattle.node.specs.Run.{step, step_all}
 use Rattle.calling.specs.Table.{Tells, row_of}
 use Rattle.calling.specs.Table as table
@@ -25,13 +23,11 @@ unfoldable pub Stays : NmtState → Plain → List Call → Type 0
 Stays s p [] = Unit {0}
 Stays s p (c ∷ cs) = (nmt_state (step p c).head ≡ s) × Stays s (step p c).head cs
 
--- The call c on the head p is an NMT event by its number, taken in PreOperational2, and the event
--- passes a test.
+-- The call c on the head p made an NMT event, by its number or by a frame, which was taken in
+-- PreOperational2 and passes a test.
 pub record InVisit (test : NmtEvent → Type 0) (p : Plain) (c : Call) : Type 0 where
-  pub number : ℕ
   pub event : NmtEvent
-  pub call : c ≡ nmt_event number
-  pub read : read_event number ≡ Ok event
+  pub given : (step p c).event ≡ made event
   pub passes : test event
   pub visit : nmt_state p ≡ NmtPreOperational2
 
@@ -83,6 +79,8 @@ is_taken (tick_answer es) = false
 is_taken (range_answer v) = false
 is_taken (margin_answer z) = false
 is_taken (due_answer d) = false
+is_taken not_ours = false
+is_taken (frame_answer es r) = false
 
 -- the calls are made from the head p on, and none is a withdrawal that is taken
 unfoldable pub NoneWithdrawn : Plain → List Call → Type 0
