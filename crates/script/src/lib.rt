@@ -2,7 +2,7 @@
 //! specs/Grammar.antt a row for each of its lines.
 #![tactic(auto)]
 
-ghost use Rattle.std.specs.Prelude.{◌≡◌, option_map};
+ghost use Rattle.std.specs.Prelude.{◌≡◌, option_map, []};
 ghost use Rattle.script.specs.Reads.{gives};
 ghost use Rattle.types.specs.States.{states, state_number};
 ghost use Rattle.types.specs.Events.{events, event_number, commands, command_number};
@@ -47,7 +47,9 @@ pub struct LineMemory {
 
 impl LineMemory {
     /// Memory that no line was read into.
-    pub fn new() -> LineMemory {
+    pub fn new() -> LineMemory
+        ensures { (result.bytes.items ≡ []) × (result.components.items ≡ []) }
+    {
         LineMemory {
             bytes: LineBytes::new(),
             components: LineComponents::new(),
