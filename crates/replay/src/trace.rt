@@ -13,11 +13,7 @@ use weigh::WeighCall;
 
 // Of an event and Error the one that moved a machine: the table leads at most one of them to the
 // state in which it stands behind it.
-fn event_of(
-    event: NmtEvent,
-    before: CnNmtStateMachine,
-    after: CnNmtStateMachine,
-) -> NmtEvent
+fn event_of(event: NmtEvent, before: CnNmtStateMachine, after: CnNmtStateMachine) -> NmtEvent
     ensures { result ≡ event_of event before after }
 {
     let moved = left_by(position_of(before), event).position;

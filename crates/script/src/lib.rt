@@ -145,11 +145,7 @@ fn read_call<'a>(name: &str, words: &mut Words<'_>) -> Option<Call<'a>>
 
 // What a line says that begins with a name, with the words behind it.
 #[tactic(auto, unfolding(crate::specs::Grammar::line_named))]
-fn read_named<'a>(
-    name: &str,
-    words: &mut Words<'_>,
-    memory: &'a mut LineMemory,
-) -> Option<Line<'a>>
+fn read_named<'a>(name: &str, words: &mut Words<'_>, memory: &'a mut LineMemory) -> Option<Line<'a>>
     ensures { gives (option_map says result) words.new.rest.now
         ≡ line_named name.now words.old.rest.now }
 {
@@ -159,9 +155,9 @@ fn read_named<'a>(
             values: words.update()?,
             history: words.history(&mut memory.bytes)?,
         }))),
-        "recipe" => Some(Line::Call(WeighCall::LoadRecipe(
-            words.components(&mut memory.components)?,
-        ))),
+        "recipe" => Some(Line::Call(WeighCall::LoadRecipe(words.components(
+            &mut memory.components,
+        )?))),
         "weight" => Some(Line::Call(WeighCall::Weight(words.bits64()? as usize))),
         "frame" => Some(Line::Call(WeighCall::Node(Call::Frame {
             time: words.bits64()?,
