@@ -26,8 +26,8 @@ loop-place-preserved g c =
     omega (arith, c.in_ok-read_until.ensures.ok, c.clear.ensures.len, c.read_until.new.buf.ok.0, c.if-branch-eq0.false)
     in
     let how :
-        said_text c.args.options.style c.play-said.result c.loop-place.place c.play-said.new.self ++ trace_text c.moved_from.result ≡
-        line_text c.args.options c.read-read_line.result c.play-said.result c.loop-place.place c.loop-place.station c.play-said.new.self =
+    said_text c.args.options.style c.play-said.result c.loop-place.place c.play-said.new.self ++ trace_text c.moved_from.result ≡
+    line_text c.args.options c.read-read_line.result c.play-said.result c.loop-place.place c.loop-place.station c.play-said.new.self =
     ap
     (λ (m : Option Moved). said_text c.args.options.style c.play-said.result c.loop-place.place c.play-said.new.self ++ trace_text m)
     (c.moved_from.ensures ∙ ap (λ (m : Option CnNmtStateMachine). moved_from m c.read-read_line.result c.play-said.new.self) c.before-before.ensures)
