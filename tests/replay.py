@@ -126,6 +126,8 @@ def cause(line, state):
         return 'start'
     if word[0] == 'nmt':
         return {n: e for e, n in EVENTS.items()}[int(in_numbers(line).split(' ')[1], 0)]
+    if word[0] == 'recipe':
+        return 'CnConfigurationComplete'
     return 'Timeout' if state == 'BasicEthernet' else 'Error'
 
 

@@ -7,10 +7,6 @@ use Rattle.std.specs.declared.option.Option.{Option}
 use Rattle.std.specs.declared.option.Option.TheVariants.{Some, None}
 use Rattle.std.specs.declared.result.Result.{Result}
 use Rattle.std.specs.declared.result.Result.TheVariants.{Ok, Err}
-use Rattle.types.specs.Events.{command_number}
-use Rattle.types.specs.Kinds.{kind_place}
-use Rattle.types.specs.Refusals.{refusal_number}
-use Rattle.types.specs.States.{state_number}
 use Rattle.types.specs.Errors.{action_number}
 use Rattle.types.specs.declared.nmt.states.NmtState.{NmtState}
 use Rattle.types.specs.declared.refusals.Refusal.{Refusal}

@@ -4,9 +4,7 @@ use Rattle.std.specs.Prelude.{ℕ, List, [], ◌∷◌, codes}
 use Rattle.std.specs.Fmt.{decimal}
 use Rattle.std.specs.declared.option.Option.{Option}
 use Rattle.std.specs.declared.option.Option.TheVariants.{Some, None}
-use Rattle.types.specs.States.{state_number}
 use Rattle.nmt.specs.declared.cn_state_machine.CnNmtStateMachine.{CnNmtStateMachine}
-use Rattle.dll.specs.Dll.{cs_state_number}
 use Rattle.dll.specs.declared.cs_state_machine.DllCsStateMachine.{DllCsStateMachine}
 use Rattle.counters.specs.declared.counters.ThresholdCounter.{ThresholdCounter}
 use Rattle.counters.specs.declared.counters.CnErrorCounters.{CnErrorCounters}
@@ -14,7 +12,6 @@ use Rattle.counters.specs.declared.counters.ByKind.{ByKind}
 use Rattle.head.specs.Head.{moment_in}
 use Rattle.head.specs.declared.state.SocWatch.{SocWatch}
 use Rattle.head.specs.declared.state.Dictionary.{Dictionary}
-use Rattle.forms.specs.Hex.{hex_form}
 use Rattle.telling.specs.declared.styles.Style.{Style}
 use Rattle.telling.specs.Styles.{state_form, cs_state_form}
 use Rattle.telling.specs.Texts.{joined, flag_text}
