@@ -13,7 +13,7 @@ root=$(dirname "$here")
 stored="$root/crates/replay/stdin"
 
 for_oracle() {
-    for name in rules examples resets restored counts thresholds kinds ranges partners queue recipes due generated-11 generated-12 generated-13 desk reading; do
+    for name in rules examples resets restored counts thresholds kinds ranges partners queue recipes due frames generated-11 generated-12 generated-13 desk reading; do
         cat "$here/scripts/$name.txt"
     done
 }

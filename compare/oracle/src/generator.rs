@@ -179,7 +179,7 @@ impl Script<'_> {
 
     /// A number in one of the ways to write it.
     fn number(&mut self, number: u64) -> String {
-        match self.random.below(24) {
+        match self.random.below(30) {
             0 => format!("0x{number:x}"),
             1 => format!("0x{number:X}"),
             2 => format!("00{number}"),
@@ -293,10 +293,10 @@ impl Script<'_> {
             if self.coverage.total_calls() >= calls {
                 break;
             }
-            match self.random.below(25) {
-                0..4 => self.partners()?,
-                4..7 => self.frames()?,
-                7 => self.recipes()?,
+            match self.random.below(31) {
+                0..5 => self.partners()?,
+                5..8 => self.frames()?,
+                8 => self.recipes()?,
                 _ => self.scenario()?,
             }
         }

@@ -286,7 +286,7 @@ impl Script<'_> {
         for _ in 0..2 + self.random.below(5) {
             let above = self.random.pick(&[TOP + 1, 1 << 63, u64::MAX]);
             let now = self.later();
-            let time = self.random.pick(&[now, now, above]);
+            let time = self.random.pick(&[now, above]);
             let bytes = self.bytes_of_no_frame();
             self.frame(time, &bytes)?;
         }
@@ -300,7 +300,7 @@ impl Script<'_> {
         let mut bytes = self.of_type(kind, destination);
         match self.random.below(12) {
             0 | 1 => {
-                let length = self.random.pick(&[0, 1, 13, 14, 15, 16, 16]);
+                let length = self.random.pick(&[0, 0, 1, 13, 14, 15, 16, 16]);
                 bytes.truncate(length);
                 if self.random.one_in(2) && length > 13 {
                     bytes[13] = self.random.pick(&[0, 0xAC]);
