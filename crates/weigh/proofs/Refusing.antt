@@ -22,12 +22,19 @@ use Rattle.recipes.specs.declared.Component.{Component}
 use Rattle.recipes.specs.Recipe.{is_recipe, no_places}
 use Rattle.weigh.specs.declared.WeighCall.{WeighCall}
 use Rattle.weigh.specs.declared.WeighCall.TheVariants as call
+use Rattle.reception.specs.declared.FrameAnswer.{FrameAnswer}
+use Rattle.reception.specs.declared.FrameAnswer.TheVariants.{NotOurs, Ours}
+use Rattle.reception.specs.FrameIn.{frame_says}
 use Rattle.weigh.specs.PlainWeigh as weigh
 use Rattle.weigh.specs.PlainWeigh.{Weigh, node_answer, weight_answer, refused, Step, answers, load_taken, load_recipe, step}
 use Rattle.weigh.specs.WeighHeld.{Held, held_with, plain_at}
 use Rattle.weigh.specs.WeighMade.{Asked, none, one, Made, step_of}
 
 -- what the node answers that did not refuse
+frame_not_refused : (a : FrameAnswer) → (parts (frame_says a)).declines ≡ false
+frame_not_refused NotOurs = refl
+frame_not_refused (Ours d) = refl
+
 not_refused : (a : Answer) → (parts (calling.says a)).declines ≡ false
 not_refused answer.Taken = refl
 not_refused (answer.Nmt t) = refl
@@ -39,6 +46,7 @@ not_refused (answer.Tick es) = refl
 not_refused (answer.Range v) = refl
 not_refused (answer.Margin z) = refl
 not_refused (answer.Due d) = refl
+not_refused (answer.Frame a) = frame_not_refused a
 
 asked_none : {x x' : node.Held} {cs : List plain.Call} → Asked x cs x' → cs ≡ [] → x' ≡ x
 asked_none none e = refl
