@@ -2,7 +2,7 @@
 //! specs/Grammar.antt a row for each of its lines.
 #![tactic(auto)]
 
-ghost use Rattle.std.specs.Prelude.{◌≡◌, option_map, []};
+ghost use Rattle.std.specs.Prelude.{◌≡◌, List, [], option_map};
 ghost use Rattle.script.specs.Reads.{gives};
 ghost use Rattle.types.specs.States.{states, state_number};
 ghost use Rattle.types.specs.Events.{events, event_number, commands, command_number};
@@ -41,14 +41,17 @@ type LineComponents = ArrayVec<Component, 20>;
 /// The memory that a line is read into, which lends what the line gives.
 #[derive(Drop)]
 pub struct LineMemory {
-    bytes: LineBytes,
-    components: LineComponents,
+    /// The bytes of a word.
+    pub bytes: LineBytes,
+    /// The components of a recipe.
+    pub components: LineComponents,
 }
 
 impl LineMemory {
     /// Memory that no line was read into.
     pub fn new() -> LineMemory
-        ensures { (result.bytes.items ≡ []) × (result.components.items ≡ []) }
+        ensures bytes { result.bytes.items ≡ [] }
+        ensures components { result.components.items ≡ [] }
     {
         LineMemory {
             bytes: LineBytes::new(),

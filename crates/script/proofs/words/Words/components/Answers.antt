@@ -1,5 +1,5 @@
 -- A component more, none where the line goes on, more components than there is room for, and the end of the line.
-use Rattle.std.proofs.Common.{◌≡◌, ◌∙◌, ◌-◌, ◌++◌, List, [], ◌∷◌, length, Some, None, ap, sym, subst, rules, arith}
+use Rattle.std.proofs.Common.{◌≡◌, ◌∙◌, ◌-◌, ◌++◌, List, [], ◌∷◌, length, Some, None, sym, subst, rules, arith}
 use Rattle.recipes.specs.declared.Component.{Component}
 use Rattle.script.specs.Components.{components_from}
 use Rattle.script.proofs.Collecting.{goes, fails, full, done, at_end}
