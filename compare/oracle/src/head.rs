@@ -9,7 +9,7 @@ use crate::partners::{self, Consumers};
 use crate::places::{self, DLL_EVENTS, NMT_EVENTS};
 use crate::reset;
 use crate::run::Run;
-use crate::script::{Load, Start};
+use crate::script::{Component, Load, Start};
 use crate::view::{HEARTBEAT, HIGHEST_THRESHOLD};
 use crate::{forms, kinds};
 use powerlink_rs::NodeId;
@@ -70,6 +70,8 @@ pub struct Head {
     capacity: usize,
     dictionary: Dictionary,
     resets: Resets,
+    /// The recipe that was loaded last, until a reset; empty where there is none.
+    pub recipe: Vec<Component>,
     /// The watched nodes as the last call that was lent them left them.
     pub left: Consumers,
     /// The earliest moment at which a watched node would be late, as it was last worked out.
@@ -102,6 +104,7 @@ impl Head {
             capacity,
             dictionary,
             resets,
+            recipe: Vec::new(),
             left: Consumers::new(),
             earliest: None,
         };
@@ -124,6 +127,9 @@ impl Head {
             .process_event(event, &mut self.context.core.od);
         if self.resets == Resets::Forget {
             forget(&mut self.context, event);
+            if reset::is_reset(event) {
+                self.recipe.clear();
+            }
         }
         let to = self.context.nmt_state_machine.current_state;
         let (entered, ranges) = reset::recorded(from, event);

@@ -3,9 +3,8 @@
 use crate::desk;
 use crate::dictionary::{self, Defaults};
 use crate::head::{self, Answer, Head, Resets};
-use crate::recipes;
 use crate::run::Run;
-use crate::script::{self, Call, Component, Line, Watched};
+use crate::script::{self, Call, Line, Watched};
 use crate::view::{Driven, Lent, View};
 use crate::{forms, places};
 use powerlink_rs::frame::error::seven;
@@ -21,8 +20,6 @@ pub struct Oracle {
     desk: Vec<u8>,
     /// None before the first accepted start.
     head: Option<Head>,
-    /// The recipe that was loaded last, until a reset; empty where there is none.
-    recipe: Vec<Component>,
 }
 
 impl Oracle {
@@ -35,7 +32,6 @@ impl Oracle {
             run: Run::new(),
             desk: Vec::new(),
             head: None,
-            recipe: Vec::new(),
         }
     }
 
@@ -71,14 +67,10 @@ impl Oracle {
             let started = Head::start(&start, &mut self.run, self.defaults, self.resets);
             return Some(started.map(|head| {
                 self.head = Some(head);
-                self.recipe = Vec::new();
                 forms::taken(&[])
             }));
         }
         let head = self.head.as_mut()?;
-        if self.resets == Resets::Forget && recipes::ends_by(&call) {
-            self.recipe = Vec::new();
-        }
         Some(match call {
             Call::Start(_) => unreachable!("a start needs no head"),
             Call::Nmt(event) => head.nmt(event),
@@ -103,15 +95,15 @@ impl Oracle {
             Call::Kind(code) => head::read_kind(code),
             Call::Range { earliest, latest } => head.range(earliest, latest),
             Call::Margin(time) => head.margin(time),
-            Call::Recipe(components) => head.recipe(components, &mut self.recipe),
-            Call::Weight(place) => head.weight(place, &self.recipe),
+            Call::Recipe(components) => head.load_recipe(components),
+            Call::Weight(place) => head.weight(place),
         })
     }
 
     /// The lines of `show`; none before the first accepted start.
     pub fn show(&self) -> Option<Vec<String>> {
         let head = self.head.as_ref()?;
-        Some(forms::show(head, &self.run, &self.desk, &self.recipe))
+        Some(forms::show(head, &self.run, &self.desk, &head.recipe))
     }
 
     /// The load that names every value as it stands, except for the history.
@@ -191,7 +183,7 @@ impl Driven for Oracle {
             queue_length: context.emergency_queue.len(),
             history_length: dictionary::history(od).len(),
             earliest: head.earliest,
-            recipe: self.recipe.clone(),
+            recipe: head.recipe.clone(),
         })
     }
 

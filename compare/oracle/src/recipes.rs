@@ -1,10 +1,10 @@
 //! Recipes (RULES 12), of which the original has nothing: the oracle keeps the recipe that was loaded last, as a list,
-//! until one of the five resets. The state that a load and a weight are tried in is the original's, and so is what it makes of
+//! until one of the five resets, which may come in a frame. The state that a load and a weight are tried in is the original's, and so is what it makes of
 //! the ready word.
 
 use crate::forms;
 use crate::head::{Answer, Head};
-use crate::script::{Call, Component};
+use crate::script::Component;
 use powerlink_rs::nmt::events::NmtEvent;
 use powerlink_rs::nmt::states::NmtState;
 
@@ -13,14 +13,6 @@ pub const PLACES: usize = 16;
 
 const LAST_BIN: u8 = 64;
 const MOST_GRAMS: u16 = 30_000;
-
-/// The places of the five resets among the NMT events.
-const RESETS: std::ops::RangeInclusive<u64> = 4..=8;
-
-/// Whether the recipe ends by this call.
-pub fn ends_by(call: &Call) -> bool {
-    matches!(call, Call::Nmt(event) if RESETS.contains(event))
-}
 
 /// Number 15: what no recipe is.
 fn is_recipe(components: &[Component]) -> bool {
@@ -38,7 +30,7 @@ fn is_recipe(components: &[Component]) -> bool {
 
 impl Head {
     /// Refused by 15 or 16, in this order; otherwise the node gets the ready word.
-    pub fn recipe(&mut self, components: Vec<Component>, recipe: &mut Vec<Component>) -> Answer {
+    pub fn load_recipe(&mut self, components: Vec<Component>) -> Answer {
         if !is_recipe(&components) {
             return Err(15);
         }
@@ -47,14 +39,14 @@ impl Head {
         }
         let word = self.nmt(NmtEvent::CnConfigurationComplete as u64);
         assert_eq!(word, Ok("(taken (errors))".to_string()), "the word counts");
-        *recipe = components;
+        self.recipe = components;
         Ok(forms::taken(&[]))
     }
 
     /// Refused by 17.
-    pub fn weight(&self, place: u64, recipe: &[Component]) -> Answer {
+    pub fn weight(&self, place: u64) -> Answer {
         let state = self.context.nmt_state_machine.current_state;
-        let component = usize::try_from(place).ok().and_then(|place| recipe.get(place));
+        let component = usize::try_from(place).ok().and_then(|place| self.recipe.get(place));
         match component {
             Some((_, grams)) if state == NmtState::NmtOperational => {
                 Ok(forms::taken(&[grams.to_string()]))
