@@ -70,8 +70,8 @@ pub record Goes (how : Options) (bs : List ℕ) (left : Option (List ℕ)) (x : 
 module _ (how : Options) (x : Station) (n : ℕ) (played : Bool) (before : Option (List ℕ)) where
   -- a line more was played, and what it prints written
   pub next :
-      (first left left' now now' now'' : Option (List ℕ)) (read text : List ℕ) (l : Line) (o : Said) (y : Station) (told : Bool) →
-      told ≡ is_played o →
+      (first left left' now now' now'' : Option (List ℕ)) (read text : List ℕ) (l : Line) (o : Said) (y : Station) (outcome : Bool) →
+      outcome ≡ is_played o →
       IfSome first (λ bs. Goes how bs left x n played before now) →
       Keeps now now' →
       IfSome left (λ xs. read ≡ take_through 10 xs) →
@@ -81,9 +81,9 @@ module _ (how : Options) (x : Station) (n : ℕ) (played : Bool) (before : Optio
       Plays l x o y →
       text ≡ line_text how l o n x y →
       Appends now' now'' text →
-      IfSome first (λ bs. Goes how bs left' y (n + 1) (played && told) before now'')
-  next None left left' now now' now'' read text l o y told e g k t d more s p h a = tt
-  next (Some bs) left left' now now' now'' read text l o y told e g k t d more s p h a =
+      IfSome first (λ bs. Goes how bs left' y (n + 1) (played && outcome) before now'')
+  next None left left' now now' now'' read text l o y outcome e g k t d more s p h a = tt
+  next (Some bs) left left' now now' now'' read text l o y outcome e g k t d more s p h a =
       let piece : read ≡ take_through 10 g.rest = rw g.left_is at t in
       let behind : left' ≡ Some (drop_through 10 g.rest) = rw g.left_is at d in
       record {

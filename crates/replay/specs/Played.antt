@@ -31,8 +31,8 @@ use Rattle.weigh.specs.WeighMade.{blank, Made, Started}
 use Rattle.script.specs.declared.Line.{Line}
 use Rattle.script.specs.declared.Line.TheVariants as line
 use Rattle.script.specs.Grammar.{says, line_says}
-use Rattle.telling.specs.declared.answers.Told.{Told}
-use Rattle.telling.specs.declared.answers.Told.TheVariants as told
+use Rattle.telling.specs.declared.answers.Outcome.{Outcome}
+use Rattle.telling.specs.declared.answers.Outcome.TheVariants as outcome
 use Rattle.telling.specs.declared.answers.Bitmap.{Bitmap}
 use Rattle.telling.specs.declared.styles.Style.{Style}
 use Rattle.telling.specs.Texts.{joined}
@@ -55,7 +55,7 @@ lent_of x = run (take x.places x.run) x.number
 abbrev pub held_of : Station → Held
 held_of x = held x.head x.queue x.history (lent_of x)
 
--- a station at which nothing has been started, lent or laid on the desk
+-- a station at which nothing has been started, lent or desk_set on the desk
 abbrev pub fresh : Station
 fresh =
     record {
@@ -92,8 +92,8 @@ abbrev pub lending : Station → ℕ → ℕ → Station
 lending x places number = with_run x x.run (min places 40) number
 
 -- the station after `desk`: the first 100 of these bytes are on the desk
-abbrev pub laid : Station → List ℕ → Station
-laid x bs = with_desk x (take 100 bs)
+abbrev pub desk_set : Station → List ℕ → Station
+desk_set x bs = with_desk x (take 100 bs)
 
 -- what a call leaves beside what it is lent: the places that are not lent, how many are, and the
 -- desk
@@ -143,7 +143,7 @@ pub record Wrote (place : ℕ) (e : ErrorEntry) (x : Station) (o : Result (Unit 
   pub left : y ≡ with_desk x (desk_after x.desk.items place e)
 
 -- What a reply tells, of one kind: its answer is as P says.
-abbrev pub Tells : {A : Type 0} → (Told → Option A) → (Result A Refusal → Type 0) → Said → Type 0
+abbrev pub Tells : {A : Type 0} → (Outcome → Option A) → (Result A Refusal → Type 0) → Said → Type 0
 Tells kind P said.Nothing = ⊥
 Tells kind P said.Unreadable = ⊥
 Tells kind P said.Show = ⊥
@@ -151,43 +151,43 @@ Tells kind P said.Why = ⊥
 Tells kind P (said.Reply r) = MatchResult r.0 (λ t. MatchOption (kind t) ⊥ (λ a. P (Ok a))) (λ e. P (Err e))
 
 -- the answer that a reply tells, if any
-abbrev pub answer_in : Told → Option WeighAnswer
-answer_in (told.Answer a) = Some a
+abbrev pub answer_in : Outcome → Option WeighAnswer
+answer_in (outcome.Answer a) = Some a
 answer_in t = None
 
 -- that a reply tells no more than that the call was taken
-abbrev pub taken_in : Told → Option (Unit {0})
-taken_in (told.Answer (weighing.Node answer.Taken)) = Some tt
+abbrev pub taken_in : Outcome → Option (Unit {0})
+taken_in (outcome.Answer (weighing.Node answer.Taken)) = Some tt
 taken_in t = None
 
 -- the watched nodes as bits that a reply tells, if any
-abbrev pub bitmap_in : Told → Option Bitmap
-bitmap_in (told.Bitmap b) = Some b
+abbrev pub bitmap_in : Outcome → Option Bitmap
+bitmap_in (outcome.Bitmap b) = Some b
 bitmap_in t = None
 
 -- the entry that a reply tells, if any
-abbrev pub entry_in : Told → Option ErrorEntry
-entry_in (told.Entry e) = Some e
+abbrev pub entry_in : Outcome → Option ErrorEntry
+entry_in (outcome.Entry e) = Some e
 entry_in t = None
 
 -- the state that a reply tells, if any
-abbrev pub state_in : Told → Option NmtState
-state_in (told.State s) = Some s
+abbrev pub state_in : Outcome → Option NmtState
+state_in (outcome.State s) = Some s
 state_in t = None
 
 -- the state command that a reply tells, if any
-abbrev pub command_in : Told → Option NmtStateCommand
-command_in (told.Command c) = Some c
+abbrev pub command_in : Outcome → Option NmtStateCommand
+command_in (outcome.Command c) = Some c
 command_in t = None
 
 -- the kind of error that a reply tells, if any
-abbrev pub kind_in : Told → Option DllErrorKind
-kind_in (told.Kind k) = Some k
+abbrev pub kind_in : Outcome → Option DllErrorKind
+kind_in (outcome.Kind k) = Some k
 kind_in t = None
 
 -- an answer that tells nothing
-abbrev pub taken_by : Result (Unit {0}) Refusal → Result Told Refusal
-taken_by (Ok u) = Ok (told.Answer (weighing.Node answer.Taken))
+abbrev pub taken_by : Result (Unit {0}) Refusal → Result Outcome Refusal
+taken_by (Ok u) = Ok (outcome.Answer (weighing.Node answer.Taken))
 taken_by (Err r) = Err r
 
 -- whether a line can be played as things stand: a watch where there is a place, and what reaches
@@ -222,7 +222,7 @@ Does (line.Start s) x o y = Tells taken_in (λ r. Began s x r y) o
 Does (line.Watch w) x o y = Quiet (watched_in x w) o y
 Does line.Unwatch x o y = Quiet (unwatched x) o y
 Does (line.Lend places number) x o y = Quiet (lending x places number) o y
-Does (line.Desk bs) x o y = Quiet (laid x bs.now) o y
+Does (line.Desk bs) x o y = Quiet (desk_set x bs.now) o y
 Does (line.Call c) x o y = Tells answer_in (λ r. Called c x r y) o
 Does line.Bitmap x o y = Tells bitmap_in (Bits x) o × (y ≡ x)
 Does (line.EntryWrite place e) x o y = Tells taken_in (λ r. Wrote place e x r y) o

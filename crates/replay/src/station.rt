@@ -14,7 +14,7 @@ use lent::bits::bitmap;
 use nmt::cn_state_machine::CnNmtStateMachine;
 use script::Line;
 use start::start::Setup;
-use telling::answers::{Bitmap, Reply, Told};
+use telling::answers::{Bitmap, Outcome, Reply};
 use telling::shows::Shown;
 use telling::styles::Style;
 use telling::why::{Why, position_of};
@@ -111,7 +111,7 @@ impl Said {
     ghost use Rattle.replay.specs.declared.station.Said.TheVariants as said;
     ghost use Rattle.replay.specs.Played.{taken_by};
 
-    fn reply(answer: Result<Told, Refusal>) -> Said
+    fn reply(answer: Result<Outcome, Refusal>) -> Said
         ensures { result ≡ said.Reply (record { 0 = answer }) }
     {
         Said::Reply(Reply(answer))
@@ -120,7 +120,7 @@ impl Said {
     fn taken(answer: Result<(), Refusal>) -> Said
         ensures { result ≡ said.Reply (record { 0 = taken_by answer }) }
     {
-        Said::reply(answer.map(|()| Told::Answer(WeighAnswer::Node(Answer::Taken))))
+        Said::reply(answer.map(|()| Outcome::Answer(WeighAnswer::Node(Answer::Taken))))
     }
 }
 
@@ -130,9 +130,9 @@ impl Station {
     ghost use Rattle.telling.specs.Why.{why_text};
     ghost use Rattle.replay.specs.Played.{station_text, standing_text, fresh, Called, Began};
     ghost use Rattle.replay.specs.Played.{Bits, Wrote, Quiet};
-    ghost use Rattle.replay.specs.Played.{watched_in, unwatched, lending, laid, takes, Plays};
+    ghost use Rattle.replay.specs.Played.{watched_in, unwatched, lending, desk_set, takes, Plays};
 
-    /// Nothing has been started, lent or laid on the desk.
+    /// Nothing has been started, lent or desk_set on the desk.
     pub fn new() -> Station
         ensures { result ≡ fresh }
     {
@@ -223,8 +223,8 @@ impl Station {
     }
 
     // The desk has these bytes from now on, at most 100.
-    fn lay(&mut self, bytes: &[u8]) -> Said
-        ensures { Quiet (laid self.old bytes.now) result self.new }
+    fn set_desk(&mut self, bytes: &[u8]) -> Said
+        ensures { Quiet (desk_set self.old bytes.now) result self.new }
     {
         self.desk.clear();
         let front = &bytes[..100.min(bytes.len())];
@@ -263,14 +263,14 @@ impl Station {
             Line::Watch(node) => self.watch(node),
             Line::Unwatch => self.unwatch(),
             Line::Lend { places, number } => self.lend(places, number),
-            Line::Desk(bytes) => self.lay(bytes),
-            Line::Call(call) => Said::reply(self.call(call).map(Told::Answer)),
-            Line::Bitmap => Said::reply(self.bitmap().map(Told::Bitmap)),
+            Line::Desk(bytes) => self.set_desk(bytes),
+            Line::Call(call) => Said::reply(self.call(call).map(Outcome::Answer)),
+            Line::Bitmap => Said::reply(self.bitmap().map(Outcome::Bitmap)),
             Line::EntryWrite { place, entry } => Said::taken(self.entry_write(place, entry)),
-            Line::EntryRead(bytes) => Said::reply(read_at(bytes, 0).map(Told::Entry)),
-            Line::State(n) => Said::reply(NmtState::try_from(n).map(Told::State)),
-            Line::Command(n) => Said::reply(NmtStateCommand::try_from(n).map(Told::Command)),
-            Line::Kind(n) => Said::reply(DllErrorKind::from_error_code(n).map(Told::Kind)),
+            Line::EntryRead(bytes) => Said::reply(read_at(bytes, 0).map(Outcome::Entry)),
+            Line::State(n) => Said::reply(NmtState::try_from(n).map(Outcome::State)),
+            Line::Command(n) => Said::reply(NmtStateCommand::try_from(n).map(Outcome::Command)),
+            Line::Kind(n) => Said::reply(DllErrorKind::from_error_code(n).map(Outcome::Kind)),
             Line::Show => Said::Show,
             Line::Why => Said::Why,
         }

@@ -29,8 +29,8 @@ use Rattle.weigh.specs.declared.WeighAnswer.{WeighAnswer}
 use Rattle.weigh.specs.declared.WeighAnswer.TheVariants as weighing
 use Rattle.forms.specs.Hex.{hex_form}
 use Rattle.telling.specs.declared.answers.Bitmap.{Bitmap}
-use Rattle.telling.specs.declared.answers.Told.{Told}
-use Rattle.telling.specs.declared.answers.Told.TheVariants as told
+use Rattle.telling.specs.declared.answers.Outcome.{Outcome}
+use Rattle.telling.specs.declared.answers.Outcome.TheVariants as outcome
 use Rattle.telling.specs.declared.styles.Style.{Style}
 use Rattle.telling.specs.declared.styles.Machine.TheVariants as machine
 use Rattle.telling.specs.Styles.{state_form, command_form, kind_form, refusal_form, code_form, errors_form}
@@ -134,15 +134,15 @@ abbrev pub bitmap_text : Bitmap → List ℕ
 bitmap_text b = joined (codes " (nodes " ∷ decimal b.number ∷ codes ")" ∷ bytes_text b.bytes ∷ [])
 
 -- what a line tells that is taken
-abbrev pub told_text : Style → Told → List ℕ
-told_text y (told.Answer a) = weigh_answer_text y a
-told_text y (told.Bitmap b) = bitmap_text b
-told_text y (told.Entry e) = joined (codes " (entry " ∷ read_text y e ∷ codes ")" ∷ [])
-told_text y (told.State s) = joined (codes " " ∷ state_form y s ∷ [])
-told_text y (told.Command c) = joined (codes " " ∷ command_form y c ∷ [])
-told_text y (told.Kind k) = joined (codes " " ∷ kind_form y k ∷ [])
+abbrev pub outcome_text : Style → Outcome → List ℕ
+outcome_text y (outcome.Answer a) = weigh_answer_text y a
+outcome_text y (outcome.Bitmap b) = bitmap_text b
+outcome_text y (outcome.Entry e) = joined (codes " (entry " ∷ read_text y e ∷ codes ")" ∷ [])
+outcome_text y (outcome.State s) = joined (codes " " ∷ state_form y s ∷ [])
+outcome_text y (outcome.Command c) = joined (codes " " ∷ command_form y c ∷ [])
+outcome_text y (outcome.Kind k) = joined (codes " " ∷ kind_form y k ∷ [])
 
 -- what a line is answered: a refusal by its number alone
-abbrev pub reply_text : Style → Result Told Refusal → List ℕ
-reply_text y (Ok t) = joined (codes "(taken" ∷ told_text y t ∷ codes ")\n" ∷ [])
+abbrev pub reply_text : Style → Result Outcome Refusal → List ℕ
+reply_text y (Ok t) = joined (codes "(taken" ∷ outcome_text y t ∷ codes ")\n" ∷ [])
 reply_text y (Err r) = joined (codes "(refused " ∷ refusal_form y r ∷ codes ")\n" ∷ [])

@@ -3,7 +3,7 @@ ghost use Rattle.std.specs.Prelude.{Some};
 ghost use Rattle.forms.specs.Hex.{hex_form};
 ghost use Rattle.telling.specs.Answers.{entered_text, restored_text, nmt_text, error_taken_text};
 ghost use Rattle.telling.specs.Answers.{answer_text, weigh_answer_text, type_text, read_text};
-ghost use Rattle.telling.specs.Answers.{bitmap_text, told_text, reply_text, frame_text};
+ghost use Rattle.telling.specs.Answers.{bitmap_text, outcome_text, reply_text, frame_text};
 
 use crate::styles::{
     CodeForm, CommandForm, Errors, KindForm, Machine, RefusalForm, StateForm, Style,
@@ -26,7 +26,7 @@ use weigh::WeighAnswer;
 
 /// What a line tells that is taken.
 #[derive(Clone, Copy)]
-pub enum Told {
+pub enum Outcome {
     /// What a call on a weigh head answers.
     Answer(WeighAnswer),
     /// The watched nodes as bits.
@@ -56,7 +56,7 @@ impl Display for Bitmap {
 
 /// What a line is answered: what it tells, or its refusal.
 #[derive(Clone, Copy)]
-pub struct Reply(pub Result<Told, Refusal>);
+pub struct Reply(pub Result<Outcome, Refusal>);
 
 /// A reply as it is printed.
 #[derive(Clone, Copy)]
@@ -68,7 +68,7 @@ impl Display for ReplyForm {
     fn fmt<W: fmt::Write>(&self, f: &mut fmt::Formatter<W>) -> fmt::Result {
         let ReplyForm(style, Reply(answer)) = *self;
         match answer {
-            Ok(told) => writeln!(f, "(taken{})", ToldForm(style, told)),
+            Ok(outcome) => writeln!(f, "(taken{})", OutcomeForm(style, outcome)),
             Err(refusal) => writeln!(f, "(refused {})", RefusalForm(style, refusal)),
         }
     }
@@ -76,20 +76,20 @@ impl Display for ReplyForm {
 
 // What a line tells that is taken.
 #[derive(Clone, Copy)]
-struct ToldForm(Style, Told);
+struct OutcomeForm(Style, Outcome);
 
-impl Display for ToldForm {
-    ghost output = { λ x. Some (told_text x.0 x.1) };
+impl Display for OutcomeForm {
+    ghost output = { λ x. Some (outcome_text x.0 x.1) };
 
     fn fmt<W: fmt::Write>(&self, f: &mut fmt::Formatter<W>) -> fmt::Result {
-        let ToldForm(style, told) = *self;
-        match told {
-            Told::Answer(answer) => write!(f, "{}", WeighAnswerForm(style, answer)),
-            Told::Bitmap(bitmap) => write!(f, "{bitmap}"),
-            Told::Entry(entry) => write!(f, " (entry {})", EntryForm(style, entry)),
-            Told::State(state) => write!(f, " {}", StateForm(style, state)),
-            Told::Command(command) => write!(f, " {}", CommandForm(style, command)),
-            Told::Kind(kind) => write!(f, " {}", KindForm(style, kind)),
+        let OutcomeForm(style, outcome) = *self;
+        match outcome {
+            Outcome::Answer(answer) => write!(f, "{}", WeighAnswerForm(style, answer)),
+            Outcome::Bitmap(bitmap) => write!(f, "{bitmap}"),
+            Outcome::Entry(entry) => write!(f, " (entry {})", EntryForm(style, entry)),
+            Outcome::State(state) => write!(f, " {}", StateForm(style, state)),
+            Outcome::Command(command) => write!(f, " {}", CommandForm(style, command)),
+            Outcome::Kind(kind) => write!(f, " {}", KindForm(style, kind)),
         }
     }
 }
