@@ -28,8 +28,13 @@ fail() {
     exit 1
 }
 
-# The crates that crate lent stands on, it, and the moment of the next tick.
-crates="$(sed -n 's/^lent: //p' "$root/crates.txt") lent due"
+# What crate lent and the moment of the next tick stand on, lowest first, and they.
+below() {
+    awk -F': *' '/^[a-z]/ { uses[$1] = $2; order[++n] = $1 }
+        function take(name, i, list) { if (taken[name]++) return; split(uses[name], list, " "); for (i in list) take(list[i]) }
+        END { take("lent"); take("due"); for (i = 1; i <= n; i++) if (taken[order[i]]) print order[i] }' "$root/crates.txt"
+}
+crates=$(below | paste -sd ' ')
 
 # Copies their sources into the folder $1, with the driver above them.
 copy() {

@@ -55,9 +55,9 @@ fn is_unreadable(printed: &[String]) -> bool {
     printed.iter().any(|line| line.starts_with("(unreadable"))
 }
 
-/// Whether the answer is that of a reset whose ranges have the objects of the kept values.
+/// Whether the answer is that of a reset, by an event or in a frame, whose ranges have the objects of the kept values.
 fn restores_kept(answer: &str) -> bool {
-    answer.starts_with("(taken (entered") && answer.contains(&forms::range(0x1000, 0x1FFF))
+    answer.contains("(entered ") && answer.contains(&forms::range(0x1000, 0x1FFF))
 }
 
 /// Gives a counter of the original at threshold 0 errors up to the 32-bit top, which no script reaches, and asserts that its level
