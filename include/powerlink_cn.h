@@ -678,10 +678,27 @@ uint32_t plcn_frame(struct plcn_head *head, struct plcn_queue *queue, struct plc
                     uint64_t time_us, const uint8_t *bytes, uint64_t length,
                     struct plcn_frame_answer *answer);
 
-/* ---- The watched nodes as a run of any length ---- */
+/* ---- The watched nodes as places of any length ---- */
 
-/* These make the call of the same name over places of the caller's, of which the first *number are
-   watched. PLCN_REFUSED_WATCHED_NODES also refuses a run that has not PLCN_WATCHED_PLACES places. */
+/* Each function .._over makes the call of its name over length places of the caller's, of which the
+   first number are watched. PLCN_REFUSED_WATCHED_NODES also refuses a length that is not
+   PLCN_WATCHED_PLACES; the order of the refusals is the same. */
+
+uint32_t plcn_start_over(struct plcn_head *head, struct plcn_watched *places, uint64_t length,
+                         uint64_t number, const struct plcn_setup *setup);
+uint32_t plcn_heard_over(struct plcn_head *head, struct plcn_watched *places, uint64_t length,
+                         uint64_t number, uint8_t node, uint64_t time_us);
+uint32_t plcn_tick_over(struct plcn_head *head, struct plcn_queue *queue,
+                        struct plcn_history *history, struct plcn_watched *places, uint64_t length,
+                        uint64_t number, uint64_t time_us, struct plcn_errors *logged);
+uint32_t plcn_add_over(struct plcn_head *head, struct plcn_watched *places, uint64_t length,
+                       uint64_t *number, uint8_t node, uint64_t timeout_us);
+uint32_t plcn_remove_over(struct plcn_head *head, struct plcn_watched *places, uint64_t length,
+                          uint64_t *number, uint8_t node);
+uint32_t plcn_next_due_over(const struct plcn_head *head, const struct plcn_watched *places,
+                            uint64_t length, uint64_t number, struct plcn_due_answer *answer);
+uint32_t plcn_bitmap_over(const struct plcn_watched *places, uint64_t length, uint64_t number,
+                          struct plcn_bitmap *answer);
 
 /* ---- A weigh head ---- */
 
