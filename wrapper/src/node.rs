@@ -267,6 +267,7 @@ impl Node {
 
     /// The oldest entry leaves the emergency queue (DS 301, 6.5; rule 9.4); none where it is empty.
     /// Never refused.
+    #[must_use = "the entry has left the queue"]
     pub fn hand_out(&mut self) -> Option<Entry> {
         let mut answer = raw::HandedOut::default();
         never_refused(raw::plcn_hand_out(

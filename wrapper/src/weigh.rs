@@ -272,6 +272,7 @@ impl WeighHead {
     }
 
     /// As [`Node::hand_out`](crate::Node::hand_out). Never refused.
+    #[must_use = "the entry has left the queue"]
     pub fn hand_out(&mut self) -> Option<Entry> {
         let mut answer = raw::HandedOut::default();
         let Self { weigh, memory } = self;
