@@ -65,7 +65,9 @@ pub struct Entry {
 impl Entry {
     /// Writes its 20 bytes (rule 9.3) at a place of a buffer; all other bytes stay.
     ///
-    /// Refusals, in order:
+    /// # Errors
+    ///
+    /// Refused, in this order:
     /// - [`Refusal::BufferTooShort`]: fewer than 20 bytes are left from the place on, or the place
     ///   is past the end
     /// - [`Refusal::ProfileLimit`]: the profile is above 4095
@@ -78,7 +80,9 @@ impl Entry {
     /// Reads the entry in the 20 bytes from a place of a buffer on (rule 9.6). Any 20 bytes are
     /// one.
     ///
-    /// Refusals, in order:
+    /// # Errors
+    ///
+    /// Refused, in this order:
     /// - [`Refusal::BufferTooShort`]: fewer than 20 bytes are left from the place on, or the place
     ///   is past the end
     pub fn read(buffer: &[u8], place: usize) -> Result<Self, Refusal> {
@@ -91,7 +95,9 @@ impl Entry {
 
     /// Its 20 bytes (rule 9.3).
     ///
-    /// Refusals, in order:
+    /// # Errors
+    ///
+    /// Refused, in this order:
     /// - [`Refusal::ProfileLimit`]: the profile is above 4095
     pub fn to_bytes(&self) -> Result<[u8; ENTRY_BYTES], Refusal> {
         let mut bytes = [0; ENTRY_BYTES];

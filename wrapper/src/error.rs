@@ -95,7 +95,9 @@ impl DllErrorKind {
 
     /// The kind behind the code of an entry (rule 6.7), which is not cut to 16 bits.
     ///
-    /// Refusals, in order:
+    /// # Errors
+    ///
+    /// Refused, in this order:
     /// - [`Refusal::NoSingleKind`]: no kind has the code, or more than one
     pub fn from_code(code: u64) -> Result<Self, Refusal> {
         let mut kind = 0;
@@ -109,7 +111,9 @@ impl TryFrom<u64> for DllErrorKind {
 
     /// The kind of a number.
     ///
-    /// Refusals, in order:
+    /// # Errors
+    ///
+    /// Refused, in this order:
     /// - [`Refusal::UnknownNumber`]: no kind has the number
     fn try_from(number: u64) -> Result<Self, Refusal> {
         Self::from_number(number).ok_or(Refusal::UnknownNumber)

@@ -55,7 +55,9 @@ pub enum Message {
 impl Frame {
     /// Reads the bytes of an Ethernet frame, from its destination's address on.
     ///
-    /// Refusals, in order:
+    /// # Errors
+    ///
+    /// Refused, in this order:
     /// - [`Refusal::FrameTooShort`]: fewer than 17 bytes
     /// - [`Refusal::OtherEtherType`]: the EtherType is not 0x88AB
     /// - [`Refusal::OtherMessageType`]: the message type is none of SoC, PReq, PRes, SoA and ASnd

@@ -32,7 +32,11 @@
 //! ```
 #![no_std]
 #![deny(missing_docs, unsafe_op_in_unsafe_fn, missing_debug_implementations)]
-#![warn(clippy::undocumented_unsafe_blocks, clippy::missing_safety_doc)]
+#![warn(
+    clippy::undocumented_unsafe_blocks,
+    clippy::missing_safety_doc,
+    clippy::missing_errors_doc
+)]
 
 #[macro_use]
 mod numbered;

@@ -49,13 +49,17 @@ impl Node {
     /// an empty history (rule 1.9). It watches the nodes that are given, ascending by number, each
     /// with its timeout in µs; each counts as never heard.
     ///
-    /// Refusals, in order:
+    /// # Errors
+    ///
+    /// Refused, in this order:
     /// - [`Refusal::NodeNumber`]: `setup.node` is not 1 to 240, 253, 254 or 255
     /// - [`Refusal::QueueCapacity`]: `setup.queue_capacity` is above 32
     /// - [`Refusal::WatchedNodes`]: more than 32 nodes are watched, or they are not strictly
     ///   ascending by number, or one has a number outside the first refusal's or a time above
     ///   [`LATEST_TIME`](crate::LATEST_TIME)
     /// - [`Refusal::ThresholdLimit`]: a threshold is above 1,000,000
+    ///
+    /// # Examples
     ///
     /// ```
     /// use powerlink_cn::{Node, Refusal, Setup, Watched};
@@ -78,7 +82,9 @@ impl Node {
 
     /// Starts the node again, in place, with the run of watched nodes that it has.
     ///
-    /// Refusals, in order: those of [`Node::start`]. On a refusal the node goes on as it was.
+    /// # Errors
+    ///
+    /// Those of [`Node::start`], in their order. On a refusal the node goes on as it was.
     pub fn restart(&mut self, setup: &Setup) -> Result<(), Refusal> {
         taken(raw::plcn_start(
             &mut self.head.0,
@@ -151,7 +157,9 @@ impl Node {
 
     /// [`Node::nmt_event`] of an event's number, which is not cut to 8 bits.
     ///
-    /// Refusals, in order:
+    /// # Errors
+    ///
+    /// Refused, in this order:
     /// - [`Refusal::UnknownNumber`]: the number is above 18
     pub fn nmt_event_number(&mut self, event: u64) -> Result<NmtAnswer, Refusal> {
         let mut answer = raw::NmtAnswer::default();
@@ -177,7 +185,9 @@ impl Node {
 
     /// [`Node::dll_event`] of an event's number, which is not cut to 8 bits.
     ///
-    /// Refusals, in order:
+    /// # Errors
+    ///
+    /// Refused, in this order:
     /// - [`Refusal::UnknownNumber`]: the number is above 5
     pub fn dll_event_number(&mut self, event: u64, expect_preq: bool) -> Result<Errors, Refusal> {
         let mut errors = raw::Errors::default();
@@ -194,8 +204,12 @@ impl Node {
     /// Gives an error to the counters (DS 301, 4.7.4.1; rule 6). The action is asked for and not
     /// carried out.
     ///
-    /// Refusals, in order:
+    /// # Errors
+    ///
+    /// Refused, in this order:
     /// - [`Refusal::NodeNumber`]: the node that the error carries is not 1 to 240, 253, 254 or 255
+    ///
+    /// # Examples
     ///
     /// ```
     /// use powerlink_cn::{DllError, NmtAction, Node, Refusal, Setup};
@@ -219,7 +233,9 @@ impl Node {
     /// kind that carries one; `a` and `b` are the state and the event of kind 18; what a kind does
     /// not carry is not looked at.
     ///
-    /// Refusals, in order:
+    /// # Errors
+    ///
+    /// Refused, in this order:
     /// - [`Refusal::UnknownNumber`]: the kind is above 21
     /// - [`Refusal::NodeNumber`]: `a` is to be a node and is not 1 to 240, 253, 254 or 255
     pub fn handle_error_number(&mut self, kind: u64, a: u8, b: u8) -> Result<ErrorAnswer, Refusal> {
@@ -244,7 +260,9 @@ impl Node {
 
     /// The application is not ready any more: its ready word is withdrawn (our rule 4.3).
     ///
-    /// Refusals, in order:
+    /// # Errors
+    ///
+    /// Refused, in this order:
     /// - [`Refusal::ReadyToOperate`]: the node is at ReadyToOperate
     pub fn withdraw(&mut self) -> Result<(), Refusal> {
         taken(raw::plcn_withdraw(&mut self.head.0))
@@ -252,7 +270,9 @@ impl Node {
 
     /// A watched node was heard at a time, in µs (DS 301, 7.3.5; rule 8.5).
     ///
-    /// Refusals, in order:
+    /// # Errors
+    ///
+    /// Refused, in this order:
     /// - [`Refusal::WatchedNodes`]: the run is not well formed
     /// - [`Refusal::TimeLimit`]: the time is above [`LATEST_TIME`](crate::LATEST_TIME)
     /// - [`Refusal::NotWatched`]: the node is not watched
@@ -290,7 +310,9 @@ impl Node {
     /// An SoC was received at a time, in µs (DS 301, 4.7.7.3.1; rule 3): with a cycle above 0 the
     /// SoC check goes on with a deadline, with cycle 0 it goes off. [`Node::frame`] arms by itself.
     ///
-    /// Refusals, in order:
+    /// # Errors
+    ///
+    /// Refused, in this order:
     /// - [`Refusal::TimeLimit`]: the time is above [`LATEST_TIME`](crate::LATEST_TIME)
     pub fn arm(&mut self, time_us: u64) -> Result<(), Refusal> {
         taken(raw::plcn_arm(&mut self.head.0, time_us))
@@ -299,11 +321,15 @@ impl Node {
     /// A tick at a time, in µs: late watched nodes, a lost SoC and the basic timeout are looked for
     /// (DS 301, 4.7.7.3.1 and 7.3.5; rule 7). What is logged.
     ///
-    /// Refusals, in order:
+    /// # Errors
+    ///
+    /// Refused, in this order:
     /// - [`Refusal::WatchedNodes`]: the run is not well formed
     /// - [`Refusal::TimeLimit`]: the time is above [`LATEST_TIME`](crate::LATEST_TIME)
     /// - [`Refusal::BeforeHeard`]: in a state that checks heartbeats: a watched node was heard
     ///   later
+    ///
+    /// # Examples
     ///
     /// ```
     /// use powerlink_cn::{NmtEvent, NmtState, Node, Refusal, Setup};
@@ -341,7 +367,9 @@ impl Node {
     /// Whether the SoC is lost between two readings of a clock, in µs, both included (our rule
     /// 7.10).
     ///
-    /// Refusals, in order:
+    /// # Errors
+    ///
+    /// Refused, in this order:
     /// - [`Refusal::TimeLimit`]: a reading is above [`LATEST_TIME`](crate::LATEST_TIME)
     /// - [`Refusal::EarliestAfterLatest`]: `earliest_us` is after `latest_us`
     pub fn range(&self, earliest_us: u64, latest_us: u64) -> Result<SocVerdict, Refusal> {
@@ -358,7 +386,9 @@ impl Node {
     /// What is left of the limit of the SoC check at a reading of a clock, both in µs; below 0 the
     /// SoC is lost (our rule 7.10).
     ///
-    /// Refusals, in order:
+    /// # Errors
+    ///
+    /// Refused, in this order:
     /// - [`Refusal::TimeLimit`]: the reading is above [`LATEST_TIME`](crate::LATEST_TIME)
     pub fn margin(&self, time_us: u64) -> Result<i64, Refusal> {
         let mut answer = raw::MarginAnswer::default();
@@ -369,7 +399,9 @@ impl Node {
     /// Watches a node from now on, never heard yet, with its timeout in µs; 0: it is never late
     /// (our rule 8.4). The places behind the watched nodes are cleared.
     ///
-    /// Refusals, in order:
+    /// # Errors
+    ///
+    /// Refused, in this order:
     /// - [`Refusal::NodeNumber`]: the node is not 1 to 240, 253, 254 or 255
     /// - [`Refusal::WatchedNodes`]: the run is not well formed, or the timeout is above
     ///   [`LATEST_TIME`](crate::LATEST_TIME)
@@ -386,7 +418,9 @@ impl Node {
 
     /// Watches a node no more (our rule 8.4). The places behind the watched nodes are cleared.
     ///
-    /// Refusals, in order:
+    /// # Errors
+    ///
+    /// Refused, in this order:
     /// - [`Refusal::WatchedNodes`]: the run is not well formed
     /// - [`Refusal::NotWatched`]: the node is not watched
     pub fn remove(&mut self, node: u8) -> Result<(), Refusal> {
@@ -396,7 +430,9 @@ impl Node {
     /// When the next tick is due, in µs; 0: at once; none where no tick finds anything to do (our
     /// rule 7.13). A tick that is taken before then finds nothing to do.
     ///
-    /// Refusals, in order:
+    /// # Errors
+    ///
+    /// Refused, in this order:
     /// - [`Refusal::WatchedNodes`]: the run is not well formed
     pub fn next_due(&self) -> Result<Option<u64>, Refusal> {
         let mut answer = raw::DueAnswer::default();
@@ -407,13 +443,17 @@ impl Node {
     /// A frame arrived at a time, in µs: the bytes of an Ethernet frame, from its destination's
     /// address on (rule 13). Its DLL event, its NMT event and the arming of an SoC come of it.
     ///
-    /// Refusals, in order:
+    /// # Errors
+    ///
+    /// Refused, in this order:
     /// - [`Refusal::FrameTooShort`]: fewer than 17 bytes
     /// - [`Refusal::OtherEtherType`]: the EtherType is not 0x88AB
     /// - [`Refusal::OtherMessageType`]: the message type is none of SoC, PReq, PRes, SoA and ASnd
     /// - [`Refusal::FrameTooShort`]: an ASnd ends before its service or its command
     /// - [`Refusal::UnknownNumber`]: service 4 has no state command
     /// - [`Refusal::TimeLimit`]: the time is above [`LATEST_TIME`](crate::LATEST_TIME)
+    ///
+    /// # Examples
     ///
     /// ```
     /// use powerlink_cn::{FrameAnswer, NmtEvent, NmtState, Node, Refusal, Setup};
@@ -456,7 +496,9 @@ impl Node {
 
     /// The watched nodes as bits (rule 8.7).
     ///
-    /// Refusals, in order:
+    /// # Errors
+    ///
+    /// Refused, in this order:
     /// - [`Refusal::WatchedNodes`]: the run is not well formed
     pub fn bitmap(&self) -> Result<Bitmap, Refusal> {
         self.run.bitmap()

@@ -47,7 +47,9 @@ impl TryFrom<u64> for NmtState {
 
     /// The state of a number (rule 4.8).
     ///
-    /// Refusals, in order:
+    /// # Errors
+    ///
+    /// Refused, in this order:
     /// - [`Refusal::UnknownNumber`]: no state has the number
     fn try_from(number: u64) -> Result<Self, Refusal> {
         let mut state = 0;
@@ -105,7 +107,9 @@ impl TryFrom<u64> for NmtEvent {
 
     /// The event of a number.
     ///
-    /// Refusals, in order:
+    /// # Errors
+    ///
+    /// Refused, in this order:
     /// - [`Refusal::UnknownNumber`]: no event has the number
     fn try_from(number: u64) -> Result<Self, Refusal> {
         Self::from_number(number).ok_or(Refusal::UnknownNumber)
@@ -164,7 +168,9 @@ impl TryFrom<u64> for Command {
 
     /// The state command of a number (rule 4.8).
     ///
-    /// Refusals, in order:
+    /// # Errors
+    ///
+    /// Refused, in this order:
     /// - [`Refusal::UnknownNumber`]: no state command has the number
     fn try_from(number: u64) -> Result<Self, Refusal> {
         let mut command = 0;
@@ -196,7 +202,9 @@ impl TryFrom<u64> for DllEvent {
 
     /// The event of a number.
     ///
-    /// Refusals, in order:
+    /// # Errors
+    ///
+    /// Refused, in this order:
     /// - [`Refusal::UnknownNumber`]: no event has the number
     fn try_from(number: u64) -> Result<Self, Refusal> {
         Self::from_number(number).ok_or(Refusal::UnknownNumber)

@@ -38,7 +38,9 @@ impl Run {
 
     /// The watched nodes as bits (rule 8.7).
     ///
-    /// Refusals, in order:
+    /// # Errors
+    ///
+    /// Refused, in this order:
     /// - [`Refusal::WatchedNodes`]: the run is not well formed (rule 8.2)
     pub fn bitmap(&self) -> Result<Bitmap, Refusal> {
         let mut bitmap = raw::Bitmap::default();

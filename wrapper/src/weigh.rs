@@ -51,7 +51,9 @@ pub struct WeighHead {
 impl WeighHead {
     /// Starts a weigh head: a fresh node, as by [`Node::start`](crate::Node::start), and no recipe.
     ///
-    /// Refusals, in order:
+    /// # Errors
+    ///
+    /// Refused, in this order:
     /// - [`Refusal::NodeNumber`]: `setup.node` is not 1 to 240, 253, 254 or 255
     /// - [`Refusal::QueueCapacity`]: `setup.queue_capacity` is above 32
     /// - [`Refusal::WatchedNodes`]: more than 32 nodes are watched, or they are not strictly
@@ -73,7 +75,9 @@ impl WeighHead {
 
     /// Starts the weigh head again, in place, with the run of watched nodes that it has.
     ///
-    /// Refusals, in order: those of [`WeighHead::start`]. On a refusal it goes on as it was.
+    /// # Errors
+    ///
+    /// Those of [`WeighHead::start`], in their order. On a refusal it goes on as it was.
     pub fn restart(&mut self, setup: &Setup) -> Result<(), Refusal> {
         taken(raw::plcn_weigh_start(
             &mut self.weigh,
@@ -85,7 +89,9 @@ impl WeighHead {
     /// Loads a recipe and gives the node its ready word (rule 12.3): the components fill the places
     /// in their order, and the places behind them are empty.
     ///
-    /// Refusals, in order:
+    /// # Errors
+    ///
+    /// Refused, in this order:
     /// - [`Refusal::RecipeLimits`]: not 1 to 16 components, a bin that is not 1 to 64 or stands
     ///   twice, or grams that are not 1 to 30,000
     /// - [`Refusal::NotPreOperational2`]: the node is not at PreOperational2
@@ -98,7 +104,9 @@ impl WeighHead {
 
     /// The weight for a place, from 0 on, in grams (rule 12.4).
     ///
-    /// Refusals, in order:
+    /// # Errors
+    ///
+    /// Refused, in this order:
     /// - [`Refusal::NoWeight`]: the node is not at Operational, or the recipe last loaded since the
     ///   last reset has no such place
     pub fn weight(&self, place: usize) -> Result<u16, Refusal> {
@@ -166,7 +174,9 @@ impl WeighHead {
 
     /// As [`Node::nmt_event_number`](crate::Node::nmt_event_number); a reset empties all places.
     ///
-    /// Refusals, in order:
+    /// # Errors
+    ///
+    /// Refused, in this order:
     /// - [`Refusal::UnknownNumber`]: the number is above 18
     pub fn nmt_event_number(&mut self, event: u64) -> Result<NmtAnswer, Refusal> {
         let mut answer = raw::NmtAnswer::default();
@@ -196,7 +206,9 @@ impl WeighHead {
 
     /// As [`Node::dll_event_number`](crate::Node::dll_event_number).
     ///
-    /// Refusals, in order:
+    /// # Errors
+    ///
+    /// Refused, in this order:
     /// - [`Refusal::UnknownNumber`]: the number is above 5
     pub fn dll_event_number(&mut self, event: u64, expect_preq: bool) -> Result<Errors, Refusal> {
         let mut errors = raw::Errors::default();
@@ -214,7 +226,9 @@ impl WeighHead {
 
     /// As [`Node::handle_error`](crate::Node::handle_error).
     ///
-    /// Refusals, in order:
+    /// # Errors
+    ///
+    /// Refused, in this order:
     /// - [`Refusal::NodeNumber`]: the node that the error carries is not 1 to 240, 253, 254 or 255
     pub fn handle_error(&mut self, error: DllError) -> Result<ErrorAnswer, Refusal> {
         let (a, b) = error.carried();
@@ -223,7 +237,9 @@ impl WeighHead {
 
     /// As [`Node::handle_error_number`](crate::Node::handle_error_number).
     ///
-    /// Refusals, in order:
+    /// # Errors
+    ///
+    /// Refused, in this order:
     /// - [`Refusal::UnknownNumber`]: the kind is above 21
     /// - [`Refusal::NodeNumber`]: `a` is to be a node and is not 1 to 240, 253, 254 or 255
     pub fn handle_error_number(&mut self, kind: u64, a: u8, b: u8) -> Result<ErrorAnswer, Refusal> {
@@ -250,7 +266,9 @@ impl WeighHead {
 
     /// As [`Node::withdraw`](crate::Node::withdraw).
     ///
-    /// Refusals, in order:
+    /// # Errors
+    ///
+    /// Refused, in this order:
     /// - [`Refusal::ReadyToOperate`]: the node is at ReadyToOperate
     pub fn withdraw(&mut self) -> Result<(), Refusal> {
         taken(raw::plcn_weigh_withdraw(&mut self.weigh, &mut self.memory))
@@ -258,7 +276,9 @@ impl WeighHead {
 
     /// As [`Node::heard`](crate::Node::heard); the time is in µs.
     ///
-    /// Refusals, in order:
+    /// # Errors
+    ///
+    /// Refused, in this order:
     /// - [`Refusal::WatchedNodes`]: the run is not well formed
     /// - [`Refusal::TimeLimit`]: the time is above [`LATEST_TIME`](crate::LATEST_TIME)
     /// - [`Refusal::NotWatched`]: the node is not watched
@@ -293,7 +313,9 @@ impl WeighHead {
 
     /// As [`Node::arm`](crate::Node::arm); the time is in µs.
     ///
-    /// Refusals, in order:
+    /// # Errors
+    ///
+    /// Refused, in this order:
     /// - [`Refusal::TimeLimit`]: the time is above [`LATEST_TIME`](crate::LATEST_TIME)
     pub fn arm(&mut self, time_us: u64) -> Result<(), Refusal> {
         taken(raw::plcn_weigh_arm(
@@ -305,7 +327,9 @@ impl WeighHead {
 
     /// As [`Node::tick`](crate::Node::tick); the time is in µs.
     ///
-    /// Refusals, in order:
+    /// # Errors
+    ///
+    /// Refused, in this order:
     /// - [`Refusal::WatchedNodes`]: the run is not well formed
     /// - [`Refusal::TimeLimit`]: the time is above [`LATEST_TIME`](crate::LATEST_TIME)
     /// - [`Refusal::BeforeHeard`]: in a state that checks heartbeats: a watched node was heard
@@ -323,7 +347,9 @@ impl WeighHead {
 
     /// As [`Node::range`](crate::Node::range); the readings are in µs.
     ///
-    /// Refusals, in order:
+    /// # Errors
+    ///
+    /// Refused, in this order:
     /// - [`Refusal::TimeLimit`]: a reading is above [`LATEST_TIME`](crate::LATEST_TIME)
     /// - [`Refusal::EarliestAfterLatest`]: `earliest_us` is after `latest_us`
     pub fn range(&self, earliest_us: u64, latest_us: u64) -> Result<SocVerdict, Refusal> {
@@ -339,7 +365,9 @@ impl WeighHead {
 
     /// As [`Node::margin`](crate::Node::margin), in µs.
     ///
-    /// Refusals, in order:
+    /// # Errors
+    ///
+    /// Refused, in this order:
     /// - [`Refusal::TimeLimit`]: the reading is above [`LATEST_TIME`](crate::LATEST_TIME)
     pub fn margin(&self, time_us: u64) -> Result<i64, Refusal> {
         let mut answer = raw::MarginAnswer::default();
@@ -349,7 +377,9 @@ impl WeighHead {
 
     /// As [`Node::add`](crate::Node::add); the timeout is in µs.
     ///
-    /// Refusals, in order:
+    /// # Errors
+    ///
+    /// Refused, in this order:
     /// - [`Refusal::NodeNumber`]: the node is not 1 to 240, 253, 254 or 255
     /// - [`Refusal::WatchedNodes`]: the run is not well formed, or the timeout is above
     ///   [`LATEST_TIME`](crate::LATEST_TIME)
@@ -366,7 +396,9 @@ impl WeighHead {
 
     /// As [`Node::remove`](crate::Node::remove).
     ///
-    /// Refusals, in order:
+    /// # Errors
+    ///
+    /// Refused, in this order:
     /// - [`Refusal::WatchedNodes`]: the run is not well formed
     /// - [`Refusal::NotWatched`]: the node is not watched
     pub fn remove(&mut self, node: u8) -> Result<(), Refusal> {
@@ -379,7 +411,9 @@ impl WeighHead {
 
     /// As [`Node::next_due`](crate::Node::next_due), in µs.
     ///
-    /// Refusals, in order:
+    /// # Errors
+    ///
+    /// Refused, in this order:
     /// - [`Refusal::WatchedNodes`]: the run is not well formed
     pub fn next_due(&self) -> Result<Option<u64>, Refusal> {
         let mut answer = raw::DueAnswer::default();
@@ -394,7 +428,9 @@ impl WeighHead {
     /// As [`Node::frame`](crate::Node::frame); the time is in µs. A reset by a command empties all
     /// places.
     ///
-    /// Refusals, in order:
+    /// # Errors
+    ///
+    /// Refused, in this order:
     /// - [`Refusal::FrameTooShort`]: fewer than 17 bytes
     /// - [`Refusal::OtherEtherType`]: the EtherType is not 0x88AB
     /// - [`Refusal::OtherMessageType`]: the message type is none of SoC, PReq, PRes, SoA and ASnd
@@ -412,7 +448,9 @@ impl WeighHead {
 
     /// As [`Node::bitmap`](crate::Node::bitmap).
     ///
-    /// Refusals, in order:
+    /// # Errors
+    ///
+    /// Refused, in this order:
     /// - [`Refusal::WatchedNodes`]: the run is not well formed
     pub fn bitmap(&self) -> Result<Bitmap, Refusal> {
         self.memory.run.bitmap()
