@@ -317,7 +317,7 @@ impl fmt::Display for DllError {
 /// # Ok(())
 /// # }
 /// ```
-#[derive(Debug, Clone, Copy, PartialEq, Eq)]
+#[derive(Clone, Copy, PartialEq, Eq)]
 pub struct Errors {
     error: [DllError; 2],
     count: usize,
@@ -327,6 +327,13 @@ impl Errors {
     /// They as a slice.
     pub fn as_slice(&self) -> &[DllError] {
         self.error.get(..self.count).unwrap_or(&self.error)
+    }
+}
+
+/// As a list.
+impl fmt::Debug for Errors {
+    fn fmt(&self, f: &mut fmt::Formatter<'_>) -> fmt::Result {
+        self.as_slice().fmt(f)
     }
 }
 
