@@ -67,13 +67,12 @@ fn the_stored_scripts_print_what_is_stored() {
     }
 }
 
-/// That the test above can fail: one number of a script changed.
+/// That the test above can fail: the script's heads with another number.
 #[test]
 fn another_script_prints_something_else() {
-    let script = fs::read(scripts().join("rules.txt")).expect("it can be read");
-    let script = String::from_utf8(script).expect("it is text");
+    let script = fs::read_to_string(scripts().join("rules.txt")).expect("it can be read");
     let stored = fs::read_to_string(scripts().join("rules.out")).expect("it can be read");
-    let changed = script.replacen("start 7 ", "start 8 ", 1);
-    assert_ne!(changed, script);
-    assert_ne!(played(changed.as_bytes()), stored);
+    let printed = played(script.replace("start 7 ", "start 8 ").as_bytes());
+    assert!(printed != stored);
+    assert_eq!(printed.replace("(node 8)", "(node 7)"), stored);
 }
