@@ -355,7 +355,14 @@ impl<'a> IntoIterator for &'a Errors {
 }
 
 impl From<raw::Errors> for Errors {
+    /// Of none, which most calls report, nothing is read.
     fn from(errors: raw::Errors) -> Self {
+        if errors.count == 0 {
+            return Self {
+                error: [DllError::LossOfLink; 2],
+                count: 0,
+            };
+        }
         Self {
             error: errors.error.map(DllError::from),
             count: errors.count.into(),

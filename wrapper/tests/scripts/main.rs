@@ -1,10 +1,12 @@
 //! The stored call scripts of the repository (docs/CALLS.md), played through the wrapper: each line
-//! on a node and on a weigh head, and what is printed compared with what is stored, byte for byte.
+//! on a node and on a weigh head, and what is lent a run also over places of the caller's. What is
+//! printed is compared with what is stored, byte for byte.
 //!
 //! A script is read by the reader of the comparison, which reads numbers alone.
 
 mod forms;
 mod kinds;
+mod over;
 mod run;
 #[allow(dead_code)]
 #[path = "../../../compare/oracle/src/script.rs"]

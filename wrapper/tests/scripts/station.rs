@@ -2,11 +2,12 @@
 //! both, and both have to answer the same and to be left the same.
 
 use crate::forms;
+use crate::over::Over;
 use crate::run::Lent;
 use crate::script::{self, Call, EntryWrite, Line, Load, Start};
 use powerlink_cn::{
     Command, Component, DllErrorKind, DllEvent, Entry, EntryMode, NmtEvent, NmtState, Node,
-    Refusal, Setup, Thresholds, Update, WeighHead, raw,
+    Refusal, Setup, Thresholds, Update, WeighHead,
 };
 
 /// What a call answers: a line, or the number of a refusal.
@@ -94,7 +95,11 @@ impl Station {
             *self.weigh.run_mut() = run;
         }
         let before = (self.node.clone(), self.weigh.clone(), self.desk.clone());
-        let answer = self.call(call);
+        let over = Over::made(self.node.head(), &self.lent, &call);
+        let answer = match &over {
+            Some(over) if self.lent.as_run().is_none() => Err(refusal(over.refused)),
+            _ => self.call(call),
+        };
         if answer.is_err() {
             let after = (self.node.clone(), self.weigh.clone(), self.desk.clone());
             assert!(
@@ -103,52 +108,42 @@ impl Station {
                 self.line
             );
         }
+        self.check_both_alike();
+        if self.lent.as_run().is_some() {
+            self.lent.become_run(self.node.run());
+        }
+        if let Some(over) = over {
+            self.check_over(&over, &answer);
+        }
+        answer
+    }
+
+    fn check_both_alike(&self) {
         let (node, weigh) = (&self.node, &self.weigh);
         assert_eq!(*node.head(), weigh.head(), "line {}", self.line);
         assert_eq!(node.run(), weigh.run(), "line {}", self.line);
         assert!(node.queue().eq(weigh.queue()), "line {}", self.line);
         assert!(node.history().eq(weigh.history()), "line {}", self.line);
-        if self.lent.as_run().is_some() {
-            self.lent.become_run(self.node.run());
-        }
-        answer
+    }
+
+    /// The call over places of the caller's answered the same, and left the same words and places.
+    fn check_over(&self, over: &Over, answer: &Answer) {
+        let refused = answer
+            .as_ref()
+            .map_or_else(|refusal| refusal.number(), |_| 0);
+        assert_eq!(over.refused, refused, "line {}", self.line);
+        assert_eq!(over.head, *self.node.head().raw(), "line {}", self.line);
+        assert_eq!(over.places, self.lent.places(), "line {}", self.line);
+        assert_eq!(over.number, self.lent.number(), "line {}", self.line);
     }
 
     fn call(&mut self, call: Call) -> Answer {
-        if self.lent.as_run().is_none() {
-            if let Some(number) = self.over_other_places(&call) {
-                assert_ne!(
-                    number, 0,
-                    "line {}: a run of other places is refused",
-                    self.line
-                );
-                let all = Refusal::ALL
-                    .iter()
-                    .find(|refusal| refusal.number() == number);
-                return Err(*all.expect("it is a refusal"));
-            }
-        }
-        let taken = || forms::taken([]);
         match call {
-            Call::Start(start) => self.start(&start).map(|()| taken()),
             Call::Nmt(event) => self.nmt(event),
             Call::Dll { event, expected } => self.dll(event, expected),
             Call::Error { kind, a, b } => self.error(kind, a as u8, b as u8),
             Call::Cycle => Ok(self.cycle()),
-            Call::Tick(time) => both!(self, head => head.tick(time))
-                .map(|errors| forms::taken([forms::logged(&errors)])),
             Call::Withdraw => both!(self, head => head.withdraw()).map(|()| taken()),
-            Call::Heard { node, time } => {
-                both!(self, head => head.heard(node, time)).map(|()| taken())
-            }
-            Call::Add { node, timeout } => {
-                both!(self, head => head.add(node, timeout)).map(|()| taken())
-            }
-            Call::Remove(node) => both!(self, head => head.remove(node)).map(|()| taken()),
-            Call::Bitmap => both!(self, head => head.bitmap()).map(|bitmap| forms::bitmap(&bitmap)),
-            Call::Due => {
-                both!(self, head => head.next_due()).map(|due| forms::taken([forms::or_none(due)]))
-            }
             Call::HandOut => Ok(forms::handed_out(both!(self, head => head.hand_out()))),
             Call::Arm(time) => both!(self, head => head.arm(time)).map(|()| taken()),
             Call::Frame { time, bytes } => {
@@ -165,56 +160,28 @@ impl Station {
             Call::State(_) | Call::Command(_) | Call::EntryRead(_) | Call::Kind(_) => {
                 reading(&call)
             }
+            call => self.call_with_the_run(&call),
         }
     }
 
-    /// A call that is lent the run, over places of another number than 32: what the library
-    /// answers. None of a call that is not.
-    fn over_other_places(&self, call: &Call) -> Option<u32> {
-        let mut places = self.lent.places().to_vec();
-        let (at, length) = (places.as_mut_ptr(), places.len() as u64);
-        let mut number = self.lent.number();
-        let mut head = *self.node.head().raw();
-        let (mut queue, mut history) = (raw::Queue::default(), raw::History::default());
-        let (mut logged, mut due) = (raw::Errors::default(), raw::DueAnswer::default());
-        // SAFETY: pointer and length are those of one vector, which nothing else refers to.
-        let answer = unsafe {
-            match *call {
-                Call::Start(ref start) => {
-                    let setup = (&setup(start)).into();
-                    raw::plcn_start_over(&mut head, at, length, number, &setup)
-                }
-                Call::Tick(time) => {
-                    let (queue, history) = (&mut queue, &mut history);
-                    let logged = &mut logged;
-                    raw::plcn_tick_over(&mut head, queue, history, at, length, number, time, logged)
-                }
-                Call::Heard { node, time } => {
-                    raw::plcn_heard_over(&mut head, at, length, number, node, time)
-                }
-                Call::Add { node, timeout } => {
-                    raw::plcn_add_over(&mut head, at, length, &mut number, node, timeout)
-                }
-                Call::Remove(node) => {
-                    raw::plcn_remove_over(&mut head, at, length, &mut number, node)
-                }
-                Call::Due => raw::plcn_next_due_over(&head, at, length, number, &mut due),
-                Call::Bitmap => {
-                    raw::plcn_bitmap_over(at, length, number, &mut raw::Bitmap::default())
-                }
-                _ => return None,
+    fn call_with_the_run(&mut self, call: &Call) -> Answer {
+        match *call {
+            Call::Start(ref start) => self.start(start).map(|()| taken()),
+            Call::Tick(time) => both!(self, head => head.tick(time))
+                .map(|errors| forms::taken([forms::logged(&errors)])),
+            Call::Heard { node, time } => {
+                both!(self, head => head.heard(node, time)).map(|()| taken())
             }
-        };
-        assert_eq!(
-            head,
-            *self.node.head().raw(),
-            "a refused call changes no word"
-        );
-        assert_eq!(
-            (&places[..], number),
-            (self.lent.places(), self.lent.number())
-        );
-        Some(answer)
+            Call::Add { node, timeout } => {
+                both!(self, head => head.add(node, timeout)).map(|()| taken())
+            }
+            Call::Remove(node) => both!(self, head => head.remove(node)).map(|()| taken()),
+            Call::Bitmap => both!(self, head => head.bitmap()).map(|bitmap| forms::bitmap(&bitmap)),
+            Call::Due => {
+                both!(self, head => head.next_due()).map(|due| forms::taken([forms::or_none(due)]))
+            }
+            _ => unreachable!("it is lent no run"),
+        }
     }
 
     fn start(&mut self, start: &Start) -> Result<(), Refusal> {
@@ -273,7 +240,7 @@ impl Station {
             history: load.history.as_ref().map(|entries| entries.as_flattened()),
         };
         both!(self, head => head.load(&update));
-        forms::taken([])
+        taken()
     }
 
     fn entry_write(&mut self, write: &EntryWrite) -> Result<(), Refusal> {
@@ -319,6 +286,17 @@ impl Station {
     }
 }
 
+fn taken() -> String {
+    forms::taken([])
+}
+
+/// The refusal of a number.
+fn refusal(number: u32) -> Refusal {
+    let all = Refusal::ALL.iter();
+    let found = all.copied().find(|refusal| refusal.number() == number);
+    found.unwrap_or_else(|| panic!("{number} is no refusal"))
+}
+
 /// A call that reads a number or bytes, and no head.
 fn reading(call: &Call) -> Answer {
     let hex = |number: u8| format!("0x{number:02X}");
@@ -340,7 +318,7 @@ fn place(number: u64) -> usize {
     usize::try_from(number).expect("a place has 64 bits here")
 }
 
-fn setup(start: &Start) -> Setup {
+pub fn setup(start: &Start) -> Setup {
     let [counter_1, counter_2, counter_3, counter_5] = start.counters;
     let [
         collision,
