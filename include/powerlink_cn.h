@@ -109,11 +109,11 @@ enum plcn_refusal {
     PLCN_REFUSED_NO_SINGLE_KIND = 13,   /**< an error code names no single kind */
     PLCN_REFUSED_THRESHOLD_LIMIT = 14,  /**< a threshold is above PLCN_HIGHEST_THRESHOLD */
     PLCN_REFUSED_RECIPE_LIMITS = 15,    /**< a recipe is outside its limits */
-    PLCN_REFUSED_NOT_PREOPERATIONAL2 = 16, /**< a recipe is loaded in PreOperational2 alone */
-    PLCN_REFUSED_NO_WEIGHT = 17,        /**< no weight is told for the place now */
-    PLCN_REFUSED_FRAME_TOO_SHORT = 18,  /**< a frame has fewer bytes than its kind needs */
-    PLCN_REFUSED_OTHER_ETHERTYPE = 19,  /**< a frame's EtherType is not 0x88AB */
-    PLCN_REFUSED_OTHER_MESSAGE_TYPE = 20, /**< a frame's message type is none that is read */
+    PLCN_REFUSED_NOT_PREOPERATIONAL2 = 16,  /**< a recipe is loaded in PreOperational2 alone */
+    PLCN_REFUSED_NO_WEIGHT = 17,            /**< no weight is told for the place now */
+    PLCN_REFUSED_FRAME_TOO_SHORT = 18,      /**< a frame has fewer bytes than its kind needs */
+    PLCN_REFUSED_OTHER_ETHERTYPE = 19,      /**< a frame's EtherType is not 0x88AB */
+    PLCN_REFUSED_OTHER_MESSAGE_TYPE = 20,   /**< a frame's message type is none that is read */
     PLCN_REFUSED_EARLIEST_AFTER_LATEST = 21 /**< the earliest reading is after the latest */
 };
 
@@ -150,7 +150,7 @@ enum plcn_event {
     PLCN_EVENT_SOA_RECEIVED = 12,
     PLCN_EVENT_SOC_RECEIVED = 13,
     PLCN_EVENT_POWERLINK_FRAME_RECEIVED = 14,
-    PLCN_EVENT_CN_CONFIGURATION_COMPLETE = 15,  /**< the application's ready word */
+    PLCN_EVENT_CN_CONFIGURATION_COMPLETE = 15, /**< the application's ready word */
     PLCN_EVENT_ALL_CNS_IDENTIFIED = 16,
     PLCN_EVENT_CONFIGURATION_COMPLETE_CNS_READY = 17,
     PLCN_EVENT_ALL_MANDATORY_CNS_OPERATIONAL = 18
@@ -197,28 +197,28 @@ enum plcn_error_kind {
     PLCN_KIND_LOSS_OF_SOC = 6,
     PLCN_KIND_LOSS_OF_SOA = 7,
     PLCN_KIND_LOSS_OF_PREQ = 8,
-    PLCN_KIND_LOSS_OF_PRES = 9,             /**< carries a node */
-    PLCN_KIND_LOSS_OF_STATUS_RES = 10,      /**< carries a node */
+    PLCN_KIND_LOSS_OF_PRES = 9,        /**< carries a node */
+    PLCN_KIND_LOSS_OF_STATUS_RES = 10, /**< carries a node */
     PLCN_KIND_CYCLE_TIME_EXCEEDED = 11,
-    PLCN_KIND_LATE_PRES = 12,               /**< carries a node */
+    PLCN_KIND_LATE_PRES = 12, /**< carries a node */
     PLCN_KIND_SOC_JITTER = 13,
     PLCN_KIND_MS_WAIT_SOC = 14,
     PLCN_KIND_MULTIPLE_MN = 15,
     PLCN_KIND_ADDRESS_CONFLICT = 16,
     PLCN_KIND_MEV_ASND_TIMEOUT = 17,
     PLCN_KIND_UNEXPECTED_EVENT_IN_STATE = 18, /**< carries a state and an event */
-    PLCN_KIND_PDO_MAP_VERSION = 19,         /**< carries a node */
-    PLCN_KIND_PDO_PAYLOAD_SHORT = 20,       /**< carries a node */
-    PLCN_KIND_HEARTBEAT_TIMEOUT = 21        /**< carries a node */
+    PLCN_KIND_PDO_MAP_VERSION = 19,           /**< carries a node */
+    PLCN_KIND_PDO_PAYLOAD_SHORT = 20,         /**< carries a node */
+    PLCN_KIND_HEARTBEAT_TIMEOUT = 21          /**< carries a node */
 };
 
 /** Which reset an NMT event passed, by the state in which it begins. */
 enum plcn_reset {
     PLCN_RESET_NONE = 0,
-    PLCN_RESET_WHOLE = 1,          /**< Reset and SwReset: from GsInitialising on */
-    PLCN_RESET_NODE = 2,           /**< ResetNode: from GsResetApplication on */
-    PLCN_RESET_COMMUNICATION = 3,  /**< ResetCommunication: from GsResetCommunication on */
-    PLCN_RESET_CONFIGURATION = 4   /**< ResetConfiguration: GsResetConfiguration */
+    PLCN_RESET_WHOLE = 1,         /**< Reset and SwReset: from GsInitialising on */
+    PLCN_RESET_NODE = 2,          /**< ResetNode: from GsResetApplication on */
+    PLCN_RESET_COMMUNICATION = 3, /**< ResetCommunication: from GsResetCommunication on */
+    PLCN_RESET_CONFIGURATION = 4  /**< ResetConfiguration: GsResetConfiguration */
 };
 
 /** What the NMT machine is asked to do for an error. */
@@ -230,9 +230,9 @@ enum plcn_action {
 
 /** What readings of a clock say of the SoC. */
 enum plcn_verdict {
-    PLCN_SOC_LOST = 0,  /**< at each of them it is lost */
-    PLCN_SOC_KEPT = 1,  /**< at none of them */
-    PLCN_SOC_OPEN = 2   /**< at some of them */
+    PLCN_SOC_LOST = 0, /**< at each of them it is lost */
+    PLCN_SOC_KEPT = 1, /**< at none of them */
+    PLCN_SOC_OPEN = 2  /**< at some of them */
 };
 
 /** The mode of an entry (DS 301, Table 96). */
@@ -270,13 +270,13 @@ struct plcn_split_time {
 
 /** A head: one controlled node. Its fields may be read; the calls alone write them. */
 struct plcn_head {
-    uint32_t state;                  /**< the NMT state, enum plcn_state */
-    uint32_t node;                   /**< the node's number */
-    uint32_t feature_flags;          /**< kept, never read */
-    uint32_t basic_timeout_us;       /**< until the fall to BasicEthernet; 0: never */
-    uint32_t enabled;                /**< whether EnableReadyToOperate came in this visit */
-    uint32_t ready;                  /**< whether the application's ready word stands */
-    uint32_t dll_state;              /**< enum plcn_dll_state */
+    uint32_t state;            /**< the NMT state, enum plcn_state */
+    uint32_t node;             /**< the node's number */
+    uint32_t feature_flags;    /**< kept, never read */
+    uint32_t basic_timeout_us; /**< until the fall to BasicEthernet; 0: never */
+    uint32_t enabled;          /**< whether EnableReadyToOperate came in this visit */
+    uint32_t ready;            /**< whether the application's ready word stands */
+    uint32_t dll_state;        /**< enum plcn_dll_state */
     struct plcn_counter collision;
     struct plcn_counter loss_of_soc;
     struct plcn_counter loss_of_soa;
@@ -368,30 +368,30 @@ struct plcn_thresholds {
 
 /** What a head is started with. */
 struct plcn_setup {
-    uint8_t node;                      /**< 1 to 240, 253, 254 or 255 */
-    uint8_t error_register;            /**< object 0x1001 */
-    uint32_t feature_flags;            /**< kept, never read */
-    uint32_t basic_timeout_us;         /**< 0: the node never falls to BasicEthernet */
-    struct plcn_value cycle_us;        /**< object 0x1006; missing counts as 0: no SoC check */
-    struct plcn_value tolerance_ns;    /**< object 0x1C14; missing counts as 100,000 */
-    uint32_t counter_1;                /**< of object 0x1102 */
+    uint8_t node;                   /**< 1 to 240, 253, 254 or 255 */
+    uint8_t error_register;         /**< object 0x1001 */
+    uint32_t feature_flags;         /**< kept, never read */
+    uint32_t basic_timeout_us;      /**< 0: the node never falls to BasicEthernet */
+    struct plcn_value cycle_us;     /**< object 0x1006; missing counts as 0: no SoC check */
+    struct plcn_value tolerance_ns; /**< object 0x1C14; missing counts as 100,000 */
+    uint32_t counter_1;             /**< of object 0x1102 */
     uint32_t counter_2;
     uint32_t counter_3;
     uint32_t counter_5;
     struct plcn_thresholds thresholds;
-    uint64_t queue_capacity;           /**< 0 to 32 */
+    uint64_t queue_capacity; /**< 0 to 32 */
 };
 
 /** Which values of the dictionary are loaded, and with what. */
 struct plcn_update {
-    uint8_t set_error_register;     /**< 0: the value stays as it is; so for each of these */
+    uint8_t set_error_register; /**< 0: the value stays as it is; so for each of these */
     uint8_t set_cycle;
     uint8_t set_tolerance;
     uint8_t set_counter_1;
     uint8_t set_counter_2;
     uint8_t set_counter_3;
     uint8_t set_counter_5;
-    uint8_t set_history;            /**< whether the entries that are given become the history */
+    uint8_t set_history; /**< whether the entries that are given become the history */
     uint8_t error_register;
     struct plcn_value cycle_us;     /**< may be set to missing */
     struct plcn_value tolerance_ns; /**< may be set to missing */
@@ -443,14 +443,14 @@ struct plcn_cycle_answer {
 
 /** An entry of a queue or a history (DS 301, Tables 94 and 96). */
 struct plcn_entry {
-    uint8_t is_status;      /**< the status mark, bit 15 of the type */
-    uint8_t send_to_queue;  /**< the queue mark, bit 14 */
-    uint8_t mode;           /**< enum plcn_entry_mode */
-    uint16_t profile;       /**< 0 to 4095; 2 is POWERLINK */
-    uint16_t code;          /**< the error code */
-    uint32_t seconds;       /**< of its time */
+    uint8_t is_status;     /**< the status mark, bit 15 of the type */
+    uint8_t send_to_queue; /**< the queue mark, bit 14 */
+    uint8_t mode;          /**< enum plcn_entry_mode */
+    uint16_t profile;      /**< 0 to 4095; 2 is POWERLINK */
+    uint16_t code;         /**< the error code */
+    uint32_t seconds;      /**< of its time */
     uint32_t nanoseconds;
-    uint64_t additional;    /**< additional information */
+    uint64_t additional; /**< additional information */
 };
 
 /** The entry that was handed out, if any. */
@@ -506,10 +506,10 @@ struct plcn_index_range {
 
 /** What a reset passes. */
 struct plcn_reset_steps {
-    uint8_t states;                         /**< how many states it enters, 0 to 5 */
-    uint8_t state[5];                       /**< them, in order; zeros behind */
-    uint8_t ranges;                         /**< how many ranges are to be restored, 0 to 3 */
-    struct plcn_index_range range[3];       /**< them, in order; zeros behind */
+    uint8_t states;                   /**< how many states it enters, 0 to 5 */
+    uint8_t state[5];                 /**< them, in order; zeros behind */
+    uint8_t ranges;                   /**< how many ranges are to be restored, 0 to 3 */
+    struct plcn_index_range range[3]; /**< them, in order; zeros behind */
 };
 
 /** A text, with a 0 behind it; empty where there is none. */
