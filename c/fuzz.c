@@ -381,12 +381,31 @@ static void start(struct input *in, uint8_t op)
     world.is_weigh_started |= refused == PLCN_OK && op % 3 == 2;
 }
 
+/* Some of the events that lead from a reset to Operational. */
+static void walk(struct input *in, bool weigh)
+{
+    static const uint8_t way[] = {PLCN_EVENT_SW_RESET,
+                                  PLCN_EVENT_SOC_RECEIVED,
+                                  PLCN_EVENT_SOC_RECEIVED,
+                                  PLCN_EVENT_CN_CONFIGURATION_COMPLETE,
+                                  PLCN_EVENT_ENABLE_READY_TO_OPERATE,
+                                  PLCN_EVENT_START_NODE};
+    struct plcn_nmt_answer *nmt = ANSWER(plcn_nmt_answer);
+    unsigned steps = byte(in) % (sizeof way + 1);
+    for (unsigned i = 0; i < steps; i++) {
+        want(weigh ? plcn_weigh_nmt_event(world.weigh, world.memory, way[i], nmt)
+                   : plcn_nmt_event(world.head, way[i], nmt),
+             is_nmt_answer(nmt));
+    }
+}
+
 static void call(struct input *in)
 {
     uint8_t which = byte(in), op = byte(in);
     bool weigh = op & 128;
-    switch (which % 12) {
+    switch (which % 13) {
     case 0: start(in, op); break;
+    case 12: walk(in, weigh); break;
     case 1: on_machines(in, op, weigh); break;
     case 2: on_clock(in, op, weigh); break;
     case 3: on_nodes(in, op, weigh); break;

@@ -603,7 +603,22 @@ PLCN_OFFSET(plcn_errors, error, 1);
 
 /* ---- A head ---- */
 
-/** A time of a head in one number. */
+/**
+ * Joins the two words of a time of a head.
+ *
+ * It answers the time, in us. Whether a time stands tells the field before it, as has_deadline.
+ *
+ * Parameters:
+ *   time  the two words
+ *
+ * Refusals: none.
+ *
+ * Rules: our own; RULES 1.4.
+ *
+ * Example:
+ *   if (head.has_deadline)
+ *       printf("deadline %llu us\n", (unsigned long long)plcn_time(head.deadline));
+ */
 static inline uint64_t plcn_time(struct plcn_split_time time)
 {
     return (uint64_t)time.high << 32 | time.low;

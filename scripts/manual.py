@@ -31,7 +31,8 @@ ROOT = pathlib.Path(__file__).resolve().parent.parent
 HEADER = ROOT / 'include/powerlink_cn.h'
 # What a caller keeps, and not what one call is given or answers: shown in powerlink_cn(7) alone.
 KEPT = {'plcn_head', 'plcn_queue', 'plcn_history', 'plcn_run', 'plcn_watched', 'plcn_weigh', 'plcn_memory'}
-FUNCTION = re.compile(r'/\*\*\n((?: \*[^\n]*\n)*?) \*/\n((?:uint32_t|struct plcn_text) (plcn_\w+)\(([^;]*)\);)')
+RETURNS = r'(?:uint32_t|uint64_t|struct plcn_text)'
+FUNCTION = re.compile(r'/\*\*\n((?: \*[^\n]*\n)*?) \*/\n(?:static inline )?(%s (plcn_\w+)\(([^;{]*)\))(?:;|\n\{)' % RETURNS)
 TYPE = re.compile(r'(?:/\*\*.*?\*/\n)(?:struct|enum) (plcn_\w+) \{\n.*?\n\};', re.S)
 
 
@@ -39,12 +40,13 @@ class Function:
     """A function of the header with the parts of its comment."""
 
     def __init__(self, comment, prototype, name, parameters):
-        self.name, self.prototype = name, prototype
+        self.name, self.prototype = name, prototype + ';'
         self.takes = [] if parameters == 'void' else [
             re.search(r'(\w+)(?:\[\w+\])?$', p.strip())[1] for p in parameters.split(',')]
         self.uses = re.findall(r'struct (plcn_\w+)', prototype)
         self.brief, self.body, self.parameters, self.refusals, self.rules, self.example = '', [], [], [], '', []
         self.tells_refusals = False
+        self.answers_refusal = prototype.startswith('uint32_t') and parameters != 'void'
         self.order = []
         for block in re.split(r'\n \*\n', comment.rstrip('\n')):
             self.read([line[2:][1:] for line in block.split('\n')])
@@ -95,7 +97,8 @@ class Header:
         self.overview = re.match(r'/\*\n(.*?) \*/', self.text, re.S)[1]
         self.functions = [Function(*m) for m in FUNCTION.findall(self.text)]
         self.types = {m[1]: m[0] for m in TYPE.finditer(self.text)}
-        self.declared = re.findall(r'^(?:uint32_t|struct plcn_text) (plcn_\w+)\(', self.text, re.M)
+        self.exported = re.findall(rf'^{RETURNS} (plcn_\w+)\(', self.text, re.M)
+        self.declared = re.findall(rf'^(?:static inline )?{RETURNS} (plcn_\w+)\(', self.text, re.M)
         major, minor, patch = (re.search(rf'PLCN_VERSION_{p} (\d+)', self.text)[1] for p in ('MAJOR', 'MINOR', 'PATCH'))
         self.version = f'{major}.{minor}.{patch}'
 
@@ -155,8 +158,10 @@ def page(function, header):
     if function.refusals:
         out += ['.SH RETURN VALUE', 'PLCN_OK, or the first of these refusals, in this order, that applies. '
                 'A refused call writes nothing.', *tagged(function.refusals)]
+    elif function.answers_refusal:
+        out += ['.SH RETURN VALUE', 'PLCN_OK: no call is refused.']
     else:
-        out += ['.SH RETURN VALUE', 'No call is refused.']
+        out += ['.SH RETURN VALUE', 'What the description says; no call is refused.']
     out += ['.SH RULES', escaped(function.rules), '.SH EXAMPLE', *code(function.example), '.SH SEE ALSO']
     also = [(n, 3) for n in siblings(function, names)] + [('powerlink_cn', 7)]
     out += [f'.BR {escaped(n)} ({s}){"," if i < len(also) else ""}' for i, (n, s) in enumerate(also, 1)]

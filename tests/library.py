@@ -76,7 +76,7 @@ def archive():
     sizes = [line.split()[1:3] for line in run('size', ARCHIVE).stdout.splitlines()[1:]]
     if any(size != ['0', '0'] for size in sizes):
         wrong(f'the archive has data of {sizes} bytes (data, bss)')
-    declared = set(manual.Header(manual.HEADER).declared)
+    declared = set(manual.Header(manual.HEADER).exported)
     exported = {n for kind in 'TWVRAi' for n in kinds.get(kind, ())}
     if exported != declared:
         wrong(f'the header declares and the archive lacks: {sorted(declared - exported)}; the other way round: {sorted(exported - declared)}')
