@@ -321,6 +321,25 @@ static void on_recipe(struct input *in, uint8_t op)
     }
 }
 
+/* Whether a text has a 0 behind its characters, and those are ASCII. */
+static bool is_text(const struct plcn_text *text)
+{
+    const char *end = memchr(text->text, 0, sizeof text->text);
+    for (const char *at = text->text; end && at < end; at++) {
+        if (*at < ' ' || *at > '~')
+            return false;
+    }
+    return end != NULL;
+}
+
+static void on_texts(uint32_t n)
+{
+    struct plcn_text texts[] = {plcn_refusal_text(n), plcn_state_name(n),     plcn_event_name(n),
+                                plcn_command_name(n), plcn_dll_event_name(n), plcn_kind_name(n)};
+    for (unsigned i = 0; i < sizeof texts / sizeof texts[0]; i++)
+        want(PLCN_OK, is_text(&texts[i]));
+}
+
 static void on_numbers(struct input *in, uint8_t op)
 {
     struct plcn_entry *entry = ANSWER(plcn_entry);
@@ -329,7 +348,8 @@ static void on_numbers(struct input *in, uint8_t op)
     struct plcn_entry given = {.mode = byte(in) % 5, .profile = (uint16_t)wide(in, 2)};
     uint64_t n = number(in), length = byte(in) % (BUFFER + 1);
     uint8_t *buffer = world.buffer + BUFFER - length;
-    switch (op % 6) {
+    switch (op % 7) {
+    case 6: on_texts((uint32_t)n); break;
     case 0: want(plcn_read_state(n, read), *read == n); break;
     case 1: want(plcn_read_command(n, read), *read == n); break;
     case 2: want(plcn_read_code(n, read), *read <= PLCN_KIND_HEARTBEAT_TIMEOUT); break;
