@@ -57,7 +57,7 @@ STRICT := -std=c11 -pedantic -Wall -Wextra -Wconversion -Werror -Iinclude
 PLAY := c/play.c c/script.c c/station.c c/telling.c
 FUZZ := c/fuzz.c c/fuzz_input.c c/fuzz_expected.c c/guarded.c
 HEADERS := include/powerlink_cn.h $(wildcard c/*.h)
-CHECKED := -g -O1 -fno-sanitize-recover=all -fsanitize
+CHECKED := -g -O2 -fno-sanitize-recover=all -fsanitize
 
 lib: kit
 	@echo "Proving the library (some minutes the first time)."

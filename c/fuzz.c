@@ -21,7 +21,7 @@
 
 #define PLACES_MOST 40
 
-/* Any answer. */
+/* As much as any answer takes. */
 union answer {
     struct plcn_nmt_answer nmt;
     struct plcn_errors errors;
@@ -99,13 +99,13 @@ static void look_behind(uint32_t refused)
     }
 }
 
-static union answer *answer_at(size_t size)
+/* The answer of a call: so many bytes, which end where their pages end. */
+static void *answer_of(size_t size)
 {
-    /* The answer of a call ends where its pages end. */
-    return (union answer *)(void *)(lent[LENT - 1].at + sizeof(union answer) - size);
+    return lent[LENT - 1].at + sizeof(union answer) - size;
 }
 
-#define ANSWER(type) ((struct type *)(void *)answer_at(sizeof(struct type)))
+#define ANSWER(type) ((struct type *)answer_of(sizeof(struct type)))
 
 static void want(uint32_t refused, bool is_right)
 {
@@ -301,9 +301,9 @@ static void on_reading(struct input *in)
 
 static void on_recipe(struct input *in, uint8_t op)
 {
-    struct plcn_component given[24],
-        *places = answer_at(sizeof given[0] * PLCN_RECIPE_PLACES)->places;
-    uint16_t *grams = &answer_at(sizeof(uint16_t))->grams;
+    struct plcn_component given[24];
+    struct plcn_component *places = answer_of(sizeof *places * PLCN_RECIPE_PLACES);
+    uint16_t *grams = answer_of(sizeof *grams);
     uint64_t count = byte(in) % 24;
     switch (op % 3) {
     case 0:
@@ -344,7 +344,7 @@ static void on_numbers(struct input *in, uint8_t op)
 {
     struct plcn_entry *entry = ANSWER(plcn_entry);
     struct plcn_reset_steps *steps = ANSWER(plcn_reset_steps);
-    uint8_t *read = &answer_at(1)->number;
+    uint8_t *read = answer_of(sizeof *read);
     struct plcn_entry given = {.mode = byte(in) % 5, .profile = (uint16_t)wide(in, 2)};
     uint64_t n = number(in), length = byte(in) % (BUFFER + 1);
     uint8_t *buffer = world.buffer + BUFFER - length;

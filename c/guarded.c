@@ -26,9 +26,5 @@ void *guarded(size_t size)
 bool guarded_is_whole(const void *at)
 {
     const uint8_t *marks = (const uint8_t *)at - MARKS;
-    for (unsigned i = 0; i < MARKS; i++) {
-        if (marks[i] != MARK)
-            return false;
-    }
-    return true;
+    return marks[0] == MARK && memcmp(marks, marks + 1, MARKS - 1) == 0;
 }
