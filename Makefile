@@ -54,7 +54,7 @@ DESTDIR ?=
 SECONDS ?= 600
 ARCHIVE := build/libpowerlink_cn.a
 STRICT := -std=c11 -pedantic -Wall -Wextra -Wconversion -Werror -Iinclude
-PLAY := c/play.c c/script.c c/station.c c/telling.c
+PLAY := c/play.c c/script.c c/words.c c/station.c c/telling.c
 FUZZ := c/fuzz.c c/fuzz_input.c c/fuzz_expected.c c/guarded.c
 HEADERS := include/powerlink_cn.h $(wildcard c/*.h)
 CHECKED := -g -O2 -fno-sanitize-recover=all -fsanitize
