@@ -68,11 +68,11 @@ install:
 	@scripts/install.sh "$(PREFIX)" "$(DESTDIR)"
 
 play: lib
-	@$(MAKE) --no-print-directory build/play
+	@$(MAKE) -s build/play
 
 fuzz: lib
 	@command -v clang >/dev/null || { echo "make fuzz needs clang, which has libFuzzer." >&2; exit 1; }
-	@$(MAKE) --no-print-directory build/fuzz
+	@$(MAKE) -s build/fuzz
 	@mkdir -p build/corpus
 	@build/fuzz -max_total_time=$(SECONDS) -max_len=2048 -verbosity=0 -print_final_stats=1 -artifact_prefix=build/ build/corpus
 
@@ -93,7 +93,7 @@ build/fuzz: $(FUZZ) $(HEADERS) $(ARCHIVE)
 	@clang $(STRICT) -D_DEFAULT_SOURCE $(CHECKED)=fuzzer,address,undefined $(FUZZ) $(ARCHIVE) -o $@
 
 library: lib
-	@$(MAKE) --no-print-directory build/play build/play-checked build/play-differs build/free
+	@$(MAKE) -s build/play build/play-checked build/play-differs build/free
 	@tests/library.py
 
 test: kit
@@ -111,7 +111,7 @@ test: kit
 	@tests/watch.py --quiet
 	@tests/replay.py --quiet
 	@scripts/library.sh
-	@$(MAKE) --no-print-directory build/play build/play-checked build/play-differs build/free
+	@$(MAKE) -s build/play build/play-checked build/play-differs build/free
 	@tests/library.py --quiet
 
 twins: kit

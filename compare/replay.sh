@@ -102,7 +102,7 @@ rm -rf "$work"
 mkdir -p "$work"
 "$root/scripts/build.sh" replay
 "$root/scripts/library.sh"
-make --no-print-directory -C "$root" build/play
+make -s -C "$root" build/play
 
 for script in "$here"/scripts/*.txt; do
     compare_stored "$script"
