@@ -37,6 +37,7 @@ union answer {
     struct plcn_entry entry;
     struct plcn_reset_steps steps;
     struct plcn_component places[PLCN_RECIPE_PLACES];
+    struct plcn_head head;
     uint16_t grams;
     uint8_t number;
 };
@@ -303,9 +304,10 @@ static void on_recipe(struct input *in, uint8_t op)
 {
     struct plcn_component given[24];
     struct plcn_component *places = answer_of(sizeof *places * PLCN_RECIPE_PLACES);
+    struct plcn_head *head = ANSWER(plcn_head);
     uint16_t *grams = answer_of(sizeof *grams);
     uint64_t count = byte(in) % 24;
-    switch (op % 3) {
+    switch (op % 4) {
     case 0:
         for (uint64_t i = 0; i < count; i++) {
             given[i].bin = byte(in) % 80;
@@ -317,7 +319,10 @@ static void on_recipe(struct input *in, uint8_t op)
         want(plcn_weigh_weight(world.weigh, number(in), grams),
              !world.is_weigh_started || (*grams >= 1 && *grams <= 30000));
         break;
-    default: look_behind(plcn_weigh_places(world.weigh, places));
+    case 2: look_behind(plcn_weigh_places(world.weigh, places)); break;
+    default:
+        want(plcn_weigh_head(world.weigh, head),
+             !world.is_weigh_started || wrong_in_head(head) == NULL);
     }
 }
 
