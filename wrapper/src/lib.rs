@@ -9,7 +9,7 @@
 //!   ns, weights are in grams.
 //! - **Refusals**: a call that may be refused answers a `Result` with a [`Refusal`]. Of several
 //!   that apply, the first in the order of the method's comment is given. A refused call changes
-//!   nothing. A call that no argument of its types can get refused answers without a `Result`.
+//!   nothing. A call whose argument types leave nothing to refuse answers without a `Result`.
 //! - **Sources**: a comment names the section of DS 301, or the rule of `docs/RULES.md` in the
 //!   repository, as "rule 7.3".
 //! - **Memory**: no allocation, no global state, no dependency. A node of 6,736 bytes may be moved,
