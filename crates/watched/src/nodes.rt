@@ -258,6 +258,7 @@ pub fn well_formed(nodes: &NodeWords, count: usize) -> bool
 /// with the node heard at a time in µs. The place of a node that is not watched is the count. The
 /// moment is a number that the caller gives to `moment`, since an Option within an Option takes
 /// more words.
+#[inline(always)]
 pub fn find(nodes: &NodeWords, count: usize, node: u64, time: u64) -> Option<(usize, u64)>
     ensures { result ≡ found_of node time (watched_of (nodes_of nodes.now) count) }
 {
