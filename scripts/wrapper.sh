@@ -7,12 +7,17 @@
 #                        error and is content
 set -euo pipefail
 cd "$(dirname "${BASH_SOURCE[0]}")/.."
+usage="usage: wrapper.sh [--quiet]"
 quiet=
 case ${1:-} in
 --quiet) quiet=yes ;;
+--help)
+    echo "$usage"
+    exit
+    ;;
 '') ;;
 *)
-    echo "usage: wrapper.sh [--quiet]" >&2
+    echo "$usage" >&2
     exit 2
     ;;
 esac
