@@ -1,6 +1,5 @@
-pub mod SeenLaws
-pub mod SetTimesLaws
-pub mod LateErrorLaws
-pub mod BitLaws
+pub mod Walks
+pub mod Set
+pub mod Moved
 pub mod Found
-pub mod ArrivalLaws
+pub mod Ticking
