@@ -1,0 +1,118 @@
+//! The benchmark: what a call costs through the C interface of the static library, beside the same
+//! call on the original Rust. docs/PERFORMANCE.md says how it is measured.
+
+mod document;
+mod ffi;
+mod figure;
+mod measure;
+mod memory;
+mod ours;
+mod stack;
+mod table;
+
+use std::path::PathBuf;
+use std::process::ExitCode;
+
+const HELP: &str = "\
+usage: bench [--processes N] [--rounds N] [--store FOLDER]
+
+Measures each call of the static library beside the original Rust, prints the table, and ends in the
+line 'worst ratio R CALL'. Progress goes to standard error.
+
+  --processes N    processes that measure, one behind another; the least counts (12)
+  --rounds N       rounds of a process, in each of which every side is measured once (30)
+  --store FOLDER   also writes the table into PERFORMANCE.md of the folder, and performance.svg
+  --help           this text
+  --version        the version of the library
+
+Exit status: 0; 1 where the two sides do not do the same or a file can't be written; 2 where the
+arguments are wrong.";
+
+/// What the arguments say.
+pub struct Options {
+    pub processes: u32,
+    pub rounds: u32,
+    pub store: Option<PathBuf>,
+    /// Whether this process is one that measures.
+    pub once: bool,
+}
+
+enum Asked {
+    Run(Options),
+    Help,
+    Version,
+}
+
+fn read(mut arguments: impl Iterator<Item = String>) -> Result<Asked, String> {
+    let mut options = Options {
+        processes: 12,
+        rounds: 30,
+        store: None,
+        once: false,
+    };
+    while let Some(argument) = arguments.next() {
+        let mut value = || arguments.next().ok_or(format!("{argument} needs a value"));
+        match argument.as_str() {
+            "--help" => return Ok(Asked::Help),
+            "--version" => return Ok(Asked::Version),
+            "--once" => options.once = true,
+            "--processes" => options.processes = number(&value()?)?,
+            "--rounds" => options.rounds = number(&value()?)?,
+            "--store" => options.store = Some(value()?.into()),
+            _ => return Err(format!("{argument} is no option")),
+        }
+    }
+    Ok(Asked::Run(options))
+}
+
+fn number(text: &str) -> Result<u32, String> {
+    match text.parse() {
+        Ok(number) if number > 0 => Ok(number),
+        _ => Err(format!("{text} is no number above 0")),
+    }
+}
+
+fn main() -> ExitCode {
+    let options = match read(std::env::args().skip(1)) {
+        Ok(Asked::Run(options)) => options,
+        Ok(Asked::Help) => {
+            println!("{HELP}");
+            return ExitCode::SUCCESS;
+        }
+        Ok(Asked::Version) => {
+            println!("{}", unsafe { ffi::plcn_version() });
+            return ExitCode::SUCCESS;
+        }
+        Err(message) => {
+            eprintln!("bench: {message}; --help lists the options.");
+            return ExitCode::from(2);
+        }
+    };
+    let done = if options.once {
+        measure::once(options.rounds);
+        Ok(())
+    } else {
+        run(&options)
+    };
+    match done {
+        Ok(()) => ExitCode::SUCCESS,
+        Err(message) => {
+            eprintln!("bench: {message}");
+            ExitCode::FAILURE
+        }
+    }
+}
+
+fn run(options: &Options) -> Result<(), String> {
+    measure::check_alike()?;
+    let times = measure::all(options)?;
+    let facts = memory::facts();
+    print!("{}", table::as_text(&times));
+    println!();
+    print!("{}", table::beside(&times, &facts));
+    if let Some(folder) = &options.store {
+        document::store(folder, &times, &facts)?;
+    }
+    println!("{}", table::worst(&times));
+    Ok(())
+}

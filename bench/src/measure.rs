@@ -1,0 +1,143 @@
+//! Measures every row on the three sides: ours, the original, and the original without a log
+//! prefix.
+
+use crate::ours::Ours;
+use crate::{Options, ffi};
+use rows::{Case, Measured, Row, Work, keep_number};
+use std::process::{Command, Stdio};
+
+/// The times of a row, in ns: ours, the original, the original without a log prefix.
+pub type Three = [f64; 3];
+
+/// The least time of each row.
+pub struct Times {
+    pub rows: Vec<(String, Work, Three)>,
+    /// Of a call across the boundary that does nothing.
+    pub empty: f64,
+}
+
+impl Times {
+    /// The ratio of a row to one of the two others: ours over theirs and an empty call.
+    pub fn ratio(&self, three: &Three, other: usize) -> f64 {
+        three[0] / (three[other] + self.empty)
+    }
+
+    /// The time of ours in a row that is there.
+    pub fn ours(&self, name: &str) -> f64 {
+        let row = self.rows.iter().find(|(row, ..)| row == name);
+        row.expect("the row is there").2[0]
+    }
+}
+
+/// The rows of each side, in the same order.
+fn sides() -> [Vec<Row>; 3] {
+    [
+        rows::rows::<Ours>(),
+        theirs::rows(),
+        theirs_without_prefix::rows(),
+    ]
+}
+
+/// That a row's calls find and leave the same on every side, where the row is the same work.
+pub fn check_alike() -> Result<(), String> {
+    let [ours, others @ ..] = sides();
+    for other in others {
+        for (ours, theirs) in ours.iter().zip(&other) {
+            assert_eq!(ours.name, theirs.name, "the rows have one order");
+            if ours.work == Work::Bare {
+                continue;
+            }
+            let (mine, yours) = ((ours.views)(), (theirs.views)());
+            if mine != yours {
+                let name = &ours.name;
+                return Err(format!(
+                    "the sides differ in the row '{name}'.\nours before: {:?}\nRust before: {:?}\n\
+                     ours after: {:?}\nRust after: {:?}",
+                    mine.0, yours.0, mine.1, yours.1
+                ));
+            }
+        }
+    }
+    Ok(())
+}
+
+/// One process: measures the rows, all sides in turn, and prints the least times, a row a line.
+pub fn once(rounds: u32) {
+    let empty = rows::calls(|node: &mut Ours| {
+        keep_number(unsafe { ffi::plcn_version() }.into());
+        keep_number(node.head.state.into());
+    });
+    println!("{}", least(vec![empty], rounds)[0]);
+    let [ours, theirs, without] = sides();
+    for ((ours, theirs), without) in ours.iter().zip(&theirs).zip(&without) {
+        let cases = [ours, theirs, without].map(|row| (row.case)());
+        let times = least(cases.into(), rounds);
+        println!("{} {} {}", times[0], times[1], times[2]);
+    }
+}
+
+/// The least time of each case, measured in turn.
+fn least(mut cases: Vec<Box<dyn Case>>, rounds: u32) -> Vec<f64> {
+    let mut least = vec![Measured::NONE; cases.len()];
+    for _ in 0..rounds {
+        for (case, least) in cases.iter_mut().zip(&mut least) {
+            *least = least.least(case.measure());
+        }
+    }
+    least.into_iter().map(Measured::call).collect()
+}
+
+/// All processes: the least time of each row.
+pub fn all(options: &Options) -> Result<Times, String> {
+    let rows = rows::rows::<Ours>();
+    let mut times = Times {
+        rows: rows
+            .iter()
+            .map(|row| (row.name.clone(), row.work, [f64::INFINITY; 3]))
+            .collect(),
+        empty: f64::INFINITY,
+    };
+    for process in 1..=options.processes {
+        eprintln!("bench: process {process} of {} measures", options.processes);
+        take(&mut times, &printed(options.rounds)?)?;
+    }
+    Ok(times)
+}
+
+/// What one process prints.
+fn printed(rounds: u32) -> Result<String, String> {
+    let program = std::env::current_exe().map_err(|error| format!("where it stands: {error}"))?;
+    let output = Command::new(program)
+        .args(["--once", "--rounds", &rounds.to_string()])
+        .stderr(Stdio::inherit())
+        .output()
+        .map_err(|error| format!("a process could not be started: {error}"))?;
+    if !output.status.success() {
+        return Err("a process that measures failed".to_string());
+    }
+    String::from_utf8(output.stdout).map_err(|error| error.to_string())
+}
+
+fn take(times: &mut Times, printed: &str) -> Result<(), String> {
+    let mut lines = printed.lines();
+    let wrong = || "a process that measures printed something else".to_string();
+    let first: f64 = lines
+        .next()
+        .and_then(|line| line.parse().ok())
+        .ok_or_else(wrong)?;
+    times.empty = times.empty.min(first);
+    for (_, _, least) in &mut times.rows {
+        let line = lines.next().ok_or_else(wrong)?;
+        let numbers: Vec<f64> = line
+            .split(' ')
+            .filter_map(|word| word.parse().ok())
+            .collect();
+        if numbers.len() != least.len() {
+            return Err(wrong());
+        }
+        for (least, now) in least.iter_mut().zip(numbers) {
+            *least = least.min(now);
+        }
+    }
+    Ok(())
+}
