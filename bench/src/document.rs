@@ -26,7 +26,7 @@ pub fn store(folder: &Path, times: &Times, facts: &Facts) -> Result<(), String> 
     let numbers = format!(
         "Measured on: {}.\n\n{}\n{}\n`{}`\n",
         processor(),
-        table::beside(times, facts),
+        table::beside_on_the_page(times, facts),
         table::as_markdown(times),
         table::worst(times)
     );

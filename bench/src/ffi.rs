@@ -260,6 +260,46 @@ unsafe extern "C" {
         length: u64,
         answer: *mut FrameAnswer,
     ) -> u32;
+    pub fn plcn_heard_over(
+        head: *mut Head,
+        places: *mut Watched,
+        length: u64,
+        number: u64,
+        node: u8,
+        time: u64,
+    ) -> u32;
+    pub fn plcn_tick_over(
+        head: *mut Head,
+        queue: *mut Queue,
+        history: *mut History,
+        places: *mut Watched,
+        length: u64,
+        number: u64,
+        time: u64,
+        logged: *mut Errors,
+    ) -> u32;
+    pub fn plcn_add_over(
+        head: *mut Head,
+        places: *mut Watched,
+        length: u64,
+        number: *mut u64,
+        node: u8,
+        timeout: u64,
+    ) -> u32;
+    pub fn plcn_remove_over(
+        head: *mut Head,
+        places: *mut Watched,
+        length: u64,
+        number: *mut u64,
+        node: u8,
+    ) -> u32;
+    pub fn plcn_next_due_over(
+        head: *const Head,
+        places: *const Watched,
+        length: u64,
+        number: u64,
+        answer: *mut DueAnswer,
+    ) -> u32;
     pub fn plcn_weigh_start(weigh: *mut Weigh, memory: *mut Memory, setup: *const Setup) -> u32;
     pub fn plcn_weigh_nmt_event(
         weigh: *mut Weigh,

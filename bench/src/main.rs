@@ -7,6 +7,7 @@ mod figure;
 mod measure;
 mod memory;
 mod ours;
+mod over;
 mod stack;
 mod table;
 
@@ -107,8 +108,8 @@ fn run(options: &Options) -> Result<(), String> {
     measure::check_alike()?;
     let times = measure::all(options)?;
     let facts = memory::facts();
-    print!("{}", table::as_text(&times));
-    println!();
+    println!("{}", table::as_text(&times));
+    println!("{}", table::over(&times));
     print!("{}", table::beside(&times, &facts));
     if let Some(folder) = &options.store {
         document::store(folder, &times, &facts)?;

@@ -2,7 +2,7 @@
 //! prefix.
 
 use crate::ours::Ours;
-use crate::{Options, ffi};
+use crate::{Options, ffi, over};
 use rows::{Case, Measured, Row, Work, keep_number};
 use std::process::{Command, Stdio};
 
@@ -14,6 +14,8 @@ pub struct Times {
     pub rows: Vec<(String, Work, Three)>,
     /// Of a call across the boundary that does nothing.
     pub empty: f64,
+    /// Of the calls over a run, and over places of any length.
+    pub over: Vec<(String, [f64; 2])>,
 }
 
 impl Times {
@@ -22,10 +24,10 @@ impl Times {
         three[0] / (three[other] + self.empty)
     }
 
-    /// The time of ours in a row that is there.
-    pub fn ours(&self, name: &str) -> f64 {
+    /// The time of a side in a row that is there.
+    pub fn of(&self, name: &str, side: usize) -> f64 {
         let row = self.rows.iter().find(|(row, ..)| row == name);
-        row.expect("the row is there").2[0]
+        row.expect("the row is there").2[side]
     }
 }
 
@@ -63,11 +65,14 @@ pub fn check_alike() -> Result<(), String> {
 
 /// One process: measures the rows, all sides in turn, and prints the least times, a row a line.
 pub fn once(rounds: u32) {
-    let empty = rows::calls(|node: &mut Ours| {
+    let empty = rows::calls(0, 1, |_: &mut Ours, _| {
         keep_number(unsafe { ffi::plcn_version() }.into());
-        keep_number(node.head.state.into());
     });
     println!("{}", least(vec![empty], rounds)[0]);
+    for pair in over::pairs() {
+        let times = least((pair.cases)().into(), rounds);
+        println!("{} {}", times[0], times[1]);
+    }
     let [ours, theirs, without] = sides();
     for ((ours, theirs), without) in ours.iter().zip(&theirs).zip(&without) {
         let cases = [ours, theirs, without].map(|row| (row.case)());
@@ -96,6 +101,10 @@ pub fn all(options: &Options) -> Result<Times, String> {
             .map(|row| (row.name.clone(), row.work, [f64::INFINITY; 3]))
             .collect(),
         empty: f64::INFINITY,
+        over: over::pairs()
+            .into_iter()
+            .map(|pair| (pair.name, [f64::INFINITY; 2]))
+            .collect(),
     };
     for process in 1..=options.processes {
         eprintln!("bench: process {process} of {} measures", options.processes);
@@ -118,26 +127,27 @@ fn printed(rounds: u32) -> Result<String, String> {
     String::from_utf8(output.stdout).map_err(|error| error.to_string())
 }
 
+/// Takes what one process printed, a line for each of the numbers that it measured.
 fn take(times: &mut Times, printed: &str) -> Result<(), String> {
     let mut lines = printed.lines();
-    let wrong = || "a process that measures printed something else".to_string();
-    let first: f64 = lines
-        .next()
-        .and_then(|line| line.parse().ok())
-        .ok_or_else(wrong)?;
-    times.empty = times.empty.min(first);
+    take_line(std::slice::from_mut(&mut times.empty), lines.next())?;
+    for (_, least) in &mut times.over {
+        take_line(least, lines.next())?;
+    }
     for (_, _, least) in &mut times.rows {
-        let line = lines.next().ok_or_else(wrong)?;
-        let numbers: Vec<f64> = line
-            .split(' ')
-            .filter_map(|word| word.parse().ok())
-            .collect();
-        if numbers.len() != least.len() {
-            return Err(wrong());
-        }
-        for (least, now) in least.iter_mut().zip(numbers) {
-            *least = least.min(now);
-        }
+        take_line(least, lines.next())?;
+    }
+    Ok(())
+}
+
+fn take_line(least: &mut [f64], line: Option<&str>) -> Result<(), String> {
+    let words = line.unwrap_or("").split(' ');
+    let numbers: Vec<f64> = words.filter_map(|word| word.parse().ok()).collect();
+    if numbers.len() != least.len() {
+        return Err("a process that measures printed something else".to_string());
+    }
+    for (least, now) in least.iter_mut().zip(numbers) {
+        *least = least.min(now);
     }
     Ok(())
 }

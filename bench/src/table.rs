@@ -70,32 +70,69 @@ pub fn as_markdown(times: &Times) -> String {
     text
 }
 
+/// The calls over a run beside those over places of any length.
+pub fn over(times: &Times) -> String {
+    let mut text = format!(
+        "{:<42} {:>8} {:>8} {:>6}\n",
+        "call", "run ns", "over ns", "ratio"
+    );
+    for (name, [run, over]) in &times.over {
+        let ratio = over / run;
+        writeln!(text, "{name:<42} {run:>8.1} {over:>8.1} {ratio:>6.2}").expect("a text takes it");
+    }
+    text
+}
+
+/// The calls over places of any length, by how much more they cost.
+fn over_in_a_line(times: &Times) -> String {
+    let ratio = |(name, [run, over]): &(String, [f64; 2])| format!("{name} {:.2}", over / run);
+    let ratios: Vec<String> = times.over.iter().map(ratio).collect();
+    ratios.join("; ")
+}
+
+/// The part of a core, in percent, that the heads take whose calls take this long, in ns.
+fn part(of_a_cycle: f64) -> f64 {
+    100.0 * HEADS * of_a_cycle / CYCLE_NS
+}
+
 /// What is told beside the table, a line each.
 pub fn beside(times: &Times, facts: &Facts) -> String {
     let (deepest, call) = facts.deepest;
     let (itself, heap) = facts.theirs;
-    let of_a_cycle: f64 = OF_A_CYCLE.iter().map(|name| times.ours(name)).sum();
+    let cycle = |side| {
+        OF_A_CYCLE
+            .iter()
+            .map(|name| times.of(name, side))
+            .sum::<f64>()
+    };
     let code = facts
         .code
         .map_or("unknown".to_string(), |code| format!("{code} bytes"));
     [
         format!("- An empty call across the boundary: {:.1} ns.", times.empty),
         format!(
-            "- A head: {} bytes, and {} that are lent beside it. The Rust's node: {itself} bytes, \
-             and {heap} on the heap behind its start.",
+            "- A head: {} bytes, and {} lent beside it. The Rust's node: {itself} bytes, and {heap} \
+             on the heap behind its start.",
             facts.head, facts.lent
         ),
-        format!("- The deepest stack: {deepest} bytes, of the call {call}."),
-        format!("- The code of the archive: {code}."),
+        format!("- The deepest stack: {deepest} bytes, of {call}. The archive's code: {code}."),
         format!(
-            "- Forty heads at a cycle of 200 µs: {:.1} % of one core. In each cycle a head gets \
-             an SoC, a PReq and an SoA, a complete cycle and a tick with 8 watched nodes: \
-             {of_a_cycle:.0} ns.",
-            100.0 * HEADS * of_a_cycle / CYCLE_NS
+            "- Forty heads at a cycle of 200 µs: {:.1} % of one core; the Rust without a prefix \
+             {:.1} %. In each cycle a head gets an SoC, a PReq and an SoA, a complete cycle and a \
+             tick with 8 watched nodes: {:.0} ns.",
+            part(cycle(0)),
+            part(cycle(2)),
+            cycle(0)
         ),
     ]
     .map(|line| line + "\n")
     .concat()
+}
+
+/// What the page tells beside the table.
+pub fn beside_on_the_page(times: &Times, facts: &Facts) -> String {
+    let over = over_in_a_line(times);
+    beside(times, facts) + &format!("- Places of any length (`.._over`) over a run: {over}.\n")
 }
 
 /// The row of the same work whose ratio to the Rust without a prefix is the greatest.

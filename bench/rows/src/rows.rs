@@ -565,10 +565,13 @@ fn weigh_head<S: Side>() -> Vec<Row> {
     rows
 }
 
-/// A call on a fresh node that changes nothing, to be measured.
-pub fn calls<S: Side>(call: impl Fn(&mut S) + Copy + 'static) -> Box<dyn Case> {
-    let make = || S::start(NO_COUNT);
-    Box::new(Calls::new(make, 1, nothing, move |node: &mut S, _| {
-        call(node)
-    }))
+/// Calls that are made `phases` times, in turn, on a node that watches the nodes 1 to `number`, to
+/// be measured.
+pub fn calls<S: Side>(
+    number: usize,
+    phases: usize,
+    call: impl Fn(&mut S, usize) + Copy + 'static,
+) -> Box<dyn Case> {
+    let make = move || watching::<S>(number, TIMEOUT, HEARD);
+    Box::new(Calls::new(make, phases, nothing, call))
 }
