@@ -13,7 +13,7 @@ const OF_A_CYCLE: [&str; 5] = [
     "frame SoC",
     "frame PReq",
     "frame SoA",
-    "cycle complete, no level above 0",
+    "cycle complete, all levels 0",
     "tick, 8 watched, none late",
 ];
 
