@@ -105,9 +105,10 @@ fn main() -> ExitCode {
 }
 
 fn run(options: &Options) -> Result<(), String> {
+    // First, while the heap is as the program found it.
+    let facts = memory::facts();
     measure::check_alike()?;
     let times = measure::all(options)?;
-    let facts = memory::facts();
     println!("{}", table::as_text(&times));
     println!("{}", table::over(&times));
     print!("{}", table::beside(&times, &facts));

@@ -3,7 +3,7 @@
 
 use crate::ours::Ours;
 use crate::{Options, ffi, over};
-use rows::{Case, Measured, Row, Work, keep_number};
+use rows::{Case, Measured, Row, View, Work, keep_number};
 use std::process::{Command, Stdio};
 
 /// The times of a row, in ns: ours, the original, the original without a log prefix.
@@ -51,16 +51,26 @@ pub fn check_alike() -> Result<(), String> {
             }
             let (mine, yours) = ((ours.views)(), (theirs.views)());
             if mine != yours {
+                let before = differences(&mine.0, &yours.0);
+                let behind = differences(&mine.1, &yours.1);
                 let name = &ours.name;
                 return Err(format!(
-                    "the sides differ in the row '{name}'.\nours before: {:?}\nRust before: {:?}\n\
-                     ours after: {:?}\nRust after: {:?}",
-                    mine.0, yours.0, mine.1, yours.1
+                    "the sides differ in the row '{name}'.\nbefore its calls:\n{before}behind:\n{behind}"
                 ));
             }
         }
     }
     Ok(())
+}
+
+/// The fields in which two views differ, a line each.
+fn differences(ours: &View, theirs: &View) -> String {
+    let (ours, theirs) = (format!("{ours:#?}"), format!("{theirs:#?}"));
+    let lines = ours.lines().zip(theirs.lines());
+    let differ = lines.filter(|(ours, theirs)| ours != theirs);
+    differ
+        .map(|(ours, theirs)| format!("    ours {}  Rust {}\n", ours.trim(), theirs.trim()))
+        .collect()
 }
 
 /// One process: measures the rows, all sides in turn, and prints the least times, a row a line.
