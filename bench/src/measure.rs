@@ -55,7 +55,7 @@ pub fn check_alike() -> Result<(), String> {
                 let behind = differences(&mine.1, &yours.1);
                 let name = &ours.name;
                 return Err(format!(
-                    "the sides differ in the row '{name}'.\nbefore its calls:\n{before}behind:\n{behind}"
+                    "the sides differ in the row '{name}'.\nbefore:\n{before}behind:\n{behind}"
                 ));
             }
         }
