@@ -1,5 +1,7 @@
 pub mod Answers
 pub mod Entries
+pub mod Readings
 pub mod Runs
 pub mod Setups
 pub mod Texts
+pub mod Told

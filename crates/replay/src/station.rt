@@ -302,6 +302,6 @@ impl Station {
     pub fn machine(&self) -> CnNmtStateMachine
         ensures { result ≡ nmt_of self.now.head.node }
     {
-        nmt_of(&self.head.words())
+        nmt_of(self.head.node())
     }
 }

@@ -45,18 +45,18 @@ impl Display for Shown<'_> {
     ghost output = { λ x. Some (shown_text x) };
 
     fn fmt<W: fmt::Write>(&self, f: &mut fmt::Formatter<W>) -> fmt::Result {
-        let head = self.head.words();
+        let head = self.head.node();
         let places = self.head.places();
         write!(
             f,
             "{}{}{}{}{}{}{}{}",
-            HeadLines(self.style, &head),
-            QueueLine(queue_of(&head), self.queue),
-            HistoryLine(history_of(&head), self.history),
+            HeadLines(self.style, head),
+            QueueLine(queue_of(head), self.queue),
+            HistoryLine(history_of(head), self.history),
             RunLines(self.run, self.number),
-            CrossingLines(&head),
+            CrossingLines(head),
             DeskLine(self.desk),
-            ThresholdLine(&head),
+            ThresholdLine(head),
             RecipeLine(&places)
         )
     }

@@ -1,6 +1,7 @@
 -- Which of the plain weigh head's calls a value of `WeighCall` is, with the run that is lent, and
 -- what an answer says.
 -- Assumes nothing.
+use Rattle.std.specs.Prelude.{ℕ}
 use Rattle.std.specs.declared.result.Result.{Result}
 use Rattle.std.specs.declared.result.Result.TheVariants.{Ok, Err}
 use Rattle.types.specs.declared.refusals.Refusal.{Refusal}
@@ -33,3 +34,8 @@ Reply = Result WeighAnswer Refusal
 abbrev pub said : Reply → Answer
 said (Ok a) = says a
 said (Err r) = refused r
+
+-- what comes back from a weight, as the plain answer
+abbrev pub weight_said : Result ℕ Refusal → Answer
+weight_said (Ok g) = weight_answer g
+weight_said (Err r) = refused r

@@ -11,7 +11,7 @@ ghost use Rattle.watched.specs.Watched.{run};
 ghost use Rattle.head.specs.Words.{head_of};
 ghost use Rattle.node.specs.Steps.{tried};
 ghost use Rattle.weigh.specs.PlainWeigh.{load_tests, weight_told};
-ghost use Rattle.weigh.specs.WeighValues.{said};
+ghost use Rattle.weigh.specs.WeighValues.{said, weight_said};
 ghost use Rattle.weigh.specs.WeighHeld.{held};
 ghost use Rattle.weigh.specs.WeighMade.{blank, Made, Started};
 
@@ -143,7 +143,7 @@ impl WeighHead {
                 self.places = recipe.places();
                 Ok(WeighAnswer::Loaded)
             }
-            WeighCall::Weight(place) => self.weight(place),
+            WeighCall::Weight(place) => self.answer_weight(place),
         }
     }
 
@@ -172,11 +172,11 @@ impl WeighHead {
         state_at(&self.node)
     }
 
-    /// A copy of its node's words, to be read.
-    pub fn words(&self) -> Head
-        ensures { result ≡ self.now.node }
+    /// Its node's words, to be read.
+    pub fn node(&self) -> &Head
+        ensures { result.now ≡ self.now.node }
     {
-        self.node
+        &self.node
     }
 
     /// A copy of its places.
@@ -199,17 +199,29 @@ impl WeighHead {
         Ok(recipe)
     }
 
-    // The weight for a place.
-    fn weight(&self, place: usize) -> Result<WeighAnswer, Refusal>
-        ensures { said result ≡
+    /// The weight for a place, from 0, in grams. Refused by NoWeight outside Operational, and where
+    /// the recipe has no such place.
+    pub fn weight(&self, place: usize) -> Result<u16, Refusal>
+        ensures { weight_said result ≡
             weight_told (head_of self.now.node).nmt.current_state self.now.places place }
     {
         if self.state() != NmtState::NmtOperational {
             return Err(Refusal::NoWeight);
         }
         match self.places.get(place) {
-            Some(component) if component.bin != 0 => Ok(WeighAnswer::Weight(component.grams)),
+            Some(component) if component.bin != 0 => Ok(component.grams),
             _ => Err(Refusal::NoWeight),
+        }
+    }
+
+    // The weight for a place, as an answer.
+    fn answer_weight(&self, place: usize) -> Result<WeighAnswer, Refusal>
+        ensures { said result ≡
+            weight_told (head_of self.now.node).nmt.current_state self.now.places place }
+    {
+        match self.weight(place) {
+            Ok(grams) => Ok(WeighAnswer::Weight(grams)),
+            Err(refusal) => Err(refusal),
         }
     }
 }

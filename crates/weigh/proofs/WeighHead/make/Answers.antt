@@ -28,7 +28,7 @@ returns-else-tells_reset-clause-made g c =
     c.in_ok-answer-in-Node.ensures.made
 
 pub returns-in-Weight-clause-made : goal.returns-in-Weight-clause-made
-returns-in-Weight-clause-made g c = weight_done c.in-Weight.place c.in-Weight.is c.weight.ensures
+returns-in-Weight-clause-made g c = weight_done c.in-Weight.place c.in-Weight.is c.answer_weight.ensures
 
 pub returns-in_err-recipe-in-LoadRecipe-clause-made : goal.returns-in_err-recipe-in-LoadRecipe-clause-made
 returns-in_err-recipe-in-LoadRecipe-clause-made g c =
