@@ -1,6 +1,6 @@
 -- What C is given for an answer of the library.
 -- Assumes nothing.
-use Rattle.std.specs.Prelude.{ℕ, ℤ, ◌≡◌, Bool, true, false, [], ◌∷◌}
+use Rattle.std.specs.Prelude.{ℕ, ℤ, ◌≡◌, Bool, [], ◌∷◌}
 use Rattle.std.specs.declared.result.Result.{Result}
 use Rattle.std.specs.declared.result.Result.TheVariants.{Ok, Err}
 use Rattle.std.specs.declared.option.Option.{Option}
@@ -8,7 +8,6 @@ use Rattle.std.specs.declared.option.Option.TheVariants as option
 use Rattle.types.specs.Errors.{error_kind_of, action_number}
 use Rattle.types.specs.Refusals.{refusal_number}
 use Rattle.types.specs.declared.refusals.Refusal.{Refusal}
-use Rattle.types.specs.declared.types.NodeId.{NodeId}
 use Rattle.types.specs.declared.frame.error.types.NmtAction.{NmtAction}
 use Rattle.types.specs.declared.frame.error.types.NmtAction.TheVariants as action
 use Rattle.types.specs.declared.frame.error.types.DllError.{DllError}
@@ -22,7 +21,6 @@ use Rattle.counters.specs.declared.counters.ErrorTaken.{ErrorTaken}
 use Rattle.node.specs.declared.calls.NmtTaken.{NmtTaken}
 use Rattle.node.specs.declared.range.SocVerdict.{SocVerdict}
 use Rattle.node.specs.declared.range.SocVerdict.TheVariants.{Lost, Kept, Open}
-use Rattle.reception.specs.declared.FrameTaken.{FrameTaken}
 use Rattle.reception.specs.declared.FrameAnswer.{FrameAnswer}
 use Rattle.reception.specs.declared.FrameAnswer.TheVariants.{NotOurs, Ours}
 use Rattle.powerlink_cn.specs.declared.answers.PlcnError.{PlcnError}

@@ -5,3 +5,4 @@ pub mod Runs
 pub mod Setups
 pub mod Texts
 pub mod Told
+pub mod Unpacked

@@ -3,10 +3,7 @@
 -- Assumes nothing.
 use Rattle.std.specs.declared.result.Result.{Result}
 use Rattle.std.specs.declared.result.Result.TheVariants.{Ok, Err}
-use Rattle.std.specs.declared.option.Option.{Option}
-use Rattle.std.specs.declared.option.Option.TheVariants.{Some, None}
 use Rattle.types.specs.declared.refusals.Refusal.{Refusal}
-use Rattle.types.specs.declared.frame.error.types.DllErrors.{DllErrors}
 use Rattle.calling.specs.declared.Answer.{Answer}
 use Rattle.calling.specs.declared.Answer.TheVariants.{Taken, Nmt, Dll, Error, Cycle, HandedOut, Tick, Range, Margin, Due, Frame}
 use Rattle.weigh.specs.declared.WeighAnswer.{WeighAnswer}

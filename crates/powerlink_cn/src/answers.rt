@@ -333,6 +333,6 @@ pub fn send<T, C: From<T> + Drop>(answer: Result<T, Refusal>, out: &mut C) -> u3
             *out = C::from(taken);
             0
         }
-        Err(refusal) => u32::from(refusal.number()),
+        Err(refusal) => number_of(Err(refusal)),
     }
 }

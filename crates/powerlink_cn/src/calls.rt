@@ -45,9 +45,7 @@ use crate::setup::{PlcnSetup, PlcnUpdate};
 use due::words::next_due;
 use entries::sizes::{HistoryBytes, QueueBytes};
 use head::state::Head;
-use node::calls::{
-    arm, dll_event, hand_out, handle_error, nmt_event, on_cycle_complete, withdraw,
-};
+use node::calls::{arm, dll_event, hand_out, handle_error, nmt_event, on_cycle_complete, withdraw};
 use node::heard::heard;
 use node::load::load;
 use node::range::{soc_margin, soc_range};
@@ -61,7 +59,7 @@ use tick::tick::process_tick;
 pub extern "C" fn plcn_start(head: &mut Head, run: &mut PlcnRun, setup: &PlcnSetup) -> u32
     ensures made { (r : Result (Unit {0}) Refusal) ×
         StartedIn head.old run.old.place run.old.number (setup_of setup.now) r
-            head.new run.new.place ×
+        head.new run.new.place ×
         (result ≡ number_of r) }
     ensures number { run.new.number ≡ run.old.number }
 {
@@ -73,7 +71,7 @@ pub extern "C" fn plcn_start(head: &mut Head, run: &mut PlcnRun, setup: &PlcnSet
 pub extern "C" fn plcn_nmt_event(head: &mut Head, event: u64, answer: &mut PlcnNmtAnswer) -> u32
     ensures { (r : Result NmtTaken Refusal) ×
         InPlace head.old (Call.nmt_event event) (nmt_said r)
-            head.new (nmt_words head.old (read_event event)) ×
+        head.new (nmt_words head.old (read_event event)) ×
         (result ≡ number_of r) × (answer.new ≡ sent c_nmt r answer.old) }
 {
     send(nmt_event(head, event), answer)
@@ -89,7 +87,7 @@ pub extern "C" fn plcn_dll_event(
 ) -> u32
     ensures { (r : Result DllErrors Refusal) ×
         InPlace head.old (Call.dll_event event (flag expect_preq)) (dll_said r)
-            head.new (dll_words head.old (flag expect_preq) (read_cs_event event)) ×
+        head.new (dll_words head.old (flag expect_preq) (read_cs_event event)) ×
         (result ≡ number_of r) × (errors.new ≡ sent c_errors r errors.old) }
 {
     send(dll_event(head, event, expect_preq != 0), errors)
@@ -106,7 +104,7 @@ pub extern "C" fn plcn_handle_error(
 ) -> u32
     ensures { (r : Result ErrorTaken Refusal) ×
         InPlace head.old (Call.error kind a b) (error_said r)
-            head.new (error_words head.old (read_error kind a b)) ×
+        head.new (error_words head.old (read_error kind a b)) ×
         (result ≡ number_of r) × (answer.new ≡ sent c_taken r answer.old) }
 {
     send(handle_error(head, kind, a, b), answer)
@@ -117,7 +115,7 @@ pub extern "C" fn plcn_handle_error(
 pub extern "C" fn plcn_cycle_complete(head: &mut Head, answer: &mut PlcnCycleAnswer) -> u32
     ensures made { (cleared : Bool) ×
         InPlace head.old Call.cycle_complete (cycle_answer cleared)
-            head.new (cycle_words head.old) ×
+        head.new (cycle_words head.old) ×
         (answer.new ≡ c_cycle cleared) }
     ensures taken { result ≡ 0 }
 {
@@ -201,18 +199,11 @@ pub extern "C" fn plcn_tick(
 ) -> u32
     ensures made { (r : Result DllErrors Refusal) ×
         TickedIn head.old queue.old history.old run.old.place run.old.number time_us r
-            head.new queue.new history.new run.new.place ×
+        head.new queue.new history.new run.new.place ×
         (result ≡ number_of r) × (logged.new ≡ sent c_errors r logged.old) }
     ensures number { run.new.number ≡ run.old.number }
 {
-    let answer = process_tick(
-        head,
-        queue,
-        history,
-        &mut run.place,
-        run.number,
-        time_us,
-    );
+    let answer = process_tick(head, queue, history, &mut run.place, run.number, time_us);
     send(answer, logged)
 }
 
@@ -246,7 +237,7 @@ pub extern "C" fn plcn_margin(head: &Head, time_us: u64, answer: &mut PlcnMargin
 pub extern "C" fn plcn_add(head: &mut Head, run: &mut PlcnRun, node: u8, timeout_us: u64) -> u32
     ensures { (r : Result (Unit {0}) Refusal) ×
         Added head.old run.old.place run.old.number node timeout_us r
-            head.new run.new.place run.new.number ×
+        head.new run.new.place run.new.number ×
         (result ≡ number_of r) }
 {
     number_of(add(head, &mut run.place, &mut run.number, node, timeout_us))
@@ -257,7 +248,7 @@ pub extern "C" fn plcn_add(head: &mut Head, run: &mut PlcnRun, node: u8, timeout
 pub extern "C" fn plcn_remove(head: &mut Head, run: &mut PlcnRun, node: u8) -> u32
     ensures { (r : Result (Unit {0}) Refusal) ×
         Removed head.old run.old.place run.old.number node r
-            head.new run.new.place run.new.number ×
+        head.new run.new.place run.new.number ×
         (result ≡ number_of r) }
 {
     number_of(remove(head, &mut run.place, &mut run.number, node))
@@ -284,11 +275,8 @@ pub extern "C" fn plcn_frame(
 ) -> u32
     ensures { (r : Result FrameAnswer Refusal) ×
         FrameIn head.old queue.old history.old time_us bytes.now r
-            head.new queue.new history.new ×
+        head.new queue.new history.new ×
         (result ≡ number_of r) × (answer.new ≡ sent c_frame r answer.old) }
 {
-    send(
-        process_frame(head, queue, history, time_us, bytes),
-        answer,
-    )
+    send(process_frame(head, queue, history, time_us, bytes), answer)
 }

@@ -13,6 +13,6 @@ pub mod readings;
 pub mod run;
 pub mod setup;
 pub mod text;
-// pub mod unpacked;
 pub mod told;
+pub mod unpacked;
 pub mod weighing;

@@ -93,10 +93,13 @@ pub extern "C" fn plcn_weigh_nmt_event(
 ) -> u32
     ensures { (o : Reply) ×
         Made (held_in weigh.old memory.old) (weigh_call.Node (call.NmtEvent event)) o
-            (held_in weigh.new memory.new) ×
+        (held_in weigh.new memory.new) ×
         (result ≡ number_of o) × (answer.new ≡ nmt_told o answer.old) }
 {
-    nmt_told(make(weigh, memory, WeighCall::Node(Call::NmtEvent(event))), answer)
+    nmt_told(
+        make(weigh, memory, WeighCall::Node(Call::NmtEvent(event))),
+        answer,
+    )
 }
 
 /// A DLL event on its node (`Call::DllEvent`).
@@ -110,10 +113,20 @@ pub extern "C" fn plcn_weigh_dll_event(
 ) -> u32
     ensures { (o : Reply) ×
         Made (held_in weigh.old memory.old) (weigh_call.Node (call.DllEvent event (flag expect_preq))) o
-            (held_in weigh.new memory.new) ×
+        (held_in weigh.new memory.new) ×
         (result ≡ number_of o) × (errors.new ≡ errors_told o errors.old) }
 {
-    errors_told(make(weigh, memory, WeighCall::Node(Call::DllEvent { event, expect_preq: expect_preq != 0 })), errors)
+    errors_told(
+        make(
+            weigh,
+            memory,
+            WeighCall::Node(Call::DllEvent {
+                event,
+                expect_preq: expect_preq != 0,
+            }),
+        ),
+        errors,
+    )
 }
 
 /// An error for the counters of its node (`Call::Error`).
@@ -128,10 +141,13 @@ pub extern "C" fn plcn_weigh_handle_error(
 ) -> u32
     ensures { (o : Reply) ×
         Made (held_in weigh.old memory.old) (weigh_call.Node (call.Error kind a b)) o
-            (held_in weigh.new memory.new) ×
+        (held_in weigh.new memory.new) ×
         (result ≡ number_of o) × (answer.new ≡ error_told o answer.old) }
 {
-    error_told(make(weigh, memory, WeighCall::Node(Call::Error { kind, a, b })), answer)
+    error_told(
+        make(weigh, memory, WeighCall::Node(Call::Error { kind, a, b })),
+        answer,
+    )
 }
 
 /// A complete cycle (`Call::CycleComplete`).
@@ -143,10 +159,13 @@ pub extern "C" fn plcn_weigh_cycle_complete(
 ) -> u32
     ensures { (o : Reply) ×
         Made (held_in weigh.old memory.old) (weigh_call.Node call.CycleComplete) o
-            (held_in weigh.new memory.new) ×
+        (held_in weigh.new memory.new) ×
         (result ≡ number_of o) × (answer.new ≡ cycle_told o answer.old) }
 {
-    cycle_told(make(weigh, memory, WeighCall::Node(Call::CycleComplete)), answer)
+    cycle_told(
+        make(weigh, memory, WeighCall::Node(Call::CycleComplete)),
+        answer,
+    )
 }
 
 /// The ready word is withdrawn (`Call::Withdraw`).
@@ -154,7 +173,7 @@ pub extern "C" fn plcn_weigh_cycle_complete(
 pub extern "C" fn plcn_weigh_withdraw(weigh: &mut WeighHead, memory: &mut PlcnMemory) -> u32
     ensures { (o : Reply) ×
         Made (held_in weigh.old memory.old) (weigh_call.Node call.Withdraw) o
-            (held_in weigh.new memory.new) ×
+        (held_in weigh.new memory.new) ×
         (result ≡ number_of o) }
 {
     number_told(make(weigh, memory, WeighCall::Node(Call::Withdraw)))
@@ -170,10 +189,17 @@ pub extern "C" fn plcn_weigh_heard(
 ) -> u32
     ensures { (o : Reply) ×
         Made (held_in weigh.old memory.old) (weigh_call.Node (call.Heard node time_us)) o
-            (held_in weigh.new memory.new) ×
+        (held_in weigh.new memory.new) ×
         (result ≡ number_of o) }
 {
-    number_told(make(weigh, memory, WeighCall::Node(Call::Heard { node, time: time_us })))
+    number_told(make(
+        weigh,
+        memory,
+        WeighCall::Node(Call::Heard {
+            node,
+            time: time_us,
+        }),
+    ))
 }
 
 /// The oldest entry leaves the queue (`Call::HandOut`).
@@ -185,7 +211,7 @@ pub extern "C" fn plcn_weigh_hand_out(
 ) -> u32
     ensures { (o : Reply) ×
         Made (held_in weigh.old memory.old) (weigh_call.Node call.HandOut) o
-            (held_in weigh.new memory.new) ×
+        (held_in weigh.new memory.new) ×
         (result ≡ number_of o) × (answer.new ≡ handed_out_told o answer.old) }
 {
     handed_out_told(make(weigh, memory, WeighCall::Node(Call::HandOut)), answer)
@@ -202,8 +228,8 @@ pub extern "C" fn plcn_weigh_load(
     ensures { (o : Reply) ×
         ((h : Option (Bor (List ℕ))) × (bytes_named h ≡ history_of update.now entries.now) ×
         Made (held_in weigh.old memory.old)
-            (weigh_call.Node (call.Load (update_of update.now) h)) o
-            (held_in weigh.new memory.new)) ×
+        (weigh_call.Node (call.Load (update_of update.now) h)) o
+        (held_in weigh.new memory.new)) ×
         (result ≡ number_of o) }
 {
     let call = Call::Load {
@@ -222,7 +248,7 @@ pub extern "C" fn plcn_weigh_arm(
 ) -> u32
     ensures { (o : Reply) ×
         Made (held_in weigh.old memory.old) (weigh_call.Node (call.Arm time_us)) o
-            (held_in weigh.new memory.new) ×
+        (held_in weigh.new memory.new) ×
         (result ≡ number_of o) }
 {
     number_told(make(weigh, memory, WeighCall::Node(Call::Arm(time_us))))
@@ -238,10 +264,13 @@ pub extern "C" fn plcn_weigh_tick(
 ) -> u32
     ensures { (o : Reply) ×
         Made (held_in weigh.old memory.old) (weigh_call.Node (call.Tick time_us)) o
-            (held_in weigh.new memory.new) ×
+        (held_in weigh.new memory.new) ×
         (result ≡ number_of o) × (logged.new ≡ errors_told o logged.old) }
 {
-    errors_told(make(weigh, memory, WeighCall::Node(Call::Tick(time_us))), logged)
+    errors_told(
+        make(weigh, memory, WeighCall::Node(Call::Tick(time_us))),
+        logged,
+    )
 }
 
 /// A node is watched from now on (`Call::Add`).
@@ -254,22 +283,25 @@ pub extern "C" fn plcn_weigh_add(
 ) -> u32
     ensures { (o : Reply) ×
         Made (held_in weigh.old memory.old) (weigh_call.Node (call.Add node timeout_us)) o
-            (held_in weigh.new memory.new) ×
+        (held_in weigh.new memory.new) ×
         (result ≡ number_of o) }
 {
-    number_told(make(weigh, memory, WeighCall::Node(Call::Add { node, timeout: timeout_us })))
+    number_told(make(
+        weigh,
+        memory,
+        WeighCall::Node(Call::Add {
+            node,
+            timeout: timeout_us,
+        }),
+    ))
 }
 
 /// A node is watched no more (`Call::Remove`).
 #[unsafe(no_mangle)]
-pub extern "C" fn plcn_weigh_remove(
-    weigh: &mut WeighHead,
-    memory: &mut PlcnMemory,
-    node: u8,
-) -> u32
+pub extern "C" fn plcn_weigh_remove(weigh: &mut WeighHead, memory: &mut PlcnMemory, node: u8) -> u32
     ensures { (o : Reply) ×
         Made (held_in weigh.old memory.old) (weigh_call.Node (call.Remove node)) o
-            (held_in weigh.new memory.new) ×
+        (held_in weigh.new memory.new) ×
         (result ≡ number_of o) }
 {
     number_told(make(weigh, memory, WeighCall::Node(Call::Remove(node))))
@@ -286,10 +318,20 @@ pub extern "C" fn plcn_weigh_frame(
 ) -> u32
     ensures { (o : Reply) ×
         Made (held_in weigh.old memory.old) (weigh_call.Node (call.Frame time_us bytes.entry)) o
-            (held_in weigh.new memory.new) ×
+        (held_in weigh.new memory.new) ×
         (result ≡ number_of o) × (answer.new ≡ frame_told o answer.old) }
 {
-    frame_told(make(weigh, memory, WeighCall::Node(Call::Frame { time: time_us, bytes })), answer)
+    frame_told(
+        make(
+            weigh,
+            memory,
+            WeighCall::Node(Call::Frame {
+                time: time_us,
+                bytes,
+            }),
+        ),
+        answer,
+    )
 }
 
 /// A recipe is loaded (`WeighCall::LoadRecipe`).
@@ -301,7 +343,7 @@ pub extern "C" fn plcn_weigh_load_recipe(
 ) -> u32
     ensures { (o : Reply) ×
         Made (held_in weigh.old memory.old) (weigh_call.LoadRecipe components.entry) o
-            (held_in weigh.new memory.new) ×
+        (held_in weigh.new memory.new) ×
         (result ≡ number_of o) }
 {
     number_told(make(weigh, memory, WeighCall::LoadRecipe(components)))
@@ -310,9 +352,9 @@ pub extern "C" fn plcn_weigh_load_recipe(
 /// The weight for a place (`WeighHead::weight`), with its refusal.
 #[unsafe(no_mangle)]
 pub extern "C" fn plcn_weigh_weight(weigh: &WeighHead, place: u64, grams: &mut u16) -> u32
-    ensures { (r : Result ℕ Refusal) × 
+    ensures { (r : Result ℕ Refusal) ×
         (weight_said r ≡ weight_told (head_of weigh.now.node).nmt.current_state
-            weigh.now.places place) ×
+        weigh.now.places place) ×
         (result ≡ number_of r) × (grams.new ≡ sent (λ g. g) r grams.old) }
 {
     match weigh.weight(place as usize) {
