@@ -2,11 +2,16 @@
 //! call on the original Rust. docs/PERFORMANCE.md says how it is measured.
 
 mod document;
+#[cfg_attr(not(has_over), allow(dead_code))]
 mod ffi;
 mod figure;
 mod measure;
 mod memory;
 mod ours;
+#[cfg(has_over)]
+mod over;
+#[cfg(not(has_over))]
+#[path = "no_over.rs"]
 mod over;
 mod stack;
 mod table;
@@ -110,7 +115,7 @@ fn run(options: &Options) -> Result<(), String> {
     measure::check_alike()?;
     let times = measure::all(options)?;
     println!("{}", table::as_text(&times));
-    println!("{}", table::over(&times));
+    print!("{}", table::over(&times));
     print!("{}", table::beside(&times, &facts));
     if let Some(folder) = &options.store {
         document::store(folder, &times, &facts)?;

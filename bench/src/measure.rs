@@ -73,12 +73,21 @@ fn differences(ours: &View, theirs: &View) -> String {
         .collect()
 }
 
+/// Empty calls. Where the loop stands in memory changes its time, so there are some of them.
+fn empty<const PLACE: u64>() -> Box<dyn Case> {
+    rows::calls(0, 1, |_: &mut Ours, _| {
+        keep_number(unsafe { ffi::plcn_version() }.into());
+        keep_number(PLACE);
+    })
+}
+
 /// One process: measures the rows, all sides in turn, and prints the least times, a row a line.
 pub fn once(rounds: u32) {
-    let empty = rows::calls(0, 1, |_: &mut Ours, _| {
-        keep_number(unsafe { ffi::plcn_version() }.into());
-    });
-    println!("{}", least(vec![empty], rounds)[0]);
+    let empty = least(
+        vec![empty::<0>(), empty::<1>(), empty::<2>(), empty::<3>()],
+        rounds,
+    );
+    println!("{}", empty.into_iter().fold(f64::INFINITY, f64::min));
     for pair in over::pairs() {
         let times = least((pair.cases)().into(), rounds);
         println!("{} {}", times[0], times[1]);

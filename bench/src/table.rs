@@ -72,6 +72,9 @@ pub fn as_markdown(times: &Times) -> String {
 
 /// The calls over a run beside those over places of any length.
 pub fn over(times: &Times) -> String {
+    if times.over.is_empty() {
+        return String::new();
+    }
     let mut text = format!(
         "{:<42} {:>8} {:>8} {:>6}\n",
         "call", "run ns", "over ns", "ratio"
@@ -80,7 +83,7 @@ pub fn over(times: &Times) -> String {
         let ratio = over / run;
         writeln!(text, "{name:<42} {run:>8.1} {over:>8.1} {ratio:>6.2}").expect("a text takes it");
     }
-    text
+    text + "\n"
 }
 
 /// The calls over places of any length, by how much more they cost.
@@ -131,8 +134,13 @@ pub fn beside(times: &Times, facts: &Facts) -> String {
 
 /// What the page tells beside the table.
 pub fn beside_on_the_page(times: &Times, facts: &Facts) -> String {
-    let over = over_in_a_line(times);
-    beside(times, facts) + &format!("- Places of any length (`.._over`) over a run: {over}.\n")
+    let mut text = beside(times, facts);
+    if !times.over.is_empty() {
+        let over = over_in_a_line(times);
+        let line = format!("- Places of any length (`.._over`) over a run: {over}.\n");
+        text.push_str(&line);
+    }
+    text
 }
 
 /// The row of the same work whose ratio to the Rust without a prefix is the greatest.
