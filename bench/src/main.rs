@@ -16,6 +16,7 @@ mod over;
 mod stack;
 mod table;
 
+use std::io::Write;
 use std::path::PathBuf;
 use std::process::ExitCode;
 
@@ -86,7 +87,9 @@ fn main() -> ExitCode {
             return ExitCode::SUCCESS;
         }
         Ok(Asked::Version) => {
-            println!("{}", unsafe { ffi::plcn_version() });
+            let version = unsafe { ffi::plcn_version() };
+            let (major, minor, patch) = (version / 10_000, version / 100 % 100, version % 100);
+            println!("powerlink_cn {major}.{minor}.{patch}");
             return ExitCode::SUCCESS;
         }
         Err(message) => {
@@ -94,13 +97,12 @@ fn main() -> ExitCode {
             return ExitCode::from(2);
         }
     };
-    let done = if options.once {
-        measure::once(options.rounds);
-        Ok(())
+    let text = if options.once {
+        Ok(measure::once(options.rounds))
     } else {
         run(&options)
     };
-    match done {
+    match text.and_then(print) {
         Ok(()) => ExitCode::SUCCESS,
         Err(message) => {
             eprintln!("bench: {message}");
@@ -109,17 +111,25 @@ fn main() -> ExitCode {
     }
 }
 
-fn run(options: &Options) -> Result<(), String> {
+fn print(text: String) -> Result<(), String> {
+    let written = std::io::stdout().write_all(text.as_bytes());
+    written.map_err(|error| format!("the output can't be written: {error}"))
+}
+
+/// What is printed.
+fn run(options: &Options) -> Result<String, String> {
     // First, while the heap is as the program found it.
     let facts = memory::facts();
     measure::check_alike()?;
     let times = measure::all(options)?;
-    println!("{}", table::as_text(&times));
-    print!("{}", table::over(&times));
-    print!("{}", table::beside(&times, &facts));
     if let Some(folder) = &options.store {
         document::store(folder, &times, &facts)?;
     }
-    println!("{}", table::worst(&times));
-    Ok(())
+    Ok([
+        table::as_text(&times),
+        table::over(&times),
+        table::beside(&times, &facts),
+        table::worst(&times) + "\n",
+    ]
+    .concat())
 }

@@ -81,23 +81,29 @@ fn empty<const PLACE: u64>() -> Box<dyn Case> {
     })
 }
 
-/// One process: measures the rows, all sides in turn, and prints the least times, a row a line.
-pub fn once(rounds: u32) {
+/// One process: measures the rows, all sides in turn; the least times, a row a line.
+pub fn once(rounds: u32) -> String {
     let empty = least(
         vec![empty::<0>(), empty::<1>(), empty::<2>(), empty::<3>()],
         rounds,
     );
-    println!("{}", empty.into_iter().fold(f64::INFINITY, f64::min));
+    let empty = empty.into_iter().fold(f64::INFINITY, f64::min);
+    let mut lines = vec![vec![empty]];
     for pair in over::pairs() {
-        let times = least((pair.cases)().into(), rounds);
-        println!("{} {}", times[0], times[1]);
+        lines.push(least((pair.cases)().into(), rounds));
     }
     let [ours, theirs, without] = sides();
     for ((ours, theirs), without) in ours.iter().zip(&theirs).zip(&without) {
         let cases = [ours, theirs, without].map(|row| (row.case)());
-        let times = least(cases.into(), rounds);
-        println!("{} {} {}", times[0], times[1], times[2]);
+        lines.push(least(cases.into(), rounds));
     }
+    lines.into_iter().map(line).collect()
+}
+
+/// A line of numbers.
+fn line(numbers: Vec<f64>) -> String {
+    let words: Vec<String> = numbers.iter().map(f64::to_string).collect();
+    words.join(" ") + "\n"
 }
 
 /// The least time of each case, measured in turn.

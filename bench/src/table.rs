@@ -55,7 +55,7 @@ pub fn as_text(times: &Times) -> String {
         let line = format!("{name:<42} {ours:>8} {theirs:>8} {ratio:>6} {without:>15} {bar:>6}");
         writeln!(text, "{line}").expect("a text takes it");
     }
-    text
+    text + "\n"
 }
 
 pub fn as_markdown(times: &Times) -> String {
