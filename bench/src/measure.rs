@@ -81,65 +81,66 @@ fn empty<const PLACE: u64>() -> Box<dyn Case> {
     })
 }
 
-/// One process: measures the rows, all sides in turn; the least times, a row a line.
+/// One process: measures all cases, those of a row in turn; a line for each, of its two times.
 pub fn once(rounds: u32) -> String {
-    let empty = least(
-        vec![empty::<0>(), empty::<1>(), empty::<2>(), empty::<3>()],
-        rounds,
-    );
-    let empty = empty.into_iter().fold(f64::INFINITY, f64::min);
-    let mut lines = vec![vec![empty]];
+    let mut text = String::new();
+    let mut measure = |mut cases: Vec<Box<dyn Case>>| {
+        let mut least = vec![Measured::NONE; cases.len()];
+        for _ in 0..rounds {
+            for (case, least) in cases.iter_mut().zip(&mut least) {
+                *least = least.least(case.measure());
+            }
+        }
+        for Measured { both, prepared } in least {
+            text += &format!("{both} {prepared}\n");
+        }
+    };
+    measure(vec![empty::<0>(), empty::<1>(), empty::<2>(), empty::<3>()]);
     for pair in over::pairs() {
-        lines.push(least((pair.cases)().into(), rounds));
+        measure((pair.cases)().into());
     }
     let [ours, theirs, without] = sides();
     for ((ours, theirs), without) in ours.iter().zip(&theirs).zip(&without) {
-        let cases = [ours, theirs, without].map(|row| (row.case)());
-        lines.push(least(cases.into(), rounds));
+        measure([ours, theirs, without].map(|row| (row.case)()).into());
     }
-    lines.into_iter().map(line).collect()
+    text
 }
 
-/// A line of numbers.
-fn line(numbers: Vec<f64>) -> String {
-    let words: Vec<String> = numbers.iter().map(f64::to_string).collect();
-    words.join(" ") + "\n"
-}
-
-/// The least time of each case, measured in turn.
-fn least(mut cases: Vec<Box<dyn Case>>, rounds: u32) -> Vec<f64> {
-    let mut least = vec![Measured::NONE; cases.len()];
-    for _ in 0..rounds {
-        for (case, least) in cases.iter_mut().zip(&mut least) {
-            *least = least.least(case.measure());
-        }
-    }
-    least.into_iter().map(Measured::call).collect()
-}
-
-/// All processes: the least time of each row.
+/// All processes: the least times of all of them.
 pub fn all(options: &Options) -> Result<Times, String> {
-    let rows = rows::rows::<Ours>();
-    let mut times = Times {
-        rows: rows
-            .iter()
-            .map(|row| (row.name.clone(), row.work, [f64::INFINITY; 3]))
-            .collect(),
-        empty: f64::INFINITY,
-        over: over::pairs()
-            .into_iter()
-            .map(|pair| (pair.name, [f64::INFINITY; 2]))
-            .collect(),
-    };
+    let mut least: Vec<Measured> = Vec::new();
     for process in 1..=options.processes {
         eprintln!("bench: process {process} of {} measures", options.processes);
-        take(&mut times, &printed(options.rounds)?)?;
+        let now = printed(options.rounds)?;
+        if least.is_empty() {
+            least = now;
+        } else {
+            least = least
+                .into_iter()
+                .zip(now)
+                .map(|(one, other)| one.least(other))
+                .collect();
+        }
     }
-    Ok(times)
+    let mut calls = least.into_iter().map(Measured::call);
+    let mut next = || calls.next().expect("a process measures every case");
+    Ok(Times {
+        empty: [next(), next(), next(), next()]
+            .into_iter()
+            .fold(f64::INFINITY, f64::min),
+        over: over::pairs()
+            .into_iter()
+            .map(|pair| (pair.name, [next(), next()]))
+            .collect(),
+        rows: rows::rows::<Ours>()
+            .into_iter()
+            .map(|row| (row.name, row.work, [next(), next(), next()]))
+            .collect(),
+    })
 }
 
-/// What one process prints.
-fn printed(rounds: u32) -> Result<String, String> {
+/// What one process measured.
+fn printed(rounds: u32) -> Result<Vec<Measured>, String> {
     let program = std::env::current_exe().map_err(|error| format!("where it stands: {error}"))?;
     let output = Command::new(program)
         .args(["--once", "--rounds", &rounds.to_string()])
@@ -149,30 +150,14 @@ fn printed(rounds: u32) -> Result<String, String> {
     if !output.status.success() {
         return Err("a process that measures failed".to_string());
     }
-    String::from_utf8(output.stdout).map_err(|error| error.to_string())
-}
-
-/// Takes what one process printed, a line for each of the numbers that it measured.
-fn take(times: &mut Times, printed: &str) -> Result<(), String> {
-    let mut lines = printed.lines();
-    take_line(std::slice::from_mut(&mut times.empty), lines.next())?;
-    for (_, least) in &mut times.over {
-        take_line(least, lines.next())?;
-    }
-    for (_, _, least) in &mut times.rows {
-        take_line(least, lines.next())?;
-    }
-    Ok(())
-}
-
-fn take_line(least: &mut [f64], line: Option<&str>) -> Result<(), String> {
-    let words = line.unwrap_or("").split(' ');
-    let numbers: Vec<f64> = words.filter_map(|word| word.parse().ok()).collect();
-    if numbers.len() != least.len() {
-        return Err("a process that measures printed something else".to_string());
-    }
-    for (least, now) in least.iter_mut().zip(numbers) {
-        *least = least.min(now);
-    }
-    Ok(())
+    let text = String::from_utf8_lossy(&output.stdout);
+    let measured = |line: &str| {
+        let (both, prepared) = line.split_once(' ')?;
+        Some(Measured {
+            both: both.parse().ok()?,
+            prepared: prepared.parse().ok()?,
+        })
+    };
+    let times: Option<Vec<Measured>> = text.lines().map(measured).collect();
+    times.ok_or("a process that measures printed something else".to_string())
 }
