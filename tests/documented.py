@@ -1,5 +1,5 @@
 #!/usr/bin/env python3
-"""The code and the definitions of the crates below are documented, and their lines fit.
+"""The code and the definitions of all crates are documented, and their lines fit.
 
   - each file of src/ begins with `//!`
   - each item that is `pub`, and each conversion (`From`, `TryFrom`), has a `///` above it; attributes may stand between
@@ -11,10 +11,8 @@ import pathlib
 import re
 import sys
 
-CRATES = """types nmt dll counters entries frames head watched bitmap node partners start phases heartbeats tick reception
-due lentlaws lent calling recipes weigh trace dosing forms shift shiftreport reach positions readings transitions
-counting entry_bytes chart examples script telling replay""".split()
 ROOT = pathlib.Path(__file__).resolve().parent.parent
+CRATES = re.findall(r"^(\w+)(?: staticlib)?:", (ROOT / "crates.txt").read_text(), re.M)
 ITEM = re.compile(r'^ *pub(?:\(crate\))? (?:const |static |extern "C" )*(?:fn|struct|enum|trait|type|(?=[A-Z_]+:)) ?(\w+)')
 CONVERSION = re.compile(r'^ *impl\b.*\b(?:Try)?From<.* for (\w+)')
 DEFINITION = re.compile(r'^ *(?:(?:abbrev|unfoldable) pub|pub (?:record|data)) (\S+)')

@@ -9,7 +9,9 @@ use lib.ListN.{length}
 use Rattle.std.specs.Prelude.{is_some}
 use Rattle.std.specs.declared.option.Option.{Option}
 use Rattle.std.specs.declared.option.Option.TheVariants.{Some, None}
-use Rattle.types.specs.Pick.{pick}
+use Rattle.types.specs.Pick.{pick, both, all_of}
+use Rattle.types.proofs.Tests.{both_first, both_second}
+use borrow.Author.Tests.{le-leb}
 use Rattle.types.specs.Types.{node}
 use Rattle.types.specs.Errors.{reported}
 use Rattle.types.specs.declared.nmt.events.NmtEvent.TheVariants.{Error}
@@ -40,7 +42,9 @@ use Rattle.heartbeats.proofs.LateErrors.{late_errors_on, alike_then, same_alike,
 use Rattle.lentlaws.specs.Fold.{folded}
 use Rattle.lent.specs.declared.run.LateErrors.{LateErrors}
 use Rattle.lent.specs.declared.run.Findings.{Findings}
-use Rattle.lent.specs.Runs.{erred, count_late_by, found_by, found_all, late_errors_at, late_errors_all}
+use Rattle.watched.specs.Watched.{fits}
+use Rattle.watched.proofs.Limits.{fits_small}
+use Rattle.lent.specs.Runs.{erred, count_late_by, found_by, found_all, late_errors_at, late_errors_all, byte_or_none}
 
 -- the head with its heartbeat counter replaced
 abbrev with_counter : Plain → ThresholdCounter → Plain
@@ -122,10 +126,29 @@ module _ (t : ℕ) where
           (alike_then _ _ _ more (same_alike _ _ (ap (λ (b : LateErrors). came p (folded (count_late_by t) b ws)) same))))
 
 -- what is carried of the errors is a walk of its own
-late_errors_carried : (s : Findings) (ws : List WatchedNode) → (found_all s ws).late_errors ≡ folded (count_late_by s.time) s.late_errors ws
+late_errors_carried : (t : ℕ) (s : Findings) (ws : List WatchedNode) → (found_all t s ws).late_errors ≡ folded (count_late_by t) s.late_errors ws
 unfolding folded
-late_errors_carried s [] = refl
-late_errors_carried s (w ∷ ws) = late_errors_carried (found_by s w) ws
+late_errors_carried t s [] = refl
+late_errors_carried t s (w ∷ ws) = late_errors_carried t (found_by t s w) ws
+
+-- the number of a crossing is a byte where the nodes are within their limits
+module _ (t : ℕ) where
+  byte_next : (b : LateErrors) (w : WatchedNode) → fits w ≡ true → byte_or_none b.crossed ≡ true → byte_or_none (count_late_by t b w).crossed ≡ true
+  byte_next b w f e = by (is_some b.crossed) (is_late t w) (after_error b.counter).reached
+    where
+      by : (c l r : Bool) → byte_or_none (pick c b (pick l (record { counter = (after_error b.counter).counter; crossed = pick r (Some w.node) None }) b)).crossed ≡ true
+      by true l r = e
+      by false true true = le-leb w.node 255 (fits_small w f)
+      by false true false = refl
+      by false false r = e
+
+  byte_all : (b : LateErrors) (ws : List WatchedNode) → all_of fits ws ≡ true → byte_or_none b.crossed ≡ true → byte_or_none (folded (count_late_by t) b ws).crossed ≡ true
+  unfolding folded
+  byte_all b [] a e = e
+  byte_all b (w ∷ ws) a e = byte_all (count_late_by t b w) ws (both_second (fits w) (all_of fits ws) a) (byte_next b w (both_first (fits w) (all_of fits ws) a) e)
+
+  pub byte_crossed : (s : Findings) (ws : List WatchedNode) → s.late_errors.crossed ≡ None → all_of fits ws ≡ true → byte_or_none (found_all t s ws).late_errors.crossed ≡ true
+  byte_crossed s ws n a = ap (λ (b : LateErrors). byte_or_none b.crossed) (late_errors_carried t s ws) ∙ byte_all s.late_errors ws a (ap byte_or_none n)
 
 -- the words: those of the heartbeat counter, and where one crossed what a crossing brings
 abbrev counted_in : List ℕ → ThresholdCounter → List ℕ
@@ -236,7 +259,7 @@ module _ (t : ℕ) where
 module _ (ws : List ℕ) (long : length ws ≡ 60) (b : LateErrors) where
   module _ (t : ℕ) (vs : List WatchedNode) (e : b ≡ late_errors_all ws t vs) where
     carried : b ≡ folded (count_late_by t) (fresh_in ws) vs
-    carried = e ∙ late_errors_carried _ vs
+    carried = e ∙ late_errors_carried t _ vs
 
     counts : head_of (counted_in ws b.counter) ≡ head_with_errors (head_of ws) (replaced kind.HeartbeatTimeout b.counter (errors_of ws))
     counts = counter_written_lem ws long kind.HeartbeatTimeout b.counter (ap (λ (b : LateErrors). b.counter.threshold) carried ∙ keeps_threshold t (fresh_in ws) vs)

@@ -1,6 +1,7 @@
-pub mod SeenLaws
-pub mod SetTimesLaws
+pub mod Walks
+pub mod Set
+pub mod Moved
 pub mod LateErrorLaws
-pub mod BitLaws
+pub mod SeenLaws
 pub mod Found
-pub mod ArrivalLaws
+pub mod Ticking

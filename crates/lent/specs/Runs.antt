@@ -1,24 +1,23 @@
--- A walk over the places of a run: what it has found out after each, and what a walk sets.
+-- A walk over the watched places of a run: what it has found out after each, what it answers, and
+-- where a node is.
 -- Assumes nothing.
-use Rattle.std.specs.Prelude.{ℕ, ◌-◌, true, false, List, length, take, eqb, ltb, leb, is_some}
+use Rattle.std.specs.Prelude.{ℕ, min, Bool, true, List, length, take, map, eqb, ltb, leb, is_some}
 use Rattle.std.specs.declared.option.Option.{Option}
 use Rattle.std.specs.declared.option.Option.TheVariants.{Some, None}
-use Rattle.types.specs.Pick.{pick, both, either}
-use Rattle.counters.specs.Counters.{new_counter, after_error}
+use Rattle.types.specs.Pick.{pick, both, all_of}
+use Rattle.counters.specs.Counters.{after_error}
 use Rattle.counters.specs.declared.counters.CounterKind.TheVariants.{HeartbeatTimeout}
 use Rattle.counters.specs.declared.counters.ThresholdCounter.{ThresholdCounter}
 use Rattle.head.specs.Places as at
-use Rattle.head.specs.Words.{nmt_of, counter_at}
+use Rattle.head.specs.Words.{counter_at}
 use Rattle.watched.specs.declared.nodes.WatchedNode.{WatchedNode}
-use Rattle.watched.specs.Watched.{fits, heard_now, watched_places}
-use Rattle.watched.specs.Nodes.{not_before, never, sooner_by}
-use Rattle.node.specs.Heartbeats.{checks_heartbeats, is_late, refreshed}
+use Rattle.watched.specs.Watched.{fits, heard_now, heard_at, place_of, watched_places, Run, watching, well_lent}
+use Rattle.watched.specs.Nodes.{not_before, never, sooner_by, soonest, rests}
+use Rattle.node.specs.Heartbeats.{is_late, refreshed}
+use Rattle.tick.specs.TickIn.{is_still}
 use Rattle.lentlaws.specs.Fold.{folded}
-use Rattle.lentlaws.specs.Scan.{scanned}
 use Rattle.lent.specs.declared.run.LateErrors.{LateErrors}
 use Rattle.lent.specs.declared.run.Findings.{Findings}
-use Rattle.lent.specs.declared.run.Setting.{Setting}
-use Rattle.lent.specs.declared.run.Setting.TheVariants.{Nothing, Unheard, Heard, Refreshed}
 
 -- the test of WatchedNodes at one node: above the one before, and within its limits
 abbrev pub tried_by : Option ℕ → WatchedNode → Option ℕ
@@ -34,94 +33,71 @@ erred s w = record { counter = (after_error s.counter).counter; crossed = pick (
 abbrev pub count_late_by : ℕ → LateErrors → WatchedNode → LateErrors
 count_late_by t s w = pick (is_some s.crossed) s (pick (is_late t w) (erred s w) s)
 
--- a node after a setting
-abbrev pub times_set : Setting → WatchedNode → WatchedNode
-times_set Nothing w = w
-times_set Unheard w = heard_now 0 w
-times_set (Heard n t) w = pick (eqb w.node n) (heard_now t w) w
-times_set (Refreshed t) w = refreshed t w
-
--- what is found behind one more node
-abbrev pub found_by : Findings → WatchedNode → Findings
-found_by s w =
+-- what is found behind one more node, of a tick at t
+abbrev pub found_by : ℕ → Findings → WatchedNode → Findings
+found_by t s w =
     record {
-      node = s.node;
-      time = s.time;
-      setting = s.setting;
       tried = tried_by s.tried w;
-      watched = either s.watched (eqb w.node s.node);
-      after = both s.after (not_before s.time w);
-      late_errors = count_late_by s.time s.late_errors w;
-      soonest = sooner_by s.soonest (times_set s.setting w);
+      after = both s.after (not_before t w);
+      late_errors = count_late_by t s.late_errors w;
+      soonest = sooner_by s.soonest (refreshed t w);
     }
 
 -- what is found behind some nodes, in order
-abbrev pub found_all : Findings → List WatchedNode → Findings
-found_all s vs = folded found_by s vs
+abbrev pub found_all : ℕ → Findings → List WatchedNode → Findings
+found_all t s vs = folded (found_by t) s vs
 
 -- what was found, where the nodes are well formed; else none
 abbrev pub formed_of : Findings → Option Findings
 formed_of f = pick (is_some f.tried) (Some f) None
 
--- What is found of a run of which k places are watched; none where it is not well formed: other
--- than 32 places, a number above them, or nodes that do not ascend or are not within their limits.
--- The places past the number are not tried.
-abbrev pub inspected : ℕ → Findings → List WatchedNode → Option Findings
-inspected k s vs = pick (both (eqb (length vs) watched_places) (leb k watched_places)) (formed_of (found_all s (take k vs))) None
-
--- what is found before the first node: what a call asks for, of the node n and the time t, with the
--- setting y and a head's heartbeat counter c
-abbrev pub sought_from : ℕ → ℕ → Setting → ThresholdCounter → Findings
-sought_from n t y c =
+-- what is found before the first node, with a head's heartbeat counter c
+abbrev pub sought_from : ThresholdCounter → Findings
+sought_from c =
     record {
-      node = n;
-      time = t;
-      setting = y;
       tried = Some 0;
-      watched = false;
       after = true;
       late_errors = record { counter = c; crossed = None };
       soonest = never;
     }
 
--- what is asked for of the nodes alone, with a setting
-abbrev pub asked_for : Setting → Findings
-asked_for y = sought_from 0 0 y (new_counter 0)
-
--- what heard asks for: the node n, which is heard at t
-abbrev pub for_heard : ℕ → ℕ → Findings
-for_heard n t = sought_from n 0 (Heard n t) (new_counter 0)
+-- What is found for a tick at t of a run of which k places are watched; none where it is not well
+-- formed: other than 32 places, a number above them, or nodes that do not ascend or are not within
+-- their limits. The places past the number are not tried.
+abbrev pub inspected : ℕ → ℕ → ThresholdCounter → List WatchedNode → Option Findings
+inspected k t c vs = pick (both (eqb (length vs) watched_places) (leb k watched_places)) (formed_of (found_all t (sought_from c) (take k vs))) None
 
 -- a head's heartbeat counter
 abbrev pub late_errors_at : List ℕ → ThresholdCounter
 late_errors_at ws = counter_at ws (at.counter HeartbeatTimeout)
 
--- what a tick at t sets: where heartbeats are checked, the last-heard times of its check; else
--- nothing
-abbrev pub tick_sets : List ℕ → ℕ → Setting
-tick_sets ws t = pick (checks_heartbeats (nmt_of ws).current_state) (Refreshed t) Nothing
-
--- what a tick at t asks for, with the head's heartbeat counter
-abbrev pub for_tick : List ℕ → ℕ → Findings
-for_tick ws t = sought_from 0 t (tick_sets ws t) (late_errors_at ws)
-
--- what a walk sets: so many places, and how
-pub record TimesSetting : Type 0 where
-  pub left : ℕ
-  pub setting : Setting
-
--- the setting y at the first k places
-abbrev pub setting_of : ℕ → Setting → TimesSetting
-setting_of k y = record { left = k; setting = y }
-
--- what a walk makes of one place, and what it sets from the next one on
-abbrev pub set_next : TimesSetting → WatchedNode → WatchedNode × TimesSetting
-set_next a w = (pick (ltb 0 a.left) (times_set a.setting w) w, setting_of (a.left - 1) a.setting)
-
--- all places after a walk
-abbrev pub times_set_all : TimesSetting → List WatchedNode → List WatchedNode
-times_set_all a vs = scanned (λ c x. (set_next c x).0) (λ c x. (set_next c x).1) a vs
-
 -- what the errors of the late nodes come to, on the words of a head
 abbrev pub late_errors_all : List ℕ → ℕ → List WatchedNode → LateErrors
-late_errors_all ws t vs = (found_all (for_tick ws t) vs).late_errors
+late_errors_all ws t vs = (found_all t (sought_from (late_errors_at ws)) vs).late_errors
+
+-- a number that is a byte, or none
+abbrev pub byte_or_none : Option ℕ → Bool
+byte_or_none None = true
+byte_or_none (Some n) = leb n 255
+
+-- a node with the one of number n heard at t
+abbrev pub heard_if : ℕ → ℕ → WatchedNode → WatchedNode
+heard_if n t w = pick (eqb w.node n) (heard_now t w) w
+
+-- the place p of the node n behind one more node, at the place i
+abbrev pub place_if : ℕ → ℕ → ℕ → WatchedNode → ℕ
+place_if n i p w = pick (eqb w.node n) (min p i) p
+
+-- where the node n is among the watched nodes of a run, and their soonest moment with it heard at
+-- t; none where the run is not well formed
+abbrev pub found_in : ℕ → ℕ → Run → Option (ℕ × ℕ)
+found_in n t r = pick (well_lent r) (Some (place_of n (watching r), soonest never (heard_at n t (watching r)))) None
+
+-- the soonest moment of a well formed run of which each node rests at t; otherwise none
+abbrev pub rest_in : ℕ → Run → Option ℕ
+rest_in t r = pick (both (well_lent r) (all_of (rests t) (watching r))) (Some (soonest never (watching r))) None
+
+-- the soonest moment of a well formed run of which no node asks a tick at t for anything, where c
+-- says whether heartbeats are checked; otherwise none
+abbrev pub still_in : Bool → ℕ → Run → Option ℕ
+still_in c t r = pick (both (well_lent r) (is_still c t (watching r))) (Some (soonest never (watching r))) None

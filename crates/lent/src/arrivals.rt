@@ -1,104 +1,54 @@
 //! Heartbeat partners arrive and leave (RULES 8.4), over a lent run of records: a walk finds out
-//! what the tests ask, and a walk that carries the displaced record sets the places, from the first
-//! for an add, from the last for a removal.
-ghost use Rattle.std.specs.Prelude.{◌≡◌};
-ghost use Rattle.watched.specs.Watched.{run};
+//! what the tests ask, and the records behind the node's place move up or down, as `partners` has
+//! it over words.
+ghost use Rattle.std.specs.Prelude.{◌≡◌, ◌++◌, ◌-◌, ◌≤◌, ◌<◌, take, drop, replicate, length};
+ghost use Rattle.watched.specs.Watched.{run, no_node, inserted, watched_places};
+ghost use Rattle.partners.specs.Walks.{place_before, closed};
 ghost use Rattle.partners.specs.Partners.{AddedOn, RemovedOn};
-ghost use Rattle.lent.specs.Arrivals.{carry_next, carried_all, moved_down, close_next, closed_all};
 
-use crate::run::{for_heard, inspect};
+use crate::run::find;
 use head::state::Head;
 use head::watch::set_earliest;
-use lentlaws::{scan, scan_back};
 use partners::{try_place, try_remove};
 use types::refusals::Refusal;
 use types::types::NodeId;
-use watched::nodes::{WATCHED_PLACES, WatchedNode, moment};
+use watched::nodes::{WatchedNode, moment};
 
-/// An add at one place: what is carried there.
-#[derive(Clone, Copy)]
-pub struct Carrying {
-    /// How many of the places from this one on are watched.
-    pub left: usize,
-    /// The record that takes the place of the first one above it.
-    pub node: WatchedNode,
-}
-
-/// A removal at one place; it goes from the last place to the first.
-#[derive(Clone, Copy)]
-pub struct Closing {
-    /// How many places there are up to this one.
-    pub left: usize,
-    /// How many nodes are watched before the removal.
-    pub number: usize,
-    /// The node that is removed.
-    pub node: u8,
-    /// What stood behind this place.
-    pub next: WatchedNode,
-}
-
-/// What a place becomes, and what is carried on: the record that is carried takes the place of one
-/// above it, or the first past the number, and the places behind that are cleared.
-pub fn carry_next(carrying: Carrying, w: WatchedNode) -> (WatchedNode, Carrying)
-    ensures { result ≡ carry_next carrying w }
+// Where a node is to stand: before the first one above it, so behind so many that are not.
+fn place_for(nodes: &[WatchedNode], node: u64) -> usize
+    ensures { (result ≡ place_before node nodes.now) × (result ≤ length nodes.now) }
 {
-    let Carrying { left, node } = carrying;
-    if left == 0 {
-        return (
-            node,
-            Carrying {
-                left,
-                node: WatchedNode::NONE,
-            },
-        );
-    }
-    let left = left - 1;
-    if node.node < w.node {
-        return (node, Carrying { left, node: w });
-    }
-    (w, Carrying { left, node })
+    nodes.iter().take_while(|w| w.node <= node).count()
 }
 
-/// Sets all places, from the first.
-pub fn carry(nodes: &mut [WatchedNode], carrying: Carrying)
-    ensures { nodes.new ≡ carried_all carrying nodes.old }
+// The places from one on are cleared.
+fn clear(nodes: &mut [WatchedNode], from: usize)
+    requires { (length nodes.old ≡ watched_places) × (from ≤ watched_places) }
+    ensures { nodes.new ≡ take from nodes.old ++ replicate (watched_places - from) no_node }
 {
-    scan(nodes, carrying, |carrying, w| carry_next(carrying, w))
+    nodes[from..].fill(WatchedNode::NONE);
 }
 
-impl Closing {
-    // What a place becomes: below the node it stays, from there on it takes what stood behind it,
-    // and it is cleared where that is not watched.
-    fn moved_down(self, w: WatchedNode) -> WatchedNode
-        ensures { result ≡ moved_down self.left self.number self.node self.next w }
-    {
-        if self.number <= self.left {
-            return WatchedNode::NONE;
-        }
-        if w.node < self.node {
-            return w;
-        }
-        self.next
-    }
-}
-
-/// What a place becomes, and the removal at the place before it.
-pub fn close_next(closing: Closing, w: WatchedNode) -> (WatchedNode, Closing)
-    ensures { result ≡ close_next closing w }
+// A node takes its place: those above it move up by one, and the places past them are cleared.
+fn insert(nodes: &mut [WatchedNode], count: usize, node: WatchedNode)
+    requires { (length nodes.old ≡ watched_places) × (count < watched_places) }
+    ensures { nodes.new ≡
+        inserted node (take count nodes.old) ++ replicate (31 - count) no_node }
 {
-    let next = Closing {
-        left: closing.left.saturating_sub(1),
-        next: w,
-        ..closing
-    };
-    (closing.moved_down(w), next)
+    let place = place_for(&nodes[..count], node.node);
+    nodes.copy_within(place..count, place + 1);
+    nodes[place] = node;
+    clear(nodes, count + 1);
 }
 
-/// Sets all places, from the last.
-pub fn close(nodes: &mut [WatchedNode], closing: Closing)
-    ensures { nodes.new ≡ closed_all closing nodes.old }
+// The place of a node is closed: those behind it move down by one, and the places past them are
+// cleared.
+fn close(nodes: &mut [WatchedNode], count: usize, place: usize)
+    requires { (length nodes.old ≡ watched_places) × (place < count) × (count ≤ watched_places) }
+    ensures { nodes.new ≡ take place nodes.old ++ closed (count - place) (drop place nodes.old) }
 {
-    scan_back(nodes, closing, |closing, w| close_next(closing, w))
+    nodes.copy_within(place + 1..count, place);
+    clear(nodes, count - 1);
 }
 
 /// Watches a node from now on, with its timeout in µs and not heard yet. It stands in its place,
@@ -117,20 +67,16 @@ pub fn add(
 {
     let count = *number;
     NodeId::try_from(node)?;
-    let found = inspect(nodes, count, for_heard(node, 0)).ok_or(Refusal::WatchedNodes)?;
-    try_place(Some(found.watched), timeout, count)?;
+    let (place, soonest) = find(nodes, count, node as u64, 0).ok_or(Refusal::WatchedNodes)?;
+    try_place(Some(place < count), timeout, count)?;
     let added = WatchedNode {
-        node,
+        node: node as u64,
         timeout,
         last_heard: 0,
     };
-    let carrying = Carrying {
-        left: count,
-        node: added,
-    };
-    carry(nodes, carrying);
+    insert(nodes, count, added);
     *number = count + 1;
-    set_earliest(head, moment(found.soonest));
+    set_earliest(head, moment(soonest));
     Ok(())
 }
 
@@ -145,17 +91,12 @@ pub fn remove(
     ensures { RemovedOn head.old (run nodes.old number.old) node
         result head.new (run nodes.new number.new) }
 {
+    let count = *number;
     // The soonest moment with the node not heard is that of the others.
-    let found = inspect(nodes, *number, for_heard(node, 0)).ok_or(Refusal::WatchedNodes)?;
-    try_remove(Some(found.watched))?;
-    let closing = Closing {
-        left: WATCHED_PLACES,
-        number: *number,
-        node,
-        next: WatchedNode::NONE,
-    };
-    close(nodes, closing);
-    *number -= 1;
-    set_earliest(head, moment(found.soonest));
+    let (place, soonest) = find(nodes, count, node as u64, 0).ok_or(Refusal::WatchedNodes)?;
+    try_remove(Some(place < count))?;
+    close(nodes, count, place);
+    *number = count - 1;
+    set_earliest(head, moment(soonest));
     Ok(())
 }

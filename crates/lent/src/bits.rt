@@ -2,7 +2,7 @@
 ghost use Rattle.watched.specs.Watched.{run};
 ghost use Rattle.bitmap.specs.Bitmap.{BitsWritten};
 
-use crate::run::{Setting, for_nodes, inspect};
+use crate::run::is_formed;
 use bitmap::{count_bits, set_bit};
 use types::refusals::Refusal;
 use watched::nodes::WatchedNode;
@@ -15,10 +15,12 @@ use watched::nodes::WatchedNode;
 pub fn bitmap(nodes: &[WatchedNode], number: usize, bytes: &mut [u8; 32]) -> Result<u32, Refusal>
     ensures { BitsWritten (run nodes.now number) bytes.old result bytes.new }
 {
-    inspect(nodes, number, for_nodes(Setting::Nothing)).ok_or(Refusal::WatchedNodes)?;
+    if !is_formed(nodes, number) {
+        return Err(Refusal::WatchedNodes);
+    }
     *bytes = [0; 32];
     for w in &nodes[..number] {
-        set_bit(bytes, w.node);
+        set_bit(bytes, w.node as u8);
     }
     Ok(count_bits(bytes))
 }

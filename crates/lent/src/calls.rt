@@ -3,7 +3,7 @@ ghost use Rattle.watched.specs.Watched.{run};
 ghost use Rattle.node.specs.Heard.{HeardOn};
 ghost use Rattle.start.specs.Started.{StartedOn};
 
-use crate::run::{Setting, for_heard, for_nodes, inspect, set_times};
+use crate::run::{find, is_formed, set_heard, unhear};
 use head::state::Head;
 use head::watch::set_earliest;
 use node::heard::try_heard;
@@ -24,10 +24,10 @@ pub fn heard(
     ensures { HeardOn head.old (run nodes.old number) node time
         result head.new (run nodes.new number) }
 {
-    let found = inspect(nodes, number, for_heard(node, time)).ok_or(Refusal::WatchedNodes)?;
-    try_heard(Some(found.watched), time)?;
-    set_times(nodes, number, Setting::Heard(node, time));
-    set_earliest(head, moment(found.soonest));
+    let (place, soonest) = find(nodes, number, node as u64, time).ok_or(Refusal::WatchedNodes)?;
+    try_heard(Some(place < number), time)?;
+    set_heard(nodes, place, time);
+    set_earliest(head, moment(soonest));
     Ok(())
 }
 
@@ -43,9 +43,8 @@ pub fn start(
     ensures { StartedOn head.old (run nodes.old number) setup
         result head.new (run nodes.new number) }
 {
-    let setting = Setting::Unheard;
-    let formed = inspect(nodes, number, for_nodes(setting)).is_some();
+    let formed = is_formed(nodes, number);
     begin(head, setup, formed)?;
-    set_times(nodes, number, setting);
+    unhear(nodes, number);
     Ok(())
 }

@@ -8,7 +8,7 @@
 pub mod answers;
 pub mod calls;
 pub mod entry;
-// pub mod over;
+pub mod over;
 pub mod readings;
 pub mod run;
 pub mod setup;

@@ -13,6 +13,7 @@ ghost use Rattle.entries.specs.Desk.{read_said, read_reply};
 ghost use Rattle.entries.specs.Queue.{waiting};
 ghost use Rattle.entries.specs.History.{history as recorded};
 ghost use Rattle.head.specs.Words.{queue_of, history_of};
+ghost use Rattle.watched.specs.Watched.{run};
 ghost use Rattle.bitmap.specs.Bitmap.{BitsWritten};
 ghost use Rattle.frames.specs.Frame.{read_frame};
 ghost use Rattle.powerlink_cn.specs.Answers.{number_of, sent};
@@ -31,11 +32,13 @@ use entries::sizes::{HistoryBytes, QueueBytes};
 use frames::{C_DLL_ASND_NMTCOMMAND, Frame, Message, Service};
 use head::memory::{history_of, queue_of};
 use head::state::Head;
+use lent::bits::bitmap as bitmap_of_places;
 use nmt::state_machine::{IndexRange, ResetSequence};
 use types::frame::error::kinds::DllErrorKind;
 use types::nmt::events::NmtStateCommand;
 use types::nmt::states::NmtState;
 use types::refusals::Refusal;
+use watched::nodes::WatchedNode;
 
 /// What is read of a frame.
 #[repr(C)]
@@ -190,6 +193,26 @@ pub extern "C" fn plcn_bitmap(run: &PlcnRun, answer: &mut PlcnBitmap) -> u32
         (result ≡ number_of r) × (answer.new.nodes ≡ sent (λ n. n) r answer.old.nodes) }
 {
     match bitmap(&run.place, run.number, &mut answer.byte) {
+        Ok(nodes) => {
+            answer.nodes = nodes;
+            0
+        }
+        Err(refusal) => u32::from(refusal.number()),
+    }
+}
+
+/// The watched nodes as bits (`lent::bits::bitmap`), with its refusal.
+#[unsafe(no_mangle)]
+pub extern "C" fn plcn_bitmap_over(
+    places: &[WatchedNode],
+    number: usize,
+    answer: &mut PlcnBitmap,
+) -> u32
+    ensures { (r : Result ℕ Refusal) ×
+        BitsWritten (run places.now number) answer.old.byte r answer.new.byte ×
+        (result ≡ number_of r) × (answer.new.nodes ≡ sent (λ n. n) r answer.old.nodes) }
+{
+    match bitmap_of_places(places, number, &mut answer.byte) {
         Ok(nodes) => {
             answer.nodes = nodes;
             0

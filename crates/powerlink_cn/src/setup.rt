@@ -1,7 +1,8 @@
 //! What C gives: a setup, and an update of the dictionary.
 ghost use Rattle.std.specs.Prelude.{◌≡◌};
 ghost use Rattle.node.specs.Loaded.{bytes_named};
-ghost use Rattle.powerlink_cn.specs.Setups.{value_of, named, setup_of, update_of, history_of, thresholds_of};
+ghost use Rattle.powerlink_cn.specs.Setups.{value_of, named, setup_of, update_of, history_of};
+ghost use Rattle.powerlink_cn.specs.Setups.{thresholds_of};
 
 use counters::counters::ByKind;
 use head::state::Dictionary;

@@ -112,7 +112,8 @@ pub extern "C" fn plcn_weigh_dll_event(
     errors: &mut PlcnErrors,
 ) -> u32
     ensures { (o : Reply) ×
-        Made (held_in weigh.old memory.old) (weigh_call.Node (call.DllEvent event (flag expect_preq))) o
+        Made (held_in weigh.old memory.old)
+        (weigh_call.Node (call.DllEvent event (flag expect_preq))) o
         (held_in weigh.new memory.new) ×
         (result ≡ number_of o) × (errors.new ≡ errors_told o errors.old) }
 {

@@ -55,7 +55,7 @@ impl Words<'_> {
         ensures { gives result self.new.rest.now ≡ watched self.old.rest.now }
     {
         Some(WatchedNode {
-            node: self.bits8()?,
+            node: u64::from(self.bits8()?),
             timeout: self.bits64()?,
             last_heard: self.bits64()?,
         })

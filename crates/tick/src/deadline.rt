@@ -71,7 +71,8 @@ fn within_limit(head: &mut Head, time: Time)
 }
 
 // A lost SoC is the DLL event SocTimeout; where none of its errors brings an action, the deadline
-// is set anew.
+// is set anew. Not inlined, so that a tick without a loss saves no registers for it.
+#[inline(never)]
 fn lose(
     head: &mut Head,
     queue: &mut QueueBytes,
@@ -140,6 +141,7 @@ fn time_out(head: &mut Head)
 
 /// What a tick does behind the heartbeats (RULES 7.5). The deadline is opened before it is compared
 /// with now.
+#[inline(always)]
 pub fn by_deadline(
     head: &mut Head,
     queue: &mut QueueBytes,

@@ -69,7 +69,9 @@ fn phases(
 }
 
 // A tick at which some node asks for something; `heard` is whether all were heard by now. Nothing
-// is written before the last test is passed.
+// is written before the last test is passed. Not inlined, so that a quiet tick saves no registers
+// for it.
+#[inline(never)]
 fn tick_active(
     head: &mut Head,
     queue: &mut QueueBytes,
@@ -99,6 +101,7 @@ fn tick_active(
 /// whatever form they are lent. `late` is the soonest moment, in µs, at which one would be late; it
 /// is the head's earliest moment from then on, whatever it is. Answers what is logged. Refused by
 /// TimeLimit where the time is above 2^62 - 1; then nothing changes.
+#[inline(always)]
 pub fn tick_still(
     head: &mut Head,
     queue: &mut QueueBytes,

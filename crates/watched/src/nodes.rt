@@ -17,11 +17,13 @@ pub const WATCHED_PLACES: usize = 32;
 /// A run of watched nodes as words: three a place.
 pub type NodeWords = [u64; 3 * WATCHED_PLACES];
 
-/// A watched node.
+/// A watched node: three numbers of 64 bits, in this order and with nothing between them, as a
+/// caller in C lends it.
+#[repr(C)]
 #[derive(Clone, Copy, PartialEq, Eq)]
 pub struct WatchedNode {
-    /// The node's number.
-    pub node: u8,
+    /// The node's number; any 64 bits, not all of which are one.
+    pub node: u64,
     /// The timeout in µs; with 0 the node is never late.
     pub timeout: u64,
     /// When the node was last heard, in µs; 0 where it never was.
@@ -258,6 +260,7 @@ pub fn well_formed(nodes: &NodeWords, count: usize) -> bool
 /// with the node heard at a time in µs. The place of a node that is not watched is the count. The
 /// moment is a number that the caller gives to `moment`, since an Option within an Option takes
 /// more words.
+#[inline(always)]
 pub fn find(nodes: &NodeWords, count: usize, node: u64, time: u64) -> Option<(usize, u64)>
     ensures { result ≡ found_of node time (watched_of (nodes_of nodes.now) count) }
 {

@@ -26,7 +26,7 @@ impl From<WatchedNode> for NodeRecord {
 
     fn from(w: WatchedNode) -> Self {
         NodeRecord {
-            node: w.node as u64,
+            node: w.node,
             timeout: w.timeout,
             last_heard: w.last_heard,
         }

@@ -1,50 +1,17 @@
--- `lent::ticks::process_tick` meets its contract: its tests in their order, then the phases, what a
--- walk sets, and the earliest moment.
+-- `lent::ticks::process_tick` meets its contract: by whether no node asks for anything.
 -- Assumes nothing.
-use mathlib.Core.Path.{sym, ap, ◌∙◌}
-use Rattle.std.proofs.Common.{rules, ◌≡◌, Err, Some, None}
-use Rattle.types.specs.declared.refusals.Refusal.TheVariants.{WatchedNodes}
-use Rattle.node.specs.Heartbeats.{checks_heartbeats}
-use Rattle.lent.proofs.Found.{tick_unformed, tick_unasked, tick_late, tick_before, tick_accepted}
+use Rattle.std.proofs.Common.{rules, ◌≡◌, Some, None}
+use Rattle.lent.proofs.Ticking.{active, quiet}
 use Rattle.lent.proofs.ticks.process_tick.Goals as goal
 
-pub returns-in_err-found : goal.returns-in_err-found
-returns-in_err-found c =
+pub tick_active-requires : goal.tick_active-requires
+tick_active-requires c =
     let a = c.args in
-    let r : c.from_residual.result ≡ Err WatchedNodes = search rules in
-    let n : c.inspect.result ≡ None = search rules in
-    rw r (tick_unformed a.head.now a.queue.now a.history.now a.nodes.now a.number a.time _ c.for_tick.ensures c.inspect.result c.inspect.ensures n)
-
-pub returns-then-not-checks_heartbeats : goal.returns-then-not-checks_heartbeats
-returns-then-not-checks_heartbeats c =
-    let a = c.args in
-    let s : c.inspect.result ≡ Some c.in_ok-found.found = search rules in
-    tick_unasked a.head.now a.queue.now a.history.now a.nodes.now a.number a.time _ c.for_tick.ensures c.inspect.result c.inspect.ensures _ s
-    (sym (c.checks_heartbeats.ensures ∙ ap checks_heartbeats c.state_at.ensures) ∙ c.if-not-checks_heartbeats.true) c.moment-soonest.result c.moment-soonest.ensures c.tick_still.result _ _ _ c.tick_still.ensures
-
-pub returns-in_err-now : goal.returns-in_err-now
-returns-in_err-now c =
-    let a = c.args in
-    let s : c.inspect.result ≡ Some c.in_ok-found.found = search rules in
-    let r : c.from_residual-in_err-now.result ≡ Err c.in_err-now.field-0.0 = search rules in
-    let late = c.in_err-now.ensures in
-    rw (r, late.0) (tick_late a.head.now a.queue.now a.history.now a.nodes.now a.number a.time _ c.for_tick.ensures c.inspect.result c.inspect.ensures _ s late.1)
-
-pub returns-then-not-found : goal.returns-then-not-found
-returns-then-not-found c =
-    let a = c.args in
-    let s : c.inspect.result ≡ Some c.in_ok-found.found = search rules in
-    tick_before a.head.now a.queue.now a.history.now a.nodes.now a.number a.time _ c.for_tick.ensures c.inspect.result c.inspect.ensures _ s
-    (sym (c.checks_heartbeats.ensures ∙ ap checks_heartbeats c.state_at.ensures) ∙ c.if-not-checks_heartbeats.false) c.in_ok-now.ensures.1 c.if-not-found.true
-
-pub phases-outcome-requires : goal.phases-outcome-requires
-phases-outcome-requires c = sym (c.checks_heartbeats.ensures ∙ ap checks_heartbeats c.state_at.ensures) ∙ c.if-not-checks_heartbeats.false
+    let n : c.still.result ≡ None = search rules in
+    active a.head.now a.queue.now a.history.now a.nodes.now a.number a.time c.checks_heartbeats-checks.result _ c.checks_heartbeats-checks.ensures c.state_at.ensures c.still.result c.still.ensures n
 
 pub returns : goal.returns
 returns c =
     let a = c.args in
-    let s : c.inspect.result ≡ Some c.in_ok-found.found = search rules in
-    tick_accepted a.head.now a.queue.now a.history.now a.nodes.now a.number a.time _ c.for_tick.ensures c.inspect.result c.inspect.ensures _ s
-    (sym (c.checks_heartbeats.ensures ∙ ap checks_heartbeats c.state_at.ensures) ∙ c.if-not-checks_heartbeats.false) c.in_ok-now.ensures.1
-    _ c.set_times.ensures c.if-not-found.false c.in_ok-now.now.us c.in_ok-now.ensures.0
-    c.phases-outcome.result _ _ _ c.phases-outcome.ensures c.phases-outcome.array_long c.moment-soonest.result c.moment-soonest.ensures _ c.set_earliest.ensures
+    quiet a.head.now a.queue.now a.history.now a.nodes.now a.number a.time c.checks_heartbeats-checks.result _ c.checks_heartbeats-checks.ensures c.state_at.ensures c.still.result c.still.ensures
+    _ c.in-Some.is c.moment.result c.moment.ensures c.tick_still.result _ _ _ c.tick_still.ensures

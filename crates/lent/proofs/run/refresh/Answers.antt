@@ -1,0 +1,12 @@
+-- `lent::run::refresh` meets its contract: the loop is over the part that is watched.
+-- Assumes nothing.
+use Prim.Native.Nat.{min}
+use Rattle.std.proofs.Common.{◌≡◌, length, arith}
+use Rattle.node.specs.Heartbeats.{refreshed}
+use Rattle.lent.proofs.Set.{set_part}
+use Rattle.lent.proofs.run.refresh.Goals as goal
+
+pub returns : goal.returns
+returns c =
+    let few : c.min-watched.result ≡ min c.args.number (length c.args.nodes.now) = omega arith in
+    set_part (refreshed c.args.time) c.args.nodes.now c.args.number c.loop-w.w-items few (omega arith) c.loop-w.invariant
