@@ -12,11 +12,4 @@ fn main() {
     println!("cargo:rustc-link-search=native={}", folder.display());
     println!("cargo:rustc-link-lib=static=powerlink_cn");
     println!("cargo:rustc-env=PLCN_ARCHIVE={archive}");
-    // Without the calls over places of any length there is no table of them.
-    println!("cargo:rustc-check-cfg=cfg(has_over)");
-    let bytes = std::fs::read(&archive).expect("the archive can be read");
-    let name = b"plcn_tick_over";
-    if bytes.windows(name.len()).any(|window| window == name) {
-        println!("cargo:rustc-cfg=has_over");
-    }
 }

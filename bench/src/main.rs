@@ -2,16 +2,11 @@
 //! call on the original Rust. docs/PERFORMANCE.md says how it is measured.
 
 mod document;
-#[cfg_attr(not(has_over), allow(dead_code))]
 mod ffi;
 mod figure;
 mod measure;
 mod memory;
 mod ours;
-#[cfg(has_over)]
-mod over;
-#[cfg(not(has_over))]
-#[path = "no_over.rs"]
 mod over;
 mod stack;
 mod table;

@@ -15,7 +15,7 @@ pub struct Times {
     /// Of a call across the boundary that does nothing.
     pub empty: f64,
     /// Of the calls over a run, and over places of any length.
-    pub over: Vec<(String, [f64; 2])>,
+    pub over: Vec<(&'static str, usize, [f64; 2])>,
 }
 
 impl Times {
@@ -130,7 +130,7 @@ pub fn all(options: &Options) -> Result<Times, String> {
             .fold(f64::INFINITY, f64::min),
         over: over::pairs()
             .into_iter()
-            .map(|pair| (pair.name, [next(), next()]))
+            .map(|pair| (pair.name, pair.number, [next(), next()]))
             .collect(),
         rows: rows::rows::<Ours>()
             .into_iter()

@@ -11,19 +11,23 @@ const LENGTH: u64 = 32;
 
 /// A call over a run, and the same over places.
 pub struct Pair {
-    pub name: String,
+    /// Of the call.
+    pub name: &'static str,
+    /// How many nodes are watched.
+    pub number: usize,
     pub cases: Box<dyn Fn() -> [Box<dyn Case>; 2]>,
 }
 
 fn pair(
-    name: &str,
+    name: &'static str,
     number: usize,
     phases: usize,
     run: impl Fn(&mut Ours, usize) + Copy + 'static,
     places: impl Fn(&mut Ours, usize) + Copy + 'static,
 ) -> Pair {
     Pair {
-        name: format!("{name}, {number} watched"),
+        name,
+        number,
         cases: Box::new(move || {
             [
                 rows::calls(number, phases, run),
@@ -59,7 +63,7 @@ pub fn pairs() -> Vec<Pair> {
             _ => node.remove(NODE),
         };
         pairs.push(pair(
-            "add and remove",
+            "add or remove",
             number,
             2,
             in_turn,

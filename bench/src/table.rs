@@ -72,25 +72,32 @@ pub fn as_markdown(times: &Times) -> String {
 
 /// The calls over a run beside those over places of any length.
 pub fn over(times: &Times) -> String {
-    if times.over.is_empty() {
-        return String::new();
-    }
     let mut text = format!(
         "{:<42} {:>8} {:>8} {:>6}\n",
         "call", "run ns", "over ns", "ratio"
     );
-    for (name, [run, over]) in &times.over {
-        let ratio = over / run;
+    for (name, number, [run, over]) in &times.over {
+        let (name, ratio) = (format!("{name}, {number} watched"), over / run);
         writeln!(text, "{name:<42} {run:>8.1} {over:>8.1} {ratio:>6.2}").expect("a text takes it");
     }
     text + "\n"
 }
 
-/// The calls over places of any length, by how much more they cost.
+/// Of the calls over places of any length, by how much more they cost.
 fn over_in_a_line(times: &Times) -> String {
-    let ratio = |(name, [run, over]): &(String, [f64; 2])| format!("{name} {:.2}", over / run);
-    let ratios: Vec<String> = times.over.iter().map(ratio).collect();
-    ratios.join("; ")
+    let mut text = String::new();
+    let mut last = "";
+    for (name, number, [run, over]) in &times.over {
+        if *name == last {
+            write!(text, ", {:.2} at {number}", over / run)
+        } else {
+            let behind = if last.is_empty() { "" } else { "; " };
+            write!(text, "{behind}{name} {:.2} at {number}", over / run)
+        }
+        .expect("a text takes it");
+        last = name;
+    }
+    text
 }
 
 /// The part of a core, in percent, that the heads take whose calls take this long, in ns.
@@ -134,13 +141,9 @@ pub fn beside(times: &Times, facts: &Facts) -> String {
 
 /// What the page tells beside the table.
 pub fn beside_on_the_page(times: &Times, facts: &Facts) -> String {
-    let mut text = beside(times, facts);
-    if !times.over.is_empty() {
-        let over = over_in_a_line(times);
-        let line = format!("- Places of any length (`.._over`) over a run: {over}.\n");
-        text.push_str(&line);
-    }
-    text
+    let over = over_in_a_line(times);
+    beside(times, facts)
+        + &format!("- Places of any length (`.._over`) over a run: {over} watched.\n")
 }
 
 /// The row of the same work whose ratio to the Rust without a prefix is the greatest.

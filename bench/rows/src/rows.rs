@@ -172,7 +172,7 @@ fn machines<S: Side>() -> Vec<Row> {
     let (soc, soa) = (S::dll_event(0), S::dll_event(3));
     vec![
         in_turn(
-            "NMT event that moves",
+            "NMT event, moves",
             Work::Original,
             || behind::<S>(NO_COUNT, PRE_OPERATIONAL_2),
             moves.len(),
@@ -181,13 +181,13 @@ fn machines<S: Side>() -> Vec<Row> {
         ),
         nmt::<S>("NMT event, enabled, stays", PRE_OPERATIONAL_2, 3),
         nmt::<S>("NMT event, ready, stays", READY_TO_OPERATE, 15),
-        nmt::<S>("NMT event without a row", OPERATIONAL, 13),
+        nmt::<S>("NMT event, no row", OPERATIONAL, 13),
         nmt::<S>("NMT event SwReset", OPERATIONAL, 5),
         nmt::<S>("NMT event ResetNode", OPERATIONAL, 6),
         nmt::<S>("NMT event ResetCommunication", OPERATIONAL, 7),
         nmt::<S>("NMT event ResetConfiguration", OPERATIONAL, 8),
         in_turn(
-            "DLL event in turn",
+            "DLL event, in turn",
             Work::Original,
             || behind::<S>(NO_COUNT, OPERATIONAL),
             turn.len(),
@@ -195,14 +195,14 @@ fn machines<S: Side>() -> Vec<Row> {
             move |node, phase| node.dll_event_of(turn[phase]),
         ),
         row(
-            "DLL event with one error",
+            "DLL event, one error",
             Work::Original,
             || armed::<S>(NO_COUNT),
             nothing,
             move |node| node.dll_event_of(soa),
         ),
         row(
-            "DLL event outside the four states",
+            "DLL event, outside its states",
             Work::Original,
             || behind::<S>(NO_COUNT, PRE_OPERATIONAL_1),
             nothing,
@@ -235,8 +235,8 @@ fn cycle<S: Side>(name: &str, kinds: usize) -> Row {
 
 fn errors<S: Side>() -> Vec<Row> {
     vec![
-        error::<S>("error without a crossing", NO_COUNT, 6),
-        error::<S>("error with a crossing", EACH_CROSSES, 6),
+        error::<S>("error, no crossing", NO_COUNT, 6),
+        error::<S>("error, crossing", EACH_CROSSES, 6),
         cycle::<S>("cycle complete, all levels 0", 0),
         cycle::<S>("cycle complete, no level 0", 7),
     ]
@@ -276,21 +276,21 @@ fn by_hand<S: Side>() -> Vec<Row> {
             S::hand_out,
         ),
         row(
-            "load of the error register",
+            "load, one value",
             Work::ByHand,
             || behind::<S>(NO_COUNT, OPERATIONAL),
             nothing,
             move |node| node.load_register(register),
         ),
         row(
-            "load of all seven values",
+            "load, seven values",
             Work::ByHand,
             || behind::<S>(NO_COUNT, OPERATIONAL),
             nothing,
             move |node| node.load_values(register, cycle, tolerance, counter),
         ),
         row(
-            "load of a history of 8 entries",
+            "load, history of 8",
             Work::ByHand,
             || behind::<S>(NO_COUNT, OPERATIONAL),
             nothing,
@@ -351,7 +351,7 @@ fn watched<S: Side>() -> Vec<Row> {
     for number in [8, 31] {
         let (node, timeout) = (number as u8 / 2 + 40, TIMEOUT);
         rows.push(in_turn(
-            &format!("add and remove in turn, {}", of(number)),
+            &format!("add or remove, {}", of(number)),
             Work::ByHand,
             move || watching(number, TIMEOUT, HEARD),
             2,
@@ -421,26 +421,26 @@ fn crossing<S: Side>(name: &str, setup: Setup, entries: usize) -> Row {
 fn ticks<S: Side>() -> Vec<Row> {
     let (within, lost) = (LIMIT - 50, LIMIT + 1);
     let mut rows = vec![
-        tick_in_time::<S>("tick, the deadline ahead", Work::Original, 0),
-        tick_at::<S>("tick in CsStopped, the deadline ahead", CS_STOPPED, LIMIT),
-        tick_at::<S>("tick at NotActive, the deadline ahead", NOT_ACTIVE, LIMIT),
+        tick_in_time::<S>("tick, deadline ahead", Work::Original, 0),
+        tick_at::<S>("tick in CsStopped", CS_STOPPED, LIMIT),
+        tick_at::<S>("tick at NotActive", NOT_ACTIVE, LIMIT),
         row(
-            "tick within the limit",
+            "tick, within the limit",
             Work::Original,
             || armed::<S>(NO_COUNT),
             move |node| node.set_deadline(within - 1),
             move |node| node.tick(within),
         ),
         row(
-            "tick with a loss",
+            "tick, loss",
             Work::Original,
             || armed::<S>(NO_COUNT),
             |node| node.set_deadline(LIMIT),
             move |node| node.tick(lost),
         ),
-        crossing::<S>("tick with a crossing, history of 0", EACH_CROSSES, 0),
-        crossing::<S>("tick with a crossing, history of 254", EACH_CROSSES, 254),
-        crossing::<S>("tick with a crossing, the queue full", NO_QUEUE, 254),
+        crossing::<S>("tick, crossing, history 0", EACH_CROSSES, 0),
+        crossing::<S>("tick, crossing, history 254", EACH_CROSSES, 254),
+        crossing::<S>("tick, crossing, queue full", NO_QUEUE, 254),
     ];
     for number in [1, 8, 32] {
         let name = format!("tick, {}, none late", of(number));
@@ -496,19 +496,15 @@ fn frames<S: Side>() -> Vec<Row> {
         frame::<S>("frame PReq", &[0], bytes(3, 7, 0, 0)),
         frame::<S>("frame PRes", &[0], bytes(4, 255, 0, 0)),
         frame::<S>("frame SoA", &[0, 1], bytes(5, 255, 0, 0)),
+        frame::<S>("frame ASnd, no command", &[0, 1, 3], bytes(6, 255, 2, 0)),
+        frame::<S>("frame ASnd StopNode", &[0, 1, 3], bytes(6, 7, 4, 0x22)),
         frame::<S>(
-            "frame ASnd without a command",
-            &[0, 1, 3],
-            bytes(6, 255, 2, 0),
-        ),
-        frame::<S>("frame ASnd with StopNode", &[0, 1, 3], bytes(6, 7, 4, 0x22)),
-        frame::<S>(
-            "frame ASnd with ResetConfiguration",
+            "frame ASnd ResetConfiguration",
             &[0, 1, 3],
             bytes(6, 7, 4, 0x2A),
         ),
         frame::<S>("frame for another node", &[0], bytes(3, 9, 0, 0)),
-        frame::<S>("frame PReq with a lost SoC", &[0, 1, 3], bytes(3, 7, 0, 0)),
+        frame::<S>("frame PReq, lost SoC", &[0, 1, 3], bytes(3, 7, 0, 0)),
     ]
 }
 
