@@ -3,7 +3,7 @@
 SHELL := bash
 .SHELLFLAGS := -euo pipefail -c
 .DEFAULT_GOAL := help
-.PHONY: help run try incident replay watch shift lib install play fuzz library bench test twins compare compare-oracle wireshark kit
+.PHONY: help run try incident replay watch shift lib install play fuzz library wrapper bench test twins compare compare-oracle wireshark kit
 
 help:
 	@echo "make run             plays scripts/run.txt through the proved node and prints what each call answers"
@@ -17,6 +17,7 @@ help:
 	@echo "make install         puts it, its header, its pkg-config file and man pages into PREFIX, or DESTDIR/PREFIX"
 	@echo "make play            builds build/play, which plays call scripts through the C library"
 	@echo "make fuzz            gives the C library any bytes for ten minutes ('make fuzz SECONDS=60'; needs clang)"
+	@echo "make wrapper         tests the Rust wrapper and its documentation's examples (needs cargo)"
 	@echo "make compare         ten million generated calls beside the original Rust (needs cargo and its source;"
 	@echo "                     'make compare SEEDS=\"1 2\" CALLS=200000' makes fewer)"
 	@echo "make compare-oracle  call scripts on the original Rust (the same needs)"
@@ -97,6 +98,9 @@ library: lib
 	@$(MAKE) -s build/play build/play-checked build/play-differs build/free
 	@tests/library.py
 
+wrapper:
+	@scripts/wrapper.sh
+
 test: kit
 	@echo "Checking public contracts and the documents' references."
 	@sh tests/documents.sh
@@ -114,6 +118,7 @@ test: kit
 	@scripts/library.sh
 	@$(MAKE) -s build/play build/play-checked build/play-differs build/free
 	@tests/library.py --quiet
+	@scripts/wrapper.sh --quiet
 
 twins: kit
 	@tests/twins.py

@@ -7,7 +7,7 @@ mkdir -p build
 # Each crate that is proved anew has a line.
 (cd "$crate" && rt lib) 2>&1 >build/library.log | tee build/library.err |
     awk '/^crate / { crate = $2 } /^logic=proved/ { sub(/.*functions=/, ""); print "  " crate, "proved,", $1, "functions"; fflush() }' || {
-    cat build/library.err >&2
+    cat build/library.log build/library.err >&2
     exit 1
 }
 [ -f "$crate/out/libpowerlink_cn.a" ] || {

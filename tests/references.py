@@ -6,6 +6,8 @@
   - another name between backquotes stands in the code, and that of a comment not in comments alone
   - in docs/CLAIMS.md and tests/WRONG-PROGRAMS.md a file is named by enough of its path, and a name alone in a cell is of
     the file before it there
+  - what stands for names of the original Rust, in a table whose first column is headed `powerlink-rs`, is there; that
+    column is not looked up
 
 A name is looked up whole: one that is cut short is not there. CHANGES.md tells of each landing by
 the names of its time, so names alone are not looked up there. docs/history is passed over, and nothing
@@ -20,7 +22,7 @@ for folder, inside, names in os.walk('.'):
     inside[:] = [d for d in inside if d not in ('.git', 'target', 'out') and (folder, d) != ('./docs', 'history')]
     FILES += [os.path.relpath(os.path.join(folder, n)) for n in names]
 FILES.sort()
-TOP = ('crates', 'compare', 'bench', 'tests', 'docs', 'scripts')
+TOP = ('crates', 'compare', 'bench', 'tests', 'docs', 'scripts', 'wrapper')
 MARKS = {'.rt': '//', '.antt': '--', '.rs': '//', '.sh': '#', '.py': '#'}
 # a file's name with its folders; of the original Rust only what is in compare/ is here
 FILE = r'(?<![\w/.·*$-])((?:[\w.-]+/)*[\w-]+\.(?:rt\.txt|antt|rt|edit|sh|py|md|txt|out)|(?:%s)/[\w./-]*\.rs)\b' % '|'.join(TOP)
@@ -50,7 +52,7 @@ def is_code(file):
 
 
 CODE = {f: '\n'.join(line[:len(line) - len(comment(f, line))] for line in text(f).split('\n')) for f in FILES if is_code(f)}
-BESIDE = [f for f in FILES if f.startswith(('compare/', 'bench/', 'scripts/', 'tests/')) or f in ('Makefile', 'crates.txt')]
+BESIDE = [f for f in FILES if f.startswith(('compare/', 'bench/', 'scripts/', 'tests/', 'wrapper/src/')) or f in ('Makefile', 'crates.txt')]
 
 
 def part(c):
@@ -121,6 +123,7 @@ def look_at_cell(place, cell):
 
 
 found = 0
+of_the_rust = False
 for file in FILES:
     for number, line in enumerate(text(file).split('\n') if file.endswith(('.md', *MARKS)) or file == 'Makefile' else [], 1):
         if file.endswith('.md'):
@@ -128,6 +131,9 @@ for file in FILES:
                 found += 1
                 if not re.match(r'[a-z]+:', target) and not os.path.exists(os.path.join(os.path.dirname(file), target)):
                     wrong.append(f'{file}:{number}: the link to {target} leads nowhere')
+            of_the_rust = line.startswith('|') and (of_the_rust or line.startswith('| `powerlink-rs` |'))
+            if of_the_rust:
+                line = line.split('|', 2)[2]
             found += look(f'{file}:{number}', re.sub(r'\]\([^)]*\)', ']', line), file != 'CHANGES.md', True)
             if file in ('docs/CLAIMS.md', 'tests/WRONG-PROGRAMS.md'):
                 for cell in line.split('|'):

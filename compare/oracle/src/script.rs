@@ -1,4 +1,4 @@
-//! Reading the lines of a call script, as docs/CALLS.md lays them out.
+//! Reading the lines of a call script, as docs/CALLS.md lays them out. The tests in wrapper/tests/scripts read by this file too.
 
 use crate::kinds;
 use crate::run::MOST_PLACES;

@@ -184,6 +184,7 @@ fn frame_tells_reset(answer: FrameAnswer) -> bool
 /// the first `number` of the lent ones (0 to 32; WatchedNodes refuses more in each call that is
 /// lent them). A call that is refused answers the first refusal that applies and changes nothing
 /// (RULES 2).
+#[inline(always)]
 pub fn make<N: Nodes>(
     head: &mut Head,
     queue: &mut QueueBytes,

@@ -91,6 +91,7 @@ impl Frame {
     /// FrameTooShort, below 18 bytes, or 19 with service 4, then UnknownNumber where service 4 has
     /// no state command in byte 18.
     #[tactic(auto, unfolding(crate::specs::Frame::read_frame))]
+    #[inline(always)]
     pub fn read(bytes: &[u8]) -> Result<Frame, Refusal>
         ensures { result ≡ read_frame bytes.now }
     {

@@ -59,6 +59,7 @@ pub fn withdraw(head: &mut Head) -> Result<(), Refusal>
 
 /// An NMT event on a head: whatever leads to one comes here. The errors are reported and not
 /// counted; a reset forgets (RULES 4.5).
+#[inline(always)]
 pub fn process_event(head: &mut Head, event: NmtEvent) -> NmtTaken
     ensures { Processed head.old event result head.new }
 {
@@ -75,6 +76,7 @@ pub fn process_event(head: &mut Head, event: NmtEvent) -> NmtTaken
 
 /// An NMT event by its place, 0 to 18 (RULES 4.9). Refused by UnknownNumber; then no word changes.
 /// The errors are reported and not counted; a reset forgets (RULES 4.5).
+#[inline(always)]
 pub fn nmt_event(head: &mut Head, event: u64) -> Result<NmtTaken, Refusal>
     ensures { InPlace head.old (Call.nmt_event event) (nmt_said result)
         head.new (nmt_words head.old (read_event event)) }
@@ -85,6 +87,7 @@ pub fn nmt_event(head: &mut Head, event: u64) -> Result<NmtTaken, Refusal>
 
 /// A DLL event in the head's own NMT state, with whether a PReq is expected: the errors that it
 /// reports.
+#[inline(always)]
 pub fn process_dll_event(head: &mut Head, event: DllCsEvent, expect_preq: bool) -> DllErrors
     ensures { DllProcessed head.old event expect_preq result head.new }
 {
@@ -96,6 +99,7 @@ pub fn process_dll_event(head: &mut Head, event: DllCsEvent, expect_preq: bool) 
 /// A DLL event by its place, 0 to 5 (RULES 5.4), in the head's own NMT state, with whether a PReq
 /// is expected. Refused by UnknownNumber; then no word changes. The errors are reported and not
 /// counted.
+#[inline(always)]
 pub fn dll_event(head: &mut Head, event: u64, expect_preq: bool) -> Result<DllErrors, Refusal>
     ensures { InPlace head.old (Call.dll_event event expect_preq) (dll_said result)
         head.new (dll_words head.old expect_preq (read_cs_event event)) }
@@ -118,6 +122,7 @@ fn count(head: &mut Head, kind: CounterKind) -> bool
 
 /// Gives one error to the counters, and changes nothing else: the action is asked for and not
 /// carried out.
+#[inline(always)]
 pub fn handled(head: &mut Head, error: DllError) -> ErrorTaken
     ensures { (result ≡ replied (handled (errors_of head.old) error)) ×
         (head.new ≡ effect_words head.old (effect error)) }
@@ -137,6 +142,7 @@ pub fn handled(head: &mut Head, error: DllError) -> ErrorTaken
 /// carries: a is the node, or a and b are the state and the event of an UnexpectedEventInState;
 /// what a kind does not carry is not looked at. Refused, in this order: UnknownNumber, NodeNumber
 /// for a kind that carries a node; then no word changes.
+#[inline(always)]
 pub fn handle_error(head: &mut Head, kind: u64, a: u8, b: u8) -> Result<ErrorTaken, Refusal>
     ensures { InPlace head.old (Call.error kind a b) (error_said result)
         head.new (error_words head.old (read_error kind a b)) }
@@ -178,6 +184,7 @@ pub fn arm(head: &mut Head, time: u64) -> Result<(), Refusal>
 }
 
 /// The oldest entry, which leaves the emergency queue; of an empty queue, none.
+#[inline(always)]
 pub fn hand_out(head: &mut Head, memory: &QueueBytes) -> Option<ErrorEntry>
     ensures { ((m : List ℕ) → Refines (head_of head.old) memory.now m Call.hand_out
         (left (head_of head.new) (hand_out_answer result)) memory.now m no_run) ×

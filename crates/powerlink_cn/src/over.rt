@@ -32,7 +32,7 @@ pub extern "C" fn plcn_start_over(
 ) -> u32
     ensures { (r : Result (Unit {0}) Refusal) ×
         StartedOn head.old (run places.old number) (setup_of setup.now) r
-            head.new (run places.new number) ×
+        head.new (run places.new number) ×
         (result ≡ number_of r) }
 {
     number_of(start(head, places, number, setup.read()))
@@ -49,7 +49,7 @@ pub extern "C" fn plcn_heard_over(
 ) -> u32
     ensures { (r : Result (Unit {0}) Refusal) ×
         HeardOn head.old (run places.old number) node time_us r
-            head.new (run places.new number) ×
+        head.new (run places.new number) ×
         (result ≡ number_of r) }
 {
     number_of(heard(head, places, number, node, time_us))
@@ -68,10 +68,13 @@ pub extern "C" fn plcn_tick_over(
 ) -> u32
     ensures { (r : Result DllErrors Refusal) ×
         TickedOn head.old queue.old history.old (run places.old number) time_us r
-            head.new queue.new history.new (run places.new number) ×
+        head.new queue.new history.new (run places.new number) ×
         (result ≡ number_of r) × (logged.new ≡ sent c_errors r logged.old) }
 {
-    send(process_tick(head, queue, history, places, number, time_us), logged)
+    send(
+        process_tick(head, queue, history, places, number, time_us),
+        logged,
+    )
 }
 
 /// A node is watched from now on (`lent::arrivals::add`), with its refusals.
@@ -85,7 +88,7 @@ pub extern "C" fn plcn_add_over(
 ) -> u32
     ensures { (r : Result (Unit {0}) Refusal) ×
         AddedOn head.old (run places.old number.old) node timeout_us r
-            head.new (run places.new number.new) ×
+        head.new (run places.new number.new) ×
         (result ≡ number_of r) }
 {
     number_of(add(head, number, places, node, timeout_us))
@@ -101,7 +104,7 @@ pub extern "C" fn plcn_remove_over(
 ) -> u32
     ensures { (r : Result (Unit {0}) Refusal) ×
         RemovedOn head.old (run places.old number.old) node r
-            head.new (run places.new number.new) ×
+        head.new (run places.new number.new) ×
         (result ≡ number_of r) }
 {
     number_of(remove(head, number, places, node))

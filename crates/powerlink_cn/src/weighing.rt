@@ -41,7 +41,8 @@ use recipes::{Component, Places};
 use types::refusals::Refusal;
 use weigh::{WeighAnswer, WeighCall, WeighHead};
 
-// A call on a weigh head with what is lent.
+// A call on a weigh head with what is lent. Inlined, each export has its own call alone.
+#[inline(always)]
 fn make(
     weigh: &mut WeighHead,
     memory: &mut PlcnMemory,

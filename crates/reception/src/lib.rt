@@ -93,6 +93,7 @@ fn receive(
 /// A frame that arrived at a time in µs, 0 to 2^62 - 1: the bytes of an Ethernet frame, from its
 /// destination's address on (RULES 13). Refused, in this order: as its reading is (`Frame::read`),
 /// then by TimeLimit; then nothing changes. Nor does it where the frame is for another node.
+#[inline(always)]
 pub fn process_frame(
     head: &mut Head,
     queue: &mut QueueBytes,

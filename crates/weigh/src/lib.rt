@@ -114,6 +114,7 @@ impl WeighHead {
     /// Makes a call on a weigh head, with the memory of its node's queue and history and the
     /// watched nodes as the node's calls are lent them. A call that is refused answers the first
     /// refusal that applies and changes nothing (RULES 2).
+    #[inline(always)]
     pub fn make<N: Nodes>(
         &mut self,
         queue: &mut QueueBytes,
