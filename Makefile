@@ -3,7 +3,7 @@
 SHELL := bash
 .SHELLFLAGS := -euo pipefail -c
 .DEFAULT_GOAL := help
-.PHONY: help run try incident replay watch shift lib install play fuzz library wrapper test twins compare compare-oracle wireshark kit
+.PHONY: help run try incident replay watch shift lib install play fuzz library wrapper bench test twins compare compare-oracle wireshark kit
 
 help:
 	@echo "make run             plays scripts/run.txt through the proved node and prints what each call answers"
@@ -22,6 +22,7 @@ help:
 	@echo "                     'make compare SEEDS=\"1 2\" CALLS=200000' makes fewer)"
 	@echo "make compare-oracle  call scripts on the original Rust (the same needs)"
 	@echo "make wireshark       entries, codes, commands and flags beside Wireshark (needs tshark)"
+	@echo "make bench           what each call of the library costs beside the original Rust (the same needs)"
 	@echo "target/bin/replay SCRIPT    plays an own script, after make run (docs/CALLS.md)"
 
 kit:
@@ -134,3 +135,7 @@ wireshark:
 	@compare/wireshark.py --needs
 	@$(MAKE) --no-print-directory replay
 	@compare/wireshark.py
+
+bench: lib
+	@bench/build.sh
+	@target/bench/cargo/release/bench $(BENCH)

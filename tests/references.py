@@ -22,7 +22,7 @@ for folder, inside, names in os.walk('.'):
     inside[:] = [d for d in inside if d not in ('.git', 'target', 'out') and (folder, d) != ('./docs', 'history')]
     FILES += [os.path.relpath(os.path.join(folder, n)) for n in names]
 FILES.sort()
-TOP = ('crates', 'compare', 'tests', 'docs', 'scripts', 'wrapper')
+TOP = ('crates', 'compare', 'bench', 'tests', 'docs', 'scripts', 'wrapper')
 MARKS = {'.rt': '//', '.antt': '--', '.rs': '//', '.sh': '#', '.py': '#'}
 # a file's name with its folders; of the original Rust only what is in compare/ is here
 FILE = r'(?<![\w/.·*$-])((?:[\w.-]+/)*[\w-]+\.(?:rt\.txt|antt|rt|edit|sh|py|md|txt|out)|(?:%s)/[\w./-]*\.rs)\b' % '|'.join(TOP)
@@ -52,7 +52,7 @@ def is_code(file):
 
 
 CODE = {f: '\n'.join(line[:len(line) - len(comment(f, line))] for line in text(f).split('\n')) for f in FILES if is_code(f)}
-BESIDE = [f for f in FILES if f.startswith(('compare/', 'scripts/', 'tests/', 'wrapper/src/')) or f in ('Makefile', 'crates.txt')]
+BESIDE = [f for f in FILES if f.startswith(('compare/', 'bench/', 'scripts/', 'tests/', 'wrapper/src/')) or f in ('Makefile', 'crates.txt')]
 
 
 def part(c):
