@@ -335,7 +335,10 @@ struct plcn_run {
     uint64_t number;
 };
 
-/** A weigh head. Nobody but the functions plcn_weigh_.. reads or writes it. */
+/**
+ * A weigh head. Nobody but the functions plcn_weigh_.. reads or writes it. Two are not compared by
+ * their bytes, since some of those stand for nothing.
+ */
 struct plcn_weigh {
     uint32_t opaque[76];
 };

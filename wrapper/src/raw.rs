@@ -9,7 +9,8 @@
 
 mod functions;
 
-use core::mem::offset_of;
+use core::fmt;
+use core::mem::{MaybeUninit, offset_of};
 
 pub use functions::*;
 
@@ -179,23 +180,33 @@ pub struct Run {
     pub number: u64,
 }
 
-/// The memory of a weigh head, of which nobody else has the parts.
+/// The memory of a weigh head, of which nobody else has the parts. It holds components as they were
+/// given, with the byte between bin and grams, which nobody has to have written; so its words are
+/// not read here.
 #[repr(C)]
-#[derive(Debug, Clone, PartialEq, Eq)]
+#[derive(Clone, Copy)]
 pub struct Weigh {
-    opaque: [u32; 76],
+    opaque: [MaybeUninit<u32>; 76],
 }
 
 impl Weigh {
     /// Memory for a start.
     pub const fn new() -> Self {
-        Self { opaque: [0; 76] }
+        Self {
+            opaque: [MaybeUninit::new(0); 76],
+        }
     }
 }
 
 impl Default for Weigh {
     fn default() -> Self {
         Self::new()
+    }
+}
+
+impl fmt::Debug for Weigh {
+    fn fmt(&self, f: &mut fmt::Formatter<'_>) -> fmt::Result {
+        f.debug_struct("Weigh").finish_non_exhaustive()
     }
 }
 

@@ -42,7 +42,7 @@ impl Component {
 /// # Ok(())
 /// # }
 /// ```
-#[derive(Clone, PartialEq, Eq)]
+#[derive(Clone)]
 pub struct WeighHead {
     weigh: raw::Weigh,
     memory: raw::Memory,
@@ -456,6 +456,17 @@ impl WeighHead {
         self.memory.run.bitmap()
     }
 }
+
+/// Equal are two with equal heads, places, runs, and bytes of queue and history.
+impl PartialEq for WeighHead {
+    fn eq(&self, other: &Self) -> bool {
+        self.head() == other.head()
+            && self.places() == other.places()
+            && self.memory == other.memory
+    }
+}
+
+impl Eq for WeighHead {}
 
 /// The head of its node, its places and what it watches.
 impl fmt::Debug for WeighHead {

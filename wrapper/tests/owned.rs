@@ -1,7 +1,8 @@
 //! What the types promise beside the calls' answers.
 
 use powerlink_cn::{
-    DllError, Head, Node, Refusal, Run, Setup, Update, WATCHED_PLACES, Watched, WeighHead,
+    Component, DllError, Head, NmtEvent, Node, Refusal, Run, Setup, Update, WATCHED_PLACES,
+    Watched, WeighHead,
 };
 
 const fn can_be_sent<T: Send + Sync + 'static>() {}
@@ -96,4 +97,24 @@ fn what_is_printed_of_a_node_has_its_head() {
     let node = Node::start(&Setup::new(7), &[]).unwrap();
     let head: &Head = node.head();
     assert!(format!("{node:?}").contains(&format!("{head:?}")));
+}
+
+#[test]
+fn weigh_heads_are_equal_by_what_they_keep() {
+    let mut weigh = WeighHead::start(&Setup::new(7), &[]).unwrap();
+    for event in [
+        NmtEvent::SwReset,
+        NmtEvent::SoAReceived,
+        NmtEvent::SocReceived,
+    ] {
+        weigh.nmt_event(event);
+    }
+    let mut other = weigh.clone();
+    weigh.load_recipe(&[Component::new(12, 250)]).unwrap();
+    assert_ne!(weigh, other);
+    other.load_recipe(&[Component::new(12, 249)]).unwrap();
+    assert_eq!(weigh.head(), other.head());
+    assert_ne!(weigh, other);
+    other.load_recipe(&[Component::new(12, 250)]).unwrap();
+    assert_eq!(weigh, other);
 }

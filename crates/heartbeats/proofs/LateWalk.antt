@@ -117,10 +117,6 @@ module _ (t : ℕ) (ns : List ℕ) (k : ℕ) (formed : well_formed (watched_of (
   sooner_ends i y s e h =
       sym (e ∙ ap (λ (l : List WatchedNode). soonest s (map (refreshed t) l)) (at_end (nodes_of ns) k (places ns) (few ns k formed) i h))
 
--- what is read at a node's words is read of the node
-pub late_at : (t : ℕ) (ns : List ℕ) (i : ℕ) → i < 32 → (b : Bool) → b ≡ is_late t (node_at ns i) → b ≡ is_late t (get_or (nodes_of ns) i no_node)
-late_at t ns i h b e = e ∙ ap (is_late t) (sym (node_at_lem ns i h))
-
 -- a node that rests
 module _ (t : ℕ) (w : WatchedNode) where
   abbrev o : ℕ
@@ -256,18 +252,16 @@ pub record LateWalkIn (t : ℕ) (all : List WatchedNode) (ws₀ ws : List ℕ) (
   pub late_walk : LateWalkOf t all (head_of ws₀) (outcome_of ws d) vs
   pub words : on_late_all_words ws₀ (late_ones t all) ≡ on_late_all_words ws (late_ones t vs)
 
-module _ (ns : List ℕ) (k : ℕ) (few : k ≤ 32) (t : ℕ) (ws₀ : List ℕ) where
-  abbrev nodes : List WatchedNode
-  nodes = nodes_of ns
-
+-- over the first k of 32 places, in whatever form
+module _ (nodes : List WatchedNode) (long : length nodes ≡ 32) (k : ℕ) (few : k ≤ 32) (t : ℕ) (ws₀ : List ℕ) where
   abbrev all : List WatchedNode
   all = watched_of nodes k
 
   pub walk_begins : LateWalkIn t all ws₀ ws₀ (record { logged = errors.None; ended = false }) (drop 0 (take k nodes))
   walk_begins =
       record {
-        late_walk = late_errors_begin nodes k (places ns) few t (head_of ws₀) _ refl;
-        words = ap (λ (l : List WatchedNode). on_late_all_words ws₀ (late_ones t l)) (whole nodes k (places ns) few);
+        late_walk = late_errors_begin nodes k long few t (head_of ws₀) _ refl;
+        words = ap (λ (l : List WatchedNode). on_late_all_words ws₀ (late_ones t l)) (whole nodes k long few);
       }
 
   module _ (ws : List ℕ) (d : PhaseOutcome) (i : ℕ) (b : LateWalkIn t all ws₀ ws d (drop i (take k nodes))) where
@@ -275,11 +269,11 @@ module _ (ns : List ℕ) (k : ℕ) (few : k ≤ 32) (t : ℕ) (ws₀ : List ℕ)
     unfolding on_late_all_words
     walk_over z q m =
         record {
-          ticks = late_errors_over nodes k (places ns) few t (head_of ws₀) (outcome_of ws d) i b.late_walk z q m;
-          words = sym (b.words ∙ ap (λ (l : List WatchedNode). on_late_all_words ws (late_ones t l)) (at_end nodes k (places ns) few i z));
+          ticks = late_errors_over nodes k long few t (head_of ws₀) (outcome_of ws d) i b.late_walk z q m;
+          words = sym (b.words ∙ ap (λ (l : List WatchedNode). on_late_all_words ws (late_ones t l)) (at_end nodes k long few i z));
         }
 
-    module _ (inside : i < k) (r : WatchedNode) (is : r ≡ node_at ns i) (z : Bool) (l : z ≡ is_late t r) where
+    module _ (inside : i < k) (r : WatchedNode) (is : r ≡ get_or nodes i no_node) (z : Bool) (l : z ≡ is_late t r) where
       abbrev w : WatchedNode
       w = get_or nodes i no_node
 
@@ -287,23 +281,23 @@ module _ (ns : List ℕ) (k : ℕ) (few : k ≤ 32) (t : ℕ) (ws₀ : List ℕ)
       left = drop (i + 1) (take k nodes)
 
       read : z ≡ is_late t w
-      read = late_at t ns i (omega arith) z (l ∙ ap (is_late t) is)
+      read = l ∙ ap (is_late t) is
 
       turn : (y : Bool) → z ≡ y → late_ones t (drop i (take k nodes)) ≡ pick y (w ∷ late_ones t left) (late_ones t left)
       turn y e =
-          ap (late_ones t) (from_here nodes k (places ns) few i no_node inside)
+          ap (late_ones t) (from_here nodes k long few i no_node inside)
           ∙ ap (λ (b : Bool). pick b (w ∷ late_ones t left) (late_ones t left)) (sym read ∙ e)
 
       pub walk_passes : z ≡ false → LateWalkIn t all ws₀ ws d left
       walk_passes e =
           record {
-            late_walk = late_errors_pass nodes k (places ns) few t (head_of ws₀) (outcome_of ws d) i b.late_walk no_node inside z read e;
+            late_walk = late_errors_pass nodes k long few t (head_of ws₀) (outcome_of ws d) i b.late_walk no_node inside z read e;
             words = b.words ∙ ap (on_late_all_words ws) (turn false e);
           }
 
       module _ (late : z ≡ true) (r' : PhaseOutcome) (ws' : List ℕ) (y : (v : WatchedNode) → v.node ≡ r.node → (q m : List ℕ) → TicksIn ws q m (on_late (plain (head_of ws) q m) v) r' ws' q m (on_late_words ws v)) where
         count_late : (q m : List ℕ) → TicksIn ws q m (on_late (plain (head_of ws) q m) w) r' ws' q m (on_late_words ws w)
-        count_late = y w (ap (λ (v : WatchedNode). v.node) (node_at_lem ns i (omega arith) ∙ sym is))
+        count_late = y w (ap (λ (v : WatchedNode). v.node) (sym is))
 
         ends : r'.ended ≡ ends_by ws (timeout_of w)
         unfolding head_of on_late
@@ -319,13 +313,13 @@ module _ (ns : List ℕ) (k : ℕ) (few : k ≤ 32) (t : ℕ) (ws₀ : List ℕ)
         pub walk_stops : r'.ended ≡ true → (q m : List ℕ) → TicksIn ws₀ q m (on_late_all (plain (head_of ws₀) q m) (late_ones t all)) r' ws' q m (on_late_all_words ws₀ (late_ones t all))
         walk_stops e q m =
             record {
-              ticks = late_errors_stop nodes k (places ns) few t (head_of ws₀) (outcome_of ws d) i b.late_walk no_node inside z read late (outcome_of ws' r') (λ q m. (count_late q m).ticks) e q m;
+              ticks = late_errors_stop nodes k long few t (head_of ws₀) (outcome_of ws d) i b.late_walk no_node inside z read late (outcome_of ws' r') (λ q m. (count_late q m).ticks) e q m;
               words = (count_late q m).words ∙ sym (here true e);
             }
 
         pub walk_goes_on : r'.ended ≡ false → LateWalkIn t all ws₀ ws' r' left
         walk_goes_on e =
             record {
-              late_walk = late_errors_go_on nodes k (places ns) few t (head_of ws₀) (outcome_of ws d) i b.late_walk no_node inside z read late (outcome_of ws' r') (λ q m. (count_late q m).ticks) e;
+              late_walk = late_errors_go_on nodes k long few t (head_of ws₀) (outcome_of ws d) i b.late_walk no_node inside z read late (outcome_of ws' r') (λ q m. (count_late q m).ticks) e;
               words = here false e ∙ ap (λ (l : List ℕ). on_late_all_words l (late_ones t left)) (sym (count_late [] []).words);
             }

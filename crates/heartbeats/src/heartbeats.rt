@@ -59,14 +59,13 @@ pub fn refresh_all(nodes: &mut NodeWords, count: usize, time: u64) -> Option<u64
     moment(early.saturating_add(3))
 }
 
-// The error of a late node: neither counter 1 nor an entry follows from it.
-fn on_late(head: &mut Head, node: u64) -> PhaseOutcome
-    requires { node ≤ 255 }
+/// The error of a late node: neither counter 1 nor an entry follows from it.
+pub fn on_late(head: &mut Head, node: u8) -> PhaseOutcome
     ensures { (w : WatchedNode) → w.node ≡ node → (q m : List ℕ) →
         TicksIn head.old q m (on_late (plain (head_of head.old) q m) w)
         result head.new q m (on_late_words head.old w) }
 {
-    let node_id = NodeId(node as u8);
+    let node_id = NodeId(node);
     let answer = handled(head, DllError::HeartbeatTimeout { node_id });
     if answer.signal {
         signal(head);
@@ -88,7 +87,7 @@ pub fn on_late_all(head: &mut Head, formed: Formed, time: u64) -> PhaseOutcome
     'walk: for place in 0..formed.count {
         let node = NodeRecord::at(formed.nodes, place);
         if is_late(node, time) {
-            outcome = on_late(head, node.node);
+            outcome = on_late(head, node.node as u8);
             if outcome.ended {
                 break 'walk;
             }

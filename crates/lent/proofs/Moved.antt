@@ -1,12 +1,11 @@
--- Where a node is to stand in a run, as a count of the nodes that are not above it; and the places
--- past the watched ones, cleared.
+-- Where a node stands among others, or is to stand, as a count of those before it.
 -- Assumes nothing.
 use Prim.Native.Nat.{ℕ, zero, suc, ◌+◌, ◌-◌, ◌≤◌}
 use mathlib.Core.Path.{◌≡◌, refl, sym, ap, ◌∙◌}
-use mathlib.Core.Bool.{Bool, true, false, cond}
+use mathlib.Core.Bool.{Bool, true, false, not, cond}
 use mathlib.Core.List.{List, [], ◌∷◌}
 use native.Mathlib.Omega.{arith}
-use lib.Dec.{ltb, leb}
+use lib.Dec.{eqb, ltb, leb}
 use lib.ListN.{length, take}
 use borrow.Author.Tests.{lt-ltb, le-ltb}
 use Rattle.std.specs.List.{prefix_len}
@@ -14,6 +13,7 @@ use Rattle.std.proofs.lemmas.List.Folds.{length-prefix_len}
 use Rattle.std.proofs.lemmas.Bool.{leb-true, leb-false}
 use Rattle.types.specs.Pick.{pick}
 use Rattle.watched.specs.declared.nodes.WatchedNode.{WatchedNode}
+use Rattle.watched.specs.Watched.{place_of}
 use Rattle.partners.specs.Walks.{place_before}
 
 module _ (n : ℕ) where
@@ -42,3 +42,28 @@ module _ (n : ℕ) where
   place_counted ws p e =
       let s : p ≡ place_before n ws = e ∙ length-prefix_len low ws ∙ counted ws in
       (s, omega (arith, s, within ws))
+
+  -- the place of the node, as a count of those before it
+  abbrev other : WatchedNode → Bool
+  other w = not (eqb w.node n)
+
+  counted_others : (ws : List WatchedNode) → prefix_len other ws ≡ place_of n ws
+  counted_others [] = refl
+  counted_others (w ∷ ws) = by (eqb w.node n) (counted_others ws)
+    where
+      by : (b : Bool) → prefix_len other ws ≡ place_of n ws → cond (not b) (1 + prefix_len other ws) 0 ≡ pick b 0 (suc (place_of n ws))
+      by true more = refl
+      by false more = omega (arith, more)
+
+  place_within : (ws : List WatchedNode) → place_of n ws ≤ length ws
+  place_within [] = omega arith
+  place_within (w ∷ ws) = by (eqb w.node n) (place_within ws)
+    where
+      by : (b : Bool) → place_of n ws ≤ length ws → pick b 0 (suc (place_of n ws)) ≤ suc (length ws)
+      by true h = omega arith
+      by false h = omega (arith, h)
+
+  pub place_of_counted : (ws : List WatchedNode) (p : ℕ) → p ≡ length (take (prefix_len other ws) ws) → (p ≡ place_of n ws) × (p ≤ length ws)
+  place_of_counted ws p e =
+      let s : p ≡ place_of n ws = e ∙ length-prefix_len other ws ∙ counted_others ws in
+      (s, omega (arith, s, place_within ws))

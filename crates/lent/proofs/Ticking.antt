@@ -1,31 +1,28 @@
 -- The tick that is lent a run, by what was found of it, over plain variables: its refusals, and what
 -- it leaves, by the laws that the form in words uses too.
 -- Assumes nothing.
-use Prim.Native.Nat.{ℕ}
-use mathlib.Core.Path.{◌≡◌, refl, sym, ap, ap₂, subst, ◌∙◌}
-use mathlib.Core.Bool.{Bool, true, false, not}
+use Prim.Native.Nat.{ℕ, ◌≤◌}
+use mathlib.Core.Path.{◌≡◌, refl, sym, ap, ap₂, ◌∙◌}
+use mathlib.Core.Bool.{Bool, true, false}
 use mathlib.Core.List.{List, map}
 use lib.ListN.{length, take}
-use Rattle.std.proofs.lemmas.Bool.{not-true, not-false}
 use Rattle.types.specs.Pick.{pick, both, all_of}
 use Rattle.types.proofs.Tests.{both_first, both_second}
 use Rattle.types.specs.declared.refusals.Refusal.{Refusal}
 use Rattle.types.specs.declared.refusals.Refusal.TheVariants.{WatchedNodes, TimeLimit, BeforeHeard}
 use Rattle.types.specs.declared.nmt.states.NmtState.{NmtState}
 use Rattle.types.specs.declared.frame.error.types.DllErrors.{DllErrors}
-use Rattle.std.specs.Prelude.{is_some}
 use Rattle.std.specs.declared.option.Option.{Option}
 use Rattle.std.specs.declared.option.Option.TheVariants.{Some, None}
 use Rattle.std.specs.declared.result.Result.{Result}
 use Rattle.std.specs.declared.result.Result.TheVariants.{Ok, Err}
-use Rattle.counters.specs.declared.counters.ThresholdCounter.{ThresholdCounter}
 use Rattle.head.specs.Words.{nmt_of, head_of}
 use Rattle.head.specs.Written.{earliest_written}
 use Rattle.watched.specs.declared.nodes.WatchedNode.{WatchedNode}
 use Rattle.watched.specs.Watched.{in_time, watched_of, Run, run, watching, well_lent, changing, first}
 use Rattle.watched.specs.Nodes.{rests, not_before, never, soonest, moment_of}
-use Rattle.watched.proofs.Lists.{each_nodes}
-use Rattle.watched.proofs.Watching.{tried_unformed, tried_formed}
+use Rattle.watched.proofs.Lists.{each_nodes, whole}
+use Rattle.watched.proofs.Watching.{tried_unformed, tried_formed, lent_inside}
 use Rattle.node.specs.Steps.{earliest}
 use Rattle.node.specs.Heartbeats.{checks_heartbeats, refreshed}
 use Rattle.node.specs.Tick.{tick_taken}
@@ -37,12 +34,9 @@ use Rattle.heartbeats.proofs.LateWalk.{all_refreshed_fit}
 use Rattle.tick.specs.TickWords.{tick_words}
 use Rattle.tick.specs.TickIn.{is_still, TickedOn, StillTicks}
 use Rattle.tick.proofs.Tickings.{run_unformed, run_late, run_before, run_accepted, still_on}
-use Rattle.lent.specs.declared.run.Findings.{Findings}
-use Rattle.lent.specs.Runs.{found_all, found_in, rest_in, still_in, sought_from, late_errors_at, late_errors_all, inspected, byte_or_none}
+use Rattle.lent.specs.Runs.{found_in, rest_in, still_in, active_in}
 use Rattle.lent.proofs.Walks.{nowhere}
-use Rattle.lent.proofs.SeenLaws.{Seen, seen, seen_lent}
-use Rattle.lent.proofs.LateErrorLaws.{byte_crossed}
-use Rattle.lent.proofs.Found.{unlent, found, rises}
+use Rattle.lent.proofs.Found.{unlent, found, formed, long, below, rises}
 
 -- whether no node asks for anything, by the two walks
 module _ (t k : ℕ) (vs : List WatchedNode) where
@@ -86,56 +80,55 @@ module _ (ws q m : List ℕ) (vs : List WatchedNode) (k t : ℕ) where
         (z ∙ ap moment_of u.1) a ws' q' m' i
 
   -- where some node asks for something, or the run is not well formed
-  module _ (n : both (well_lent R) (is_still C t (watching R)) ≡ false) (c : ThresholdCounter) (d : c ≡ late_errors_at ws) (o : Option Findings) (sees : o ≡ inspected k t c vs) where
+  module _ (n : both (well_lent R) (is_still C t (watching R)) ≡ false) (o : Option Bool) (sees : o ≡ active_in t R) where
     pub tick_unformed : o ≡ None → TickedOn ws q m R t (Err WatchedNodes) ws q m R
-    tick_unformed p = run_unformed ws q m R t (sym (seen_lent k t c vs o sees) ∙ ap (λ (o : Option Findings). is_some o) p)
+    tick_unformed p = run_unformed ws q m R t (tried_unformed (well_lent R) (all_of (not_before t) (watching R)) o sees p)
 
-    module _ (s : Findings) (p : o ≡ Some s) where
-      known : Seen k t c vs s
-      known = seen k t c vs o sees s p
+    module _ (h : Bool) (p : o ≡ Some h) where
+      known : (well_lent R ≡ true) × (h ≡ all_of (not_before t) (watching R))
+      known = tried_formed (well_lent R) (all_of (not_before t) (watching R)) o sees h p
+
+      pub well : well_lent R ≡ true
+      well = known.0
 
       pub checked : C ≡ true
-      checked = by C (sym (ap (λ (b : Bool). both b (is_still C t (watching R))) known.well) ∙ n)
+      checked = by C (sym (ap (λ (b : Bool). both b (is_still C t (watching R))) well) ∙ n)
         where
           by : (c : Bool) → is_still c t (watching R) ≡ false → c ≡ true
           by true e = refl
           by false e = sym e
 
-      pub byte : byte_or_none s.late_errors.crossed ≡ true
-      byte =
-          ap (λ (f : Findings). byte_or_none f.late_errors.crossed) known.found
-          ∙ byte_crossed t (sought_from c) (watched_of vs k) refl (all_fit (watched_of vs k) known.formed)
+      pub inside : k ≤ length vs
+      inside = lent_inside R well
 
       pub tick_late : in_time t ≡ false → TickedOn ws q m R t (Err TimeLimit) ws q m R
-      tick_late b = run_late ws q m R t known.well b
+      tick_late b = run_late ws q m R t well b
 
       module _ (b : in_time t ≡ true) where
-        after_is : pick C (all_of (not_before t) (watched_of vs k)) true ≡ s.after
-        after_is = ap (λ (c : Bool). pick c (all_of (not_before t) (watched_of vs k)) true) checked ∙ sym known.after
+        heard_is : pick C (all_of (not_before t) (watched_of vs k)) true ≡ h
+        heard_is = ap (λ (c : Bool). pick c (all_of (not_before t) (watched_of vs k)) true) checked ∙ sym known.1
 
-        pub tick_before : not s.after ≡ true → TickedOn ws q m R t (Err BeforeHeard) ws q m R
-        tick_before z = run_before ws q m R t known.well b (after_is ∙ not-true s.after z)
+        pub tick_before : h ≡ false → TickedOn ws q m R t (Err BeforeHeard) ws q m R
+        tick_before z = run_before ws q m R t well b (heard_is ∙ z)
 
         module _ (vs' : List WatchedNode) (d' : vs' ≡ first (map (refreshed t)) k vs) where
           left : run vs' k ≡ pick C (changing (map (refreshed t)) R) R
           left = ap (λ (l : List WatchedNode). run l k) d' ∙ ap (λ (c : Bool). pick c (changing (map (refreshed t)) R) R) (sym checked)
 
           watched : watching (run vs' k) ≡ map (refreshed t) (watched_of vs k)
-          watched = ap (λ (l : List WatchedNode). watched_of l k) d' ∙ each_nodes vs k known.long known.below (refreshed t)
+          watched = ap (λ (l : List WatchedNode). watched_of l k) d' ∙ each_nodes vs k (long vs k well) (below vs k well) (refreshed t)
 
-          moment : moment_of s.soonest ≡ earliest (watching (run vs' k))
+          moment : moment_of (soonest never (map (refreshed t) (take k vs))) ≡ earliest (watching (run vs' k))
           moment =
-              ap moment_of known.moment
-              ∙ moment_of_lem (map (refreshed t) (watched_of vs k)) (all_refreshed_fit t (watched_of vs k) b (all_fit (watched_of vs k) known.formed))
+              ap (λ (l : List WatchedNode). moment_of (soonest never (map (refreshed t) l))) (sym (whole vs k (long vs k well) (below vs k well)))
+              ∙ moment_of_lem (map (refreshed t) (watched_of vs k)) (all_refreshed_fit t (watched_of vs k) b (all_fit (watched_of vs k) (formed vs k well)))
               ∙ ap earliest (sym watched)
 
           pub tick_accepted :
-              not s.after ≡ false → (u : ℕ) → u ≡ t → (d : PhaseOutcome) (ws₁ q' m' : List ℕ) →
-              ((vs : List WatchedNode) → s.late_errors ≡ late_errors_all ws u vs → TicksIn ws q m (tick_taken (plain (head_of ws) q m) u vs) d ws₁ q' m' (tick_words ws q m u vs)) →
-              length ws₁ ≡ 60 → (x : Option ℕ) → x ≡ moment_of s.soonest → (ws' : List ℕ) → ws' ≡ earliest_written ws₁ x →
+              h ≡ true → (d : PhaseOutcome) (ws₁ q' m' : List ℕ) →
+              TicksIn ws q m (tick_taken (plain (head_of ws) q m) t (watching R)) d ws₁ q' m' (tick_words ws q m t (watching R)) →
+              length ws₁ ≡ 60 → (s : ℕ) → s ≡ soonest never (map (refreshed t) (take k vs)) → (x : Option ℕ) → x ≡ moment_of s →
+              (ws' : List ℕ) → ws' ≡ earliest_written ws₁ x →
               TickedOn ws q m R t (Ok d.logged) ws' q' m' (run vs' k)
-          tick_accepted z u i d₁ ws₁ q' m' w long x y ws' v =
-              run_accepted ws q m R t known.well b (after_is ∙ not-false s.after z) d₁ ws₁ q' m'
-              (subst (λ (u : ℕ). s.late_errors ≡ late_errors_all ws u (watched_of vs k) → TicksIn ws q m (tick_taken (plain (head_of ws) q m) u (watched_of vs k)) d₁ ws₁ q' m' (tick_words ws q m u (watched_of vs k)))
-              i (w (watched_of vs k)) (ap (λ (f : Findings). f.late_errors) (known.found ∙ ap (λ (c : ThresholdCounter). found_all t (sought_from c) (watched_of vs k)) d)))
-              long _ left x (y ∙ moment) ws' v
+          tick_accepted z d ws₁ q' m' w many s e x y ws' v =
+              run_accepted ws q m R t well b (heard_is ∙ z) d ws₁ q' m' w many _ left x (y ∙ ap moment_of e ∙ moment) ws' v

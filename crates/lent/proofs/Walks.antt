@@ -6,20 +6,24 @@ use mathlib.Core.Path.{◌≡◌, refl, sym, ap, ap₂, ◌∙◌}
 use mathlib.Core.Bool.{Bool, true, false}
 use mathlib.Core.List.{List, [], ◌∷◌, map}
 use native.Mathlib.Omega.{arith}
+use lib.Bits.{bit_or}
 use lib.Dec.{eqb, leb, ltb}
 use lib.ListN.{length, get_or, take, drop}
-use borrow.Author.Tests.{ltb-true, ne_eqb, eqb-true, eq-eqb}
+use borrow.Author.Tests.{ltb-true, lt-ltb, le-ltb, le-leb, ne_eqb, eqb-true, eq-eqb}
 use Rattle.types.specs.Pick.{pick, both, all_of}
-use Rattle.types.proofs.Tests.{both_first, both_second, both_false}
+use Rattle.types.specs.Types.{is_node}
+use Rattle.types.proofs.Tests.{both_first, both_second, both_false, both_true}
 use Rattle.std.specs.declared.option.Option.{Option}
 use Rattle.std.specs.declared.option.Option.TheVariants.{Some, None}
 use Rattle.watched.specs.declared.nodes.WatchedNode.{WatchedNode}
-use Rattle.watched.specs.Watched.{fits, well_formed, no_node, heard_now, heard_at, place_of, watched_of, run, well_lent}
-use Rattle.watched.specs.Nodes.{rising, rests, never, sooner_by, soonest}
+use Rattle.watched.specs.Watched.{in_time, timed, fits, well_formed, no_node, heard_now, heard_at, place_of, watched_of, run, well_lent}
+use Rattle.watched.specs.Nodes.{rising, rests, not_before, well_ordered, numbered, never, sooner_by, soonest}
 use Rattle.watched.specs.Scan.{sum_of, three_before}
-use Rattle.watched.proofs.Lists.{too_many, tests_begin, from_here, at_end, whole, taken_long}
+use Rattle.watched.proofs.Lists.{too_many, tests_begin, from_here, at_end, whole}
+use Rattle.watched.proofs.ScanLaws.{both_assoc, not_well_ordered, not_numbered, is_rising}
+use Rattle.watched.proofs.Walk.{in_time_both}
 use Rattle.heartbeats.proofs.LateWalk.{sooner_joined}
-use Rattle.lent.specs.Runs.{heard_if, place_if, found_in, rest_in}
+use Rattle.lent.specs.Runs.{heard_if, found_in, rest_in, active_in}
 
 -- ascending nodes with the one of the number n heard: at most one has it
 module _ (n t : ℕ) where
@@ -46,14 +50,8 @@ module _ (n t : ℕ) where
 pub nowhere : (t : ℕ) (ws : List WatchedNode) → rising 0 ws ≡ true → heard_at 0 t ws ≡ ws
 nowhere t ws r = sym (heard_rising 0 t 0 ws r) ∙ others 0 t 0 ws (omega arith) r
 
--- the place of a node is within the list
-place_within : (n : ℕ) (ws : List WatchedNode) → place_of n ws ≤ length ws
-place_within n [] = omega arith
-place_within n (w ∷ ws) = by (eqb w.node n) (place_within n ws)
-  where
-    by : (b : Bool) → place_of n ws ≤ length ws → pick b 0 (suc (place_of n ws)) ≤ suc (length ws)
-    by true h = omega arith
-    by false h = omega (arith, h)
+low : (n : ℕ) → 0 < n → n ≤ 240 → is_node n ≡ true
+low n h l = rw (le-leb 1 n h, le-leb n 240 l)
 
 module _ (vs : List WatchedNode) (k : ℕ) where
   abbrev lent : Bool
@@ -92,12 +90,22 @@ module _ (vs : List WatchedNode) (k : ℕ) where
     pub rest_few : 32 < k → None ≡ rest_in t (run vs k)
     rest_few h = rest_none (not_few h)
 
+  module _ (t : ℕ) where
+    pub active_none : lent ≡ false → None ≡ active_in t (run vs k)
+    active_none h = sym (ap (λ (b : Bool). pick b (Some (all_of (not_before t) (watched_of vs k))) None) h)
+
+    pub active_long : (length vs ≡ 32 → ⊥) → None ≡ active_in t (run vs k)
+    active_long h = active_none (not_long h)
+
+    pub active_few : 32 < k → None ≡ active_in t (run vs k)
+    active_few h = active_none (not_few h)
+
   module _ (long : length vs ≡ 32) (few : k ≤ 32) where
     pub begins : lent ≡ rising 0 (drop 0 xs)
     begins = ap (λ (b : Bool). both b (well_formed (watched_of vs k))) (eq-eqb (length vs) 32 long) ∙ tests_begin vs k long few
 
-    pub place_begins : (n : ℕ) → place_of n xs ≡ min k (0 + place_of n (drop 0 xs))
-    place_begins n = let h : place_of n xs ≤ length xs = place_within n xs in omega (arith, h, taken_long vs k long few)
+    pub find_unordered : (n t : ℕ) → well_ordered 0 xs ≡ false → None ≡ found_in n t (run vs k)
+    find_unordered n t h = find_none n t (begins ∙ not_well_ordered 0 xs h)
 
     -- a turn at the i-th node
     module _ (i : ℕ) (inside : i < k) (w : WatchedNode) (is : w ≡ get_or vs i no_node) where
@@ -134,14 +142,34 @@ module _ (vs : List WatchedNode) (k : ℕ) where
             e ∙ ap (λ (l : List WatchedNode). soonest (sum_of a 3) (map (heard_if n t) l)) here
             ∙ ap (λ (y : ℕ). soonest y (map (heard_if n t) rest)) (sooner_joined a (heard_if n t w) ∙ ap (λ (b : ℕ). sum_of b 3) (sym g))
 
-      pub place_next :
-          (n x p : ℕ) → x ≡ min p (i + place_of n (drop i xs)) → (q : ℕ) → q ≡ place_if n i p w →
-          (x ≡ min q (i + 1 + place_of n rest)) × (q ≤ p)
-      place_next n x p e q g = by (eqb w.node n) (e ∙ ap (λ (l : List WatchedNode). min p (i + place_of n l)) here) g
-        where
-          by : (b : Bool) → x ≡ min p (i + pick b 0 (suc (place_of n rest))) → q ≡ pick b (min p i) p → (x ≡ min q (i + 1 + place_of n rest)) × (q ≤ p)
-          by true e g = (omega (arith, e, g), omega (arith, g))
-          by false e g = (omega (arith, e, g), omega (arith, g))
+      -- as long as the numbers climb, whatever the times
+      module _ (b : Bool) (l m : ℕ) (e : b ≡ both (in_time m) (well_ordered l (drop i xs))) where
+        climbs : (y : Bool) → ltb l w.node ≡ y → b ≡ both (in_time m) (both (both y (timed w)) (well_ordered w.node rest))
+        climbs y h =
+            e ∙ ap (λ (q : List WatchedNode). both (in_time m) (well_ordered l q)) here
+            ∙ ap (λ (y : Bool). both (in_time m) (both (both y (timed w)) (well_ordered w.node rest))) h
+
+        pub climb_stops : w.node ≤ l → b ≡ false
+        climb_stops h = climbs false (le-ltb l w.node h) ∙ both_false (in_time m)
+
+        pub climb_next : l < w.node → (p : ℕ) → p ≡ bit_or m (bit_or w.timeout w.last_heard) → b ≡ both (in_time p) (well_ordered w.node rest)
+        climb_next h p g =
+            let more : in_time p ≡ both (in_time m) (timed w) =
+            ap in_time g ∙ in_time_both m (bit_or w.timeout w.last_heard) ∙ ap (both (in_time m)) (in_time_both w.timeout w.last_heard) in
+            climbs true (lt-ltb l w.node h)
+            ∙ both_assoc (in_time m) (timed w) (well_ordered w.node rest)
+            ∙ ap (λ (y : Bool). both y (well_ordered w.node rest)) (sym more)
+
+      pub numbers_next : (b : Bool) (l : ℕ) → (l ≤ 240 → b ≡ all_of numbered (drop i xs)) → l < w.node → w.node ≤ 240 → b ≡ all_of numbered rest
+      numbers_next b l e h g =
+          e (omega (arith, h, g)) ∙ ap (all_of numbered) here
+          ∙ ap (λ (y : Bool). both y (all_of numbered rest)) (low w.node (omega (arith, h)) g)
+
+      pub heard_all_next : (b y : Bool) (t : ℕ) → b ≡ both y (all_of (not_before t) (drop i xs)) → (z : Bool) → z ≡ both y (not_before t w) → b ≡ both z (all_of (not_before t) rest)
+      heard_all_next b y t e z f =
+          e ∙ ap (λ (l : List WatchedNode). both y (all_of (not_before t) l)) here
+          ∙ both_assoc y (not_before t w) (all_of (not_before t) rest)
+          ∙ ap (λ (z : Bool). both z (all_of (not_before t) rest)) (sym f)
 
     -- behind the last one
     module _ (i : ℕ) (end : k ≤ i) where
@@ -151,18 +179,42 @@ module _ (vs : List WatchedNode) (k : ℕ) where
       ends : (b : Bool) (l : ℕ) → b ≡ rising l (drop i xs) → b ≡ true
       ends b l e = e ∙ ap (rising l) none_left
 
-      pub find_ends :
-          (n t l : ℕ) → lent ≡ rising l (drop i xs) → (a s : ℕ) → soonest never (map (heard_if n t) xs) ≡ soonest (sum_of a 3) (map (heard_if n t) (drop i xs)) → s ≡ sum_of a 3 →
-          (p : ℕ) → place_of n xs ≡ min p (i + place_of n (drop i xs)) → p ≤ k → Some (p, s) ≡ found_in n t (run vs k)
-      find_ends n t l e a s g f p h below =
+      pub numbers_end : (l : ℕ) → (l ≤ 240 → all_of numbered xs ≡ all_of numbered (drop i xs)) → l ≤ 240 → all_of numbered xs ≡ true
+      numbers_end l e h = e h ∙ ap (all_of numbered) none_left
+
+      module _ (n t l m : ℕ) (e : well_ordered 0 xs ≡ both (in_time m) (well_ordered l (drop i xs))) where
+        in_order : well_ordered 0 xs ≡ both (in_time m) true
+        in_order = e ∙ ap (λ (q : List WatchedNode). both (in_time m) (well_ordered l q)) none_left
+
+        pub find_late : in_time m ≡ false → None ≡ found_in n t (run vs k)
+        find_late h = find_none n t (begins ∙ not_well_ordered 0 xs (in_order ∙ ap (λ (b : Bool). both b true) h))
+
+        module _ (h : in_time m ≡ true) (b : Bool) (f : b ≡ all_of numbered xs) where
+          ordered : well_ordered 0 xs ≡ true
+          ordered = in_order ∙ ap (λ (b : Bool). both b true) h
+
+          pub find_unnumbered : b ≡ false → None ≡ found_in n t (run vs k)
+          find_unnumbered g = find_none n t (begins ∙ not_numbered 0 xs ordered (sym f ∙ g))
+
+          pub find_ends :
+              b ≡ true → (a s : ℕ) → soonest never (map (heard_if n t) xs) ≡ soonest (sum_of a 3) (map (heard_if n t) (drop i xs)) → s ≡ sum_of a 3 →
+              (p : ℕ) → p ≡ place_of n xs → Some (p, s) ≡ found_in n t (run vs k)
+          find_ends g a s x y p z =
+              let up : rising 0 xs ≡ true = is_rising 0 xs ordered (sym f ∙ g) in
+              let yes : lent ≡ true = begins ∙ up in
+              let same : watched_of vs k ≡ xs = whole vs k long few in
+              let soon : soonest never (heard_at n t xs) ≡ s =
+              ap (soonest never) (sym (heard_rising n t 0 xs up)) ∙ x ∙ ap (λ (l : List WatchedNode). soonest (sum_of a 3) (map (heard_if n t) l)) none_left ∙ sym y in
+              sym (ap₂ (λ (b : Bool) (l : List WatchedNode). pick b (Some (place_of n l, soonest never (heard_at n t l))) None) yes same
+              ∙ ap₂ (λ (p s : ℕ). Some (p, s)) (sym z) soon)
+
+      pub active_ends :
+          (t l : ℕ) → lent ≡ rising l (drop i xs) → (y : Bool) → all_of (not_before t) xs ≡ both y (all_of (not_before t) (drop i xs)) → Some y ≡ active_in t (run vs k)
+      active_ends t l e y f =
           let yes : lent ≡ true = ends lent l e in
-          let up : rising 0 xs ≡ true = sym begins ∙ yes in
-          let same : watched_of vs k ≡ xs = whole vs k long few in
-          let at : place_of n xs ≡ p = h ∙ ap (λ (l : List WatchedNode). min p (i + place_of n l)) none_left ∙ omega (arith, below, end) in
-          let soon : soonest never (heard_at n t xs) ≡ s =
-          ap (soonest never) (sym (heard_rising n t 0 xs up)) ∙ g ∙ ap (λ (l : List WatchedNode). soonest (sum_of a 3) (map (heard_if n t) l)) none_left ∙ sym f in
-          sym (ap₂ (λ (b : Bool) (l : List WatchedNode). pick b (Some (place_of n l, soonest never (heard_at n t l))) None) yes same
-          ∙ ap₂ (λ (p s : ℕ). Some (p, s)) at soon)
+          let all : all_of (not_before t) (watched_of vs k) ≡ y =
+          ap (all_of (not_before t)) (whole vs k long few) ∙ f ∙ ap (λ (l : List WatchedNode). both y (all_of (not_before t) l)) none_left ∙ both_true y in
+          sym (ap₂ (λ (b : Bool) (y : Bool). pick b (Some y) None) yes all)
 
       pub rest_ends :
           (t l : ℕ) → lent ≡ rising l (drop i xs) → all_of (rests t) xs ≡ all_of (rests t) (drop i xs) → (s : ℕ) → soonest never xs ≡ soonest s (drop i xs) →

@@ -1,6 +1,6 @@
-//! The tick over a lent run of watched nodes: where no node asks for anything the run is read once
-//! and not written; otherwise a walk finds out what the tests and the heartbeats ask, the head's
-//! part follows, and a walk sets the last-heard times.
+//! The tick over a lent run of watched nodes, as `tick` has it over words: where no node asks for
+//! anything the run is read once and not written; otherwise the heartbeats, the deadline, and the
+//! last-heard times.
 ghost use Rattle.std.specs.Prelude.{◌≡◌, true, false, List, ℕ};
 ghost use Rattle.types.specs.Pick.{both};
 ghost use Rattle.head.specs.Words.{nmt_of, head_of};
@@ -10,47 +10,45 @@ ghost use Rattle.node.specs.Refines.{plain};
 ghost use Rattle.heartbeats.specs.Words.{on_late_all_words};
 ghost use Rattle.tick.specs.TickWords.{tick_words};
 ghost use Rattle.phases.specs.PartsIn.{TicksIn};
-ghost use Rattle.lent.specs.Runs.{late_errors_all, byte_or_none, still_in};
+ghost use Rattle.lent.specs.Runs.{still_in};
 ghost use Rattle.tick.specs.TickIn.{TickedOn, is_still};
 ghost use Rattle.watched.specs.Watched.{run, watching, well_lent};
 
-use crate::run::{LateErrors, at_rest, find, inspect, refresh};
-use counters::counters::CounterKind;
+use crate::run::{active, at_rest, find, refresh};
 use entries::sizes::{HistoryBytes, QueueBytes};
-use head::errors::{counter_of, set_counter};
 use head::machines::state_at;
 use head::state::Head;
 use head::watch::set_earliest;
-use phases::{PhaseOutcome, finish, signal};
+use heartbeats::heartbeats::{is_late, on_late};
+use phases::PhaseOutcome;
 use tick::deadline::by_deadline;
 use tick::tick::{checks_heartbeats, tick_still};
-use types::frame::error::types::{DllError, DllErrors};
+use types::frame::error::types::DllErrors;
 use types::refusals::Refusal;
-use types::types::NodeId;
 use watched::nodes::{WatchedNode, moment};
+use watched::record::NodeRecord;
 use watched::time::Time;
 
-// What the errors of the late nodes leave: the heartbeat counter, and, where one crossed, what a
-// crossing brings.
-fn count_late(head: &mut Head, late_errors: LateErrors) -> PhaseOutcome
-    requires { byte_or_none late_errors.crossed ≡ true }
-    ensures { (t : ℕ) (vs : List WatchedNode) → late_errors ≡ late_errors_all head.old t vs →
-        (q m : List ℕ) →
-        TicksIn head.old q m (on_late_all (plain (head_of head.old) q m) (late_ones t vs))
-        result head.new q m (on_late_all_words head.old (late_ones t vs)) }
+// Counts the errors of the nodes that are late at a time in µs, ascending: the first whose handling
+// brings an action ends the walk, and the tick with it.
+fn on_late_all(head: &mut Head, nodes: &[WatchedNode], number: usize, time: u64) -> PhaseOutcome
+    requires { well_lent (run nodes.now number) ≡ true }
+    ensures { (q m : List ℕ) →
+        let late = late_ones time (watching (run nodes.now number)) in
+        TicksIn head.old q m (on_late_all (plain (head_of head.old) q m) late)
+        result head.new q m (on_late_all_words head.old late) }
 {
-    let counter = late_errors.counter;
-    set_counter(head, CounterKind::HeartbeatTimeout, counter);
-    if let Some(node) = late_errors.crossed {
-        let node_id = NodeId(node as u8);
-        signal(head);
-        return finish(
-            head,
-            DllErrors::One(DllError::HeartbeatTimeout { node_id }),
-            true,
-        );
+    let mut outcome = PhaseOutcome::GOES_ON;
+    'walk: for place in 0..number {
+        let node = NodeRecord::from(nodes[place]);
+        if is_late(node, time) {
+            outcome = on_late(head, node.node as u8);
+            if outcome.ended {
+                break 'walk;
+            }
+        }
     }
-    PhaseOutcome::GOES_ON
+    outcome
 }
 
 // The heartbeats, and what follows where no crossing ended the tick.
@@ -58,18 +56,19 @@ fn phases(
     head: &mut Head,
     queue: &mut QueueBytes,
     history: &mut HistoryBytes,
-    late_errors: LateErrors,
+    nodes: &[WatchedNode],
+    number: usize,
     time: Time,
 ) -> PhaseOutcome
     requires { (checks_heartbeats (nmt_of head.old).current_state ≡ true)
-        × (byte_or_none late_errors.crossed ≡ true) }
-    ensures { (vs : List WatchedNode) → late_errors ≡ late_errors_all head.old time.us vs →
+        × (well_lent (run nodes.now number) ≡ true) }
+    ensures { let vs = watching (run nodes.now number) in
         TicksIn head.old queue.old history.old
         (tick_taken (plain (head_of head.old) queue.old history.old) time.us vs)
         result head.new queue.new history.new
         (tick_words head.old queue.old history.old time.us vs) }
 {
-    let outcome = count_late(head, late_errors);
+    let outcome = on_late_all(head, nodes, number, time.us);
     if outcome.ended {
         return outcome;
     }
@@ -106,15 +105,14 @@ fn tick_active(
     ensures { TickedOn head.old queue.old history.old (run nodes.old number) time
         result head.new queue.new history.new (run nodes.new number) }
 {
-    let counter = counter_of(head, CounterKind::HeartbeatTimeout);
-    let found = inspect(nodes, number, time, counter).ok_or(Refusal::WatchedNodes)?;
-    let now = Time::try_from(time)?;
-    if !found.after {
+    let heard = active(nodes, number, time).ok_or(Refusal::WatchedNodes)?;
+    let time = Time::try_from(time)?;
+    if !heard {
         return Err(Refusal::BeforeHeard);
     }
-    let outcome = phases(head, queue, history, found.late_errors, now);
-    refresh(nodes, number, time);
-    set_earliest(head, moment(found.soonest));
+    let outcome = phases(head, queue, history, nodes, number, time);
+    let soonest = refresh(nodes, number, time.us);
+    set_earliest(head, moment(soonest));
     Ok(outcome.logged)
 }
 

@@ -58,7 +58,7 @@ module _ (ns : List ℕ) (k : ℕ) (below : k ≤ 32) where
 or_least : (a b : ℕ) → a ≤ bit_or a b
 or_least a b = omega (arith, or_add_and a b, and_le_r a b)
 
-in_time_both : (a b : ℕ) → in_time (bit_or a b) ≡ both (in_time a) (in_time b)
+pub in_time_both : (a b : ℕ) → in_time (bit_or a b) ≡ both (in_time a) (in_time b)
 in_time_both a b = by (leb a latest) refl (leb b latest) refl
   where
     by : (x : Bool) → leb a latest ≡ x → (y : Bool) → leb b latest ≡ y → leb (bit_or a b) latest ≡ both x y

@@ -1,10 +1,10 @@
 -- `heartbeats::heartbeats::on_late_all` meets its contract.
 -- Assumes nothing.
-use Rattle.std.proofs.Common.{◌<◌, ◌≤◌, ap, arith}
+use Rattle.std.proofs.Common.{◌<◌, ◌≤◌, sym, ap, ◌∙◌, arith}
 use Rattle.watched.specs.declared.nodes.WatchedNode.{WatchedNode}
-use Rattle.watched.specs.Nodes.{node_of}
+use Rattle.watched.specs.Nodes.{node_of, nodes_of}
 use Rattle.watched.proofs.Limits.{number_small}
-use Rattle.watched.proofs.Watching.{few}
+use Rattle.watched.proofs.Watching.{few, places, node_at_lem}
 use Rattle.heartbeats.proofs.LateWalk.{walk_begins, walk_over, walk_passes, walk_stops, walk_goes_on}
 use Rattle.heartbeats.proofs.heartbeats.on_late_all.Goals.{then-is_late+else-outcome, else-is_late}
 use Rattle.heartbeats.proofs.heartbeats.on_late_all.Goals as goal
@@ -13,15 +13,15 @@ pub walk-init : goal.walk-init
 walk-init c =
     let a = c.args in
     let f = a.formed in
-    walk_begins f.nodes.now f.count (few f.nodes.now f.count f.formed) a.time a.head.now
+    walk_begins (nodes_of f.nodes.now) (places f.nodes.now) f.count (few f.nodes.now f.count f.formed) a.time a.head.now
 
 pub at-node-requires : goal.at-node-requires
 at-node-requires c =
     let f = c.args.formed in
     omega (arith, c.walk-test.true, few f.nodes.now f.count f.formed)
 
-pub on_late-outcome-requires : goal.on_late-outcome-requires
-on_late-outcome-requires c =
+pub overflow_cast-node : goal.overflow_cast-node
+overflow_cast-node c =
     let a = c.args in
     let f = a.formed in
     let inside : c.walk.place < f.count = omega (arith, c.walk-test.true) in
@@ -34,8 +34,8 @@ walk-preserved c =
     let l = c.walk in
     let inside : l.place < f.count = omega (arith, c.walk-test.true) in
     elim c.if-is_late.branch [
-      | then-is_late+else-outcome w ↦ rw (w.head-is, w.outcome-is) (walk_goes_on f.nodes.now f.count (few f.nodes.now f.count f.formed) a.time a.head.now l.head l.outcome l.place l.invariant inside (node_of c.at-node.result) c.at-node.ensures c.is_late.result c.is_late.ensures w.if-is_late.true w.on_late-outcome.result _ w.on_late-outcome.ensures w.if-outcome.false)
-      | else-is_late w ↦ rw (w.head-is, w.outcome-is) (walk_passes f.nodes.now f.count (few f.nodes.now f.count f.formed) a.time a.head.now l.head l.outcome l.place l.invariant inside (node_of c.at-node.result) c.at-node.ensures c.is_late.result c.is_late.ensures w.if-is_late.false)
+      | then-is_late+else-outcome w ↦ rw (w.head-is, w.outcome-is) (walk_goes_on (nodes_of f.nodes.now) (places f.nodes.now) f.count (few f.nodes.now f.count f.formed) a.time a.head.now l.head l.outcome l.place l.invariant inside (node_of c.at-node.result) (c.at-node.ensures ∙ sym (node_at_lem f.nodes.now l.place (omega (arith, inside, few f.nodes.now f.count f.formed)))) c.is_late.result c.is_late.ensures w.if-is_late.true w.on_late-outcome.result _ w.on_late-outcome.ensures w.if-outcome.false)
+      | else-is_late w ↦ rw (w.head-is, w.outcome-is) (walk_passes (nodes_of f.nodes.now) (places f.nodes.now) f.count (few f.nodes.now f.count f.formed) a.time a.head.now l.head l.outcome l.place l.invariant inside (node_of c.at-node.result) (c.at-node.ensures ∙ sym (node_at_lem f.nodes.now l.place (omega (arith, inside, few f.nodes.now f.count f.formed)))) c.is_late.result c.is_late.ensures w.if-is_late.false)
     ]
 
 pub returns-after-walk : goal.returns-after-walk
@@ -45,7 +45,7 @@ returns-after-walk c =
     let l = c.walk in
     let below = few f.nodes.now f.count f.formed in
     let over : f.count ≤ l.place = omega (arith, c.walk-test.false, below) in
-    walk_over f.nodes.now f.count below a.time a.head.now l.head l.outcome l.place l.invariant over
+    walk_over (nodes_of f.nodes.now) (places f.nodes.now) f.count below a.time a.head.now l.head l.outcome l.place l.invariant over
 
 pub returns-then-outcome : goal.returns-then-outcome
 returns-then-outcome c =
@@ -53,4 +53,4 @@ returns-then-outcome c =
     let f = a.formed in
     let l = c.walk in
     let inside : l.place < f.count = omega (arith, c.walk-test.true) in
-    walk_stops f.nodes.now f.count (few f.nodes.now f.count f.formed) a.time a.head.now l.head l.outcome l.place l.invariant inside (node_of c.at-node.result) c.at-node.ensures c.is_late.result c.is_late.ensures c.if-is_late.true c.on_late-outcome.result _ c.on_late-outcome.ensures c.if-outcome.true
+    walk_stops (nodes_of f.nodes.now) (places f.nodes.now) f.count (few f.nodes.now f.count f.formed) a.time a.head.now l.head l.outcome l.place l.invariant inside (node_of c.at-node.result) (c.at-node.ensures ∙ sym (node_at_lem f.nodes.now l.place (omega (arith, inside, few f.nodes.now f.count f.formed)))) c.is_late.result c.is_late.ensures c.if-is_late.true c.on_late-outcome.result _ c.on_late-outcome.ensures c.if-outcome.true

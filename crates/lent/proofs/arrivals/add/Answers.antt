@@ -38,18 +38,22 @@ pub insert-requires : goal.insert-requires
 insert-requires c =
     let a = c.args in
     let s : c.find.result ≡ Some (c.in_ok-place.place, c.in_ok-place.soonest) = search rules in
-    let x = found a.node 0 a.number.now a.nodes.now c.find.result c.find.ensures _ _ s in
-    (long a.nodes.now a.number.now x.0,
-    add_room a.nodes.now a.number.now x.0 a.head.now a.node _ x.1 _ refl a.timeout true (sym (read_known a.node _ (sym c.try_from.ensures ∙ c.in_ok-try_from.was)))
-    c.try_place.result (c.try_place.ensures true _ refl) c.in_ok-try_place.was)
+    let x = found a.node 0 a.number.now a.nodes.now c.find.result c.find.ensures _ _ s in (
+      long a.nodes.now a.number.now x.0,
+      add_room a.nodes.now a.number.now x.0 a.head.now a.node _ x.1 _ refl a.timeout true (sym (read_known a.node _ (sym c.try_from.ensures ∙ c.in_ok-try_from.was)))
+          c.try_place.result (c.try_place.ensures true _ refl) c.in_ok-try_place.was,
+    )
 
 pub overflow_add-number : goal.overflow_add-number
 overflow_add-number c =
     let a = c.args in
     let s : c.find.result ≡ Some (c.in_ok-place.place, c.in_ok-place.soonest) = search rules in
     let x = found a.node 0 a.number.now a.nodes.now c.find.result c.find.ensures _ _ s in
-    omega (arith, add_room a.nodes.now a.number.now x.0 a.head.now a.node _ x.1 _ refl a.timeout true (sym (read_known a.node _ (sym c.try_from.ensures ∙ c.in_ok-try_from.was)))
-    c.try_place.result (c.try_place.ensures true _ refl) c.in_ok-try_place.was)
+    omega (
+      arith,
+      add_room a.nodes.now a.number.now x.0 a.head.now a.node _ x.1 _ refl a.timeout true (sym (read_known a.node _ (sym c.try_from.ensures ∙ c.in_ok-try_from.was)))
+          c.try_place.result (c.try_place.ensures true _ refl) c.in_ok-try_place.was,
+    )
 
 pub returns : goal.returns
 returns c =

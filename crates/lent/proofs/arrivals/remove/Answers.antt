@@ -28,10 +28,11 @@ pub close-requires : goal.close-requires
 close-requires c =
     let a = c.args in
     let s : c.find.result ≡ Some (c.in_ok-place.place, c.in_ok-place.soonest) = search rules in
-    let x = found a.node 0 a.number.now a.nodes.now c.find.result c.find.ensures _ _ s in
-    (long a.nodes.now a.number.now x.0,
-    remove_inside a.nodes.now a.number.now x.0 a.head.now a.node _ x.1 _ refl c.try_remove.result (c.try_remove.ensures true _ refl) c.in_ok-try_remove.was,
-    below a.nodes.now a.number.now x.0)
+    let x = found a.node 0 a.number.now a.nodes.now c.find.result c.find.ensures _ _ s in (
+      long a.nodes.now a.number.now x.0,
+      remove_inside a.nodes.now a.number.now x.0 a.head.now a.node _ x.1 _ refl c.try_remove.result (c.try_remove.ensures true _ refl) c.in_ok-try_remove.was,
+      below a.nodes.now a.number.now x.0,
+    )
 
 pub overflow_sub-number : goal.overflow_sub-number
 overflow_sub-number c =
