@@ -180,7 +180,8 @@ impl Calls {
     fn of_a_crossing(&mut self) {
         let (head, answer) = (at(&mut self.node.head), at(&mut self.answer));
         let memory = &mut self.node.memory;
-        let (queue, history, run) = (at(&mut memory.queue), at(&mut memory.history), at(&mut memory.run));
+        let (queue, history) = (at(&mut memory.queue), at(&mut memory.history));
+        let run = at(&mut memory.run);
         let (bytes, length) = (at(&mut self.frame), 60);
         for time in [2000, 3000, 4000, 5000] {
             let over = [head, queue, history, run, 30, 30, time, answer];
