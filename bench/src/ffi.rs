@@ -307,6 +307,27 @@ unsafe extern "C" {
         event: u64,
         answer: *mut NmtAnswer,
     ) -> u32;
+    pub fn plcn_weigh_tick(
+        weigh: *mut Weigh,
+        memory: *mut Memory,
+        time: u64,
+        logged: *mut Errors,
+    ) -> u32;
+    pub fn plcn_weigh_frame(
+        weigh: *mut Weigh,
+        memory: *mut Memory,
+        time: u64,
+        bytes: *const u8,
+        length: u64,
+        answer: *mut FrameAnswer,
+    ) -> u32;
+    pub fn plcn_weigh_load(
+        weigh: *mut Weigh,
+        memory: *mut Memory,
+        update: *const Update,
+        entries: *const u8,
+        length: u64,
+    ) -> u32;
     pub fn plcn_weigh_load_recipe(
         weigh: *mut Weigh,
         memory: *mut Memory,

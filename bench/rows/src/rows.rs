@@ -183,8 +183,6 @@ fn machines<S: Side>() -> Vec<Row> {
         nmt::<S>("NMT event, ready, stays", READY_TO_OPERATE, 15),
         nmt::<S>("NMT event, no row", OPERATIONAL, 13),
         nmt::<S>("NMT event SwReset", OPERATIONAL, 5),
-        nmt::<S>("NMT event ResetNode", OPERATIONAL, 6),
-        nmt::<S>("NMT event ResetCommunication", OPERATIONAL, 7),
         nmt::<S>("NMT event ResetConfiguration", OPERATIONAL, 8),
         in_turn(
             "DLL event, in turn",
@@ -498,11 +496,6 @@ fn frames<S: Side>() -> Vec<Row> {
         frame::<S>("frame SoA", &[0, 1], bytes(5, 255, 0, 0)),
         frame::<S>("frame ASnd, no command", &[0, 1, 3], bytes(6, 255, 2, 0)),
         frame::<S>("frame ASnd StopNode", &[0, 1, 3], bytes(6, 7, 4, 0x22)),
-        frame::<S>(
-            "frame ASnd ResetConfiguration",
-            &[0, 1, 3],
-            bytes(6, 7, 4, 0x2A),
-        ),
         frame::<S>("frame for another node", &[0], bytes(3, 9, 0, 0)),
         frame::<S>("frame PReq, lost SoC", &[0, 1, 3], bytes(3, 7, 0, 0)),
     ]
