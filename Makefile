@@ -19,7 +19,7 @@ help:
 	@echo "make fuzz            gives the C library any bytes for ten minutes ('make fuzz SECONDS=60'; needs clang)"
 	@echo "make wrapper         tests the Rust wrapper and its documentation's examples (needs cargo)"
 	@echo "make compare         ten million generated calls beside the original Rust (needs cargo and its source;"
-	@echo "                     'make compare SEEDS=\"1 2\" CALLS=200000' makes fewer)"
+	@echo "                     'make compare SEEDS=\"1 2\" CALLS=100000' makes fewer)"
 	@echo "make compare-oracle  call scripts on the original Rust (the same needs)"
 	@echo "make wireshark       entries, codes, commands and flags beside Wireshark (needs tshark)"
 	@echo "make bench           what each call of the library costs beside the original Rust (the same needs)"
@@ -119,6 +119,7 @@ test: kit
 	@$(MAKE) -s build/play build/play-checked build/play-differs build/free
 	@tests/library.py --quiet
 	@scripts/wrapper.sh --quiet
+	@tail -n 1 target/ci.log
 
 twins: kit
 	@tests/twins.py

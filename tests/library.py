@@ -93,9 +93,8 @@ def pages():
     done = run('scripts/manual.py', '--check', ARCHIVE)
     if done.returncode:
         wrong(f'the man pages:\n{done.stderr}')
-    for program in ('groff', 'mandoc'):
-        if not shutil.which(program):
-            left_out(f'{program} is not installed: it does not render the man pages')
+    if not any(shutil.which(program) for program in ('groff', 'mandoc')):
+        left_out('neither groff nor mandoc is installed: the man pages are not rendered')
 
 
 def block_behind(text, at):
