@@ -6,3 +6,4 @@ pub mod Classic
 pub mod Options
 pub mod Blocks
 pub mod Reader
+pub mod Tag
