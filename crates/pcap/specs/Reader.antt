@@ -224,7 +224,7 @@ at_start =
 
 -- what is wrong where a recording ends with so many bytes left: nothing before a record or a block
 abbrev pub cut : Stage → ℕ → Option wrong.Wrong
-cut stage.Start n = Some NotARecording
+cut stage.Start n = if nat_lt n 4 then Some NotARecording else Some CutInRecord
 cut (stage.Records c) n = if n == 0 then None else Some CutInRecord
 cut (stage.Blocks o) n = if n == 0 then None else Some CutInRecord
 cut (stage.Trailer o total) n = Some CutInRecord

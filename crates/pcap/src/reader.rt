@@ -273,14 +273,15 @@ impl Reader {
         }
     }
 
-    /// What is wrong where the recording ends, with so many bytes left behind the last step:
-    /// NotARecording where it has no header, CutInRecord where a record has begun; else None.
+    /// What is wrong where the recording ends, with so many bytes left behind the last step, which
+    /// asked for more: NotARecording where it has fewer than four bytes, CutInRecord where its
+    /// header, a block or a record has begun; else None.
     #[tactic(auto, unfolding(crate::specs::Reader::end_of))]
     pub fn end(&self, left: usize) -> Option<Fault>
         ensures { result ≡ end_of self.now left }
     {
         let wrong = match self.state.stage {
-            Stage::Start => Wrong::NotARecording,
+            Stage::Start if left < 4 => Wrong::NotARecording,
             Stage::Records(_) | Stage::Blocks(_) if left == 0 => return None,
             _ => Wrong::CutInRecord,
         };
