@@ -1,1 +1,2 @@
 pub mod OptionLaws
+pub mod Stays
