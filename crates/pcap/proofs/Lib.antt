@@ -1,3 +1,4 @@
 pub mod OptionLaws
 pub mod Stays
+pub mod Steps
 pub mod Whole

@@ -7,17 +7,16 @@ use Rattle.std.specs.declared.option.Option.TheVariants.{Some, None}
 use Rattle.std.specs.declared.result.Result.{Result}
 use Rattle.std.specs.declared.result.Result.TheVariants.{Ok, Err}
 use Rattle.pcap.specs.declared.order.Order.{Order}
-use Rattle.pcap.specs.declared.fault.Halt.{Halt}
 use Rattle.pcap.specs.declared.interface.Interface.{Interface}
-use Rattle.pcap.specs.declared.fault.Halt.TheVariants.{Wrong}
+use Rattle.pcap.specs.declared.fault.Flaw.{Flaw}
 use Rattle.pcap.specs.declared.fault.Wrong.TheVariants.{LengthLies}
 use Rattle.pcap.specs.Order.{two_at}
-use Rattle.pcap.specs.Bind.{◌>>=◌}
+use Rattle.pcap.specs.Bind.{◌>>=◌, flaw}
 use Rattle.pcap.specs.Options.{filled, with_option, option_at, options_in, with_options}
 
 -- an option has four bytes at least
 chain :
-    (a b c d : Bool) (e f : Halt) (r : Result Interface Halt) (k : ℕ) (x : Interface × ℕ) →
+    (a b c d : Bool) (e f : Flaw) (r : Result Interface Flaw) (k : ℕ) (x : Interface × ℕ) →
     cond a (Ok None) (cond b (Err e) (cond c (Ok None) (cond d (Err f) (r >>= λ j. Ok (Some (j, 4 + k)))))) ≡ Ok (Some x) →
     4 ≤ x.1
 chain true b c d e f r k x h = absurd (cc h)
@@ -31,15 +30,15 @@ pub four : (o : Order) (e : ℕ) (i : Interface) (xs : List ℕ) (x : Interface 
 unfolding option_at
 four o e i xs x h =
     chain (length xs == 0) (nat_lt (length xs) 4) (two_at o xs 0 == 0) (nat_lt (length xs) (4 + filled (two_at o xs 2)))
-    (Wrong (e - length xs) (LengthLies (length xs))) (Wrong (e - length xs) (LengthLies (two_at o xs 2)))
+    (flaw (e - length xs) (LengthLies (length xs))) (flaw (e - length xs) (LengthLies (two_at o xs 2)))
     (with_option o (e - length xs) i (two_at o xs 0) (take (two_at o xs 2) (drop 4 xs))) (filled (two_at o xs 2)) x h
 
 -- what follows an option, or the end of the options
-abbrev pub next : {A : Type 0} → Result (Option A) Halt → Result Interface Halt → (A → Result Interface Halt) → Result Interface Halt
+abbrev pub next : {A : Type 0} → Result (Option A) Flaw → Result Interface Flaw → (A → Result Interface Flaw) → Result Interface Flaw
 next r d f = r >>= λ found. elim found [ None ↦ d | Some x ↦ f x ]
 
 alike :
-    {A : Type 0} (r : Result (Option A) Halt) (d : Result Interface Halt) (f g : A → Result Interface Halt) →
+    {A : Type 0} (r : Result (Option A) Flaw) (d : Result Interface Flaw) (f g : A → Result Interface Flaw) →
     ((x : A) → r ≡ Ok (Some x) → f x ≡ g x) → next r d f ≡ next r d g
 alike (Ok None) d f g h = refl
 alike (Ok (Some x)) d f g h = h x refl
@@ -83,5 +82,5 @@ pub option_end :
 option_end o e i xs h = sym (unrolled o e i xs ∙ ap (λ r. next r (Ok i) (λ y. with_options o e y.0 (drop y.1 xs))) h)
 
 pub option_wrong :
-    (o : Order) (e : ℕ) (i : Interface) (xs : List ℕ) (f : Halt) → option_at o e i xs ≡ Err f → Err f ≡ with_options o e i xs
+    (o : Order) (e : ℕ) (i : Interface) (xs : List ℕ) (f : Flaw) → option_at o e i xs ≡ Err f → Err f ≡ with_options o e i xs
 option_wrong o e i xs f h = sym (unrolled o e i xs ∙ ap (λ r. next r (Ok i) (λ y. with_options o e y.0 (drop y.1 xs))) h)

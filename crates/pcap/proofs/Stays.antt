@@ -9,8 +9,9 @@ use Rattle.std.specs.declared.result.Result.{Result}
 use Rattle.std.specs.declared.result.Result.TheVariants.{Ok, Err}
 use Rattle.pcap.specs.declared.order.Order.{Order}
 use Rattle.pcap.specs.declared.order.Order.TheVariants.{LowestFirst, HighestFirst}
+use Rattle.pcap.specs.declared.fault.Flaw.{Flaw}
 use Rattle.pcap.specs.declared.fault.Halt.{Halt}
-use Rattle.pcap.specs.declared.fault.Halt.TheVariants.{More, Wrong}
+use Rattle.pcap.specs.declared.fault.Halt.TheVariants as halt
 use Rattle.pcap.specs.declared.fault.Wrong.TheVariants.{LengthLies, TooLong}
 use Rattle.pcap.specs.declared.interface.Interfaces.{Interfaces}
 use Rattle.pcap.specs.declared.classic.Classic.{Classic}
@@ -23,10 +24,10 @@ use Rattle.pcap.specs.declared.reader.Stage.TheVariants as stage
 use Rattle.pcap.specs.declared.reader.Part.{Part}
 use Rattle.pcap.specs.declared.reader.Part.TheVariants as part
 use Rattle.pcap.specs.declared.reader.State.{State}
-use Rattle.pcap.specs.Bind.{◌>>=◌}
+use Rattle.pcap.specs.Bind.{◌>>=◌, flaw, raised}
 use Rattle.pcap.specs.Order.{two_at, four_at}
 use Rattle.pcap.specs.Classic.{classic_of, record_size}
-use Rattle.pcap.specs.Blocks.{kind_of, least, order_of_magic, known_order, order_of_block, sized, extent_by, block_extent}
+use Rattle.pcap.specs.Blocks.{kind_of, least, order_of_magic, known_order, order_of_block, sized, extent_by, extent_of, block_extent}
 use Rattle.pcap.specs.Reader.{block_part, header_part, first_part, part_of, read_part, whole, record_of}
 
 -- NUMBERS
@@ -47,32 +48,37 @@ four_in o xs ys i h =
     at_order o xs ys i a b c d
 
 -- CHOICES
-alike : {A B : Type 0} (r : Result A Halt) (f g : A → Result B Halt) → ((x : A) → f x ≡ g x) → (r >>= f) ≡ (r >>= g)
+alike : {A B E : Type 0} (r : Result A E) (f g : A → Result B E) → ((x : A) → f x ≡ g x) → (r >>= f) ≡ (r >>= g)
 alike (Ok x) f g h = h x
 alike (Err e) f g h = refl
 
 -- what was read by two readings was read by both
-pub record Both {A B : Type 0} (r : Result A Halt) (f : A → Result B Halt) (y : B) : Type 0 where
+pub record Both {A B E : Type 0} (r : Result A E) (f : A → Result B E) (y : B) : Type 0 where
   pub first : A
   pub read : r ≡ Ok first
   pub then' : f first ≡ Ok y
 
-pub both : {A B : Type 0} (r : Result A Halt) (f : A → Result B Halt) (y : B) → (r >>= f) ≡ Ok y → Both r f y
+pub both : {A B E : Type 0} (r : Result A E) (f : A → Result B E) (y : B) → (r >>= f) ≡ Ok y → Both r f y
 both (Ok x) f y h = record { first = x; read = refl; then' = h }
 both (Err e) f y h = absurd (cc h)
 
 -- a choice whose first way is a fault, where something was read
-pub record Chosen {A : Type 0} (b : Bool) (x : Result A Halt) (y : A) : Type 0 where
+pub record Chosen {A E : Type 0} (b : Bool) (x : Result A E) (y : A) : Type 0 where
   pub no : b ≡ false
   pub read : x ≡ Ok y
 
-pub chosen : {A : Type 0} (b : Bool) (e : Halt) (x : Result A Halt) (y : A) → cond b (Err e) x ≡ Ok y → Chosen b x y
+pub chosen : {A E : Type 0} (b : Bool) (e : E) (x : Result A E) (y : A) → cond b (Err e) x ≡ Ok y → Chosen b x y
 chosen true e x y h = absurd (cc h)
 chosen false e x y h = record { no = refl; read = h }
 
 not_taken : {A : Type 0} (b : Bool) (x y : A) → b ≡ false → cond b x y ≡ y
 not_taken true x y h = absurd (cc h)
 not_taken false x y h = refl
+
+-- what was read by a reading that may only find something wrong
+unraised : {A : Type 0} (r : Result A Flaw) (y : A) → raised r ≡ Ok y → r ≡ Ok y
+unraised (Ok x) y h = cc h
+unraised (Err e) y h = absurd (cc h)
 
 -- BLOCKS
 order_same : (o : Order) (xs ys : List ℕ) → 12 ≤ length xs → order_of_block o (xs ++ ys) ≡ order_of_block o xs
@@ -81,11 +87,8 @@ order_same o xs ys h =
     ap (λ m. cond (m == 0x0A0D0D0A) (known_order (order_of_magic (four_at LowestFirst (xs ++ ys) 8))) (Ok o)) (four_in LowestFirst xs ys 0 (omega arith))
     ∙ ap (λ m. cond (four_at LowestFirst xs 0 == 0x0A0D0D0A) (known_order (order_of_magic m)) (Ok o)) (four_in LowestFirst xs ys 8 (omega arith))
 
--- the extent of a block behind its first 12 bytes
-abbrev extent_of : Order → List ℕ → Result Extent Halt
-extent_of o xs = order_of_block o xs >>= λ p. extent_by p (kind_of (four_at p xs 0)) (four_at p xs 4)
-
 extent_same : (o : Order) (xs ys : List ℕ) → 12 ≤ length xs → extent_of o (xs ++ ys) ≡ extent_of o xs
+unfolding extent_of
 extent_same o xs ys h =
     ap (λ r. r >>= λ p. extent_by p (kind_of (four_at p (xs ++ ys) 0)) (four_at p (xs ++ ys) 4)) (order_same o xs ys h)
     ∙ alike (order_of_block o xs) _ _
@@ -99,16 +102,16 @@ below n xs ys h = let l = length-append xs ys in le-ltb (length (xs ++ ys)) n (o
 pub extent_stays : (o : Order) (xs ys : List ℕ) (e : Extent) → block_extent o xs ≡ Ok e → block_extent o (xs ++ ys) ≡ Ok e
 unfolding block_extent
 extent_stays o xs ys e h =
-    let c = chosen (nat_lt (length xs) 12) (More (12 - length xs)) (extent_of o xs) e h in
+    let c = chosen (nat_lt (length xs) 12) (halt.More (12 - length xs)) (raised (extent_of o xs)) e h in
     let n = ltb-false (length xs) 12 c.no in
-    not_taken (nat_lt (length (xs ++ ys)) 12) _ _ (below 12 xs ys n) ∙ extent_same o xs ys n ∙ c.read
+    not_taken (nat_lt (length (xs ++ ys)) 12) _ _ (below 12 xs ys n) ∙ ap raised (extent_same o xs ys n) ∙ c.read
 
 -- it has a byte at least
 by_length :
     (o : Order) (k : Kind) (total : ℕ) (e : Extent) → 1 ≤ total →
-    cond (nat_lt 1048576 total) (Err (Wrong 4 (TooLong total))) (Ok (record { order = o; kind = k; bytes = total })) ≡ Ok e → 1 ≤ e.bytes
+    cond (nat_lt 1048576 total) (Err (flaw 4 (TooLong total))) (Ok (record { order = o; kind = k; bytes = total })) ≡ Ok e → 1 ≤ e.bytes
 by_length o k total e l h =
-    let c = chosen (nat_lt 1048576 total) (Wrong 4 (TooLong total)) (Ok (record { order = o; kind = k; bytes = total })) e h in
+    let c = chosen (nat_lt 1048576 total) (flaw 4 (TooLong total)) (Ok (record { order = o; kind = k; bytes = total })) e h in
     let r = c.read in
     let g : record { order = o; kind = k; bytes = total } ≡ e = cc r in let q = ap (λ (x : Extent). x.bytes) g in omega arith
 
@@ -120,20 +123,20 @@ sized_some o kind.Packet total e l h = by_length o kind.Packet total e (omega ar
 sized_some o kind.Simple total e l h = by_length o kind.Simple total e (omega arith) h
 sized_some o kind.Enhanced total e l h = by_length o kind.Enhanced total e (omega arith) h
 
-multiple : {A : Type 0} (b : Bool) (e : Halt) (x : Result A Halt) (y : A) → cond b x (Err e) ≡ Ok y → x ≡ Ok y
+multiple : {A E : Type 0} (b : Bool) (e : E) (x : Result A E) (y : A) → cond b x (Err e) ≡ Ok y → x ≡ Ok y
 multiple true e x y h = h
 multiple false e x y h = absurd (cc h)
 
 extent_some : (o : Order) (k : Kind) (total : ℕ) (e : Extent) → extent_by o k total ≡ Ok e → 1 ≤ e.bytes
 extent_some o k total e h =
-    let c = chosen (nat_lt total (least k)) (Wrong 4 (LengthLies total)) (cond (total % 4 == 0) (sized o k total) (Err (Wrong 4 (LengthLies total)))) e h in
-    sized_some o k total e (ltb-false total (least k) c.no) (multiple (total % 4 == 0) (Wrong 4 (LengthLies total)) (sized o k total) e c.read)
+    let c = chosen (nat_lt total (least k)) (flaw 4 (LengthLies total)) (cond (total % 4 == 0) (sized o k total) (Err (flaw 4 (LengthLies total)))) e h in
+    sized_some o k total e (ltb-false total (least k) c.no) (multiple (total % 4 == 0) (flaw 4 (LengthLies total)) (sized o k total) e c.read)
 
 pub block_some : (o : Order) (xs : List ℕ) (e : Extent) → block_extent o xs ≡ Ok e → 1 ≤ e.bytes
-unfolding block_extent
+unfolding block_extent extent_of
 block_some o xs e h =
-    let c = chosen (nat_lt (length xs) 12) (More (12 - length xs)) (extent_of o xs) e h in
-    let b = both (order_of_block o xs) (λ p. extent_by p (kind_of (four_at p xs 0)) (four_at p xs 4)) e c.read in
+    let c = chosen (nat_lt (length xs) 12) (halt.More (12 - length xs)) (raised (extent_of o xs)) e h in
+    let b = both (order_of_block o xs) (λ p. extent_by p (kind_of (four_at p xs 0)) (four_at p xs 4)) e (unraised (extent_of o xs) e c.read) in
     extent_some b.first (kind_of (four_at b.first xs 0)) (four_at b.first xs 4) e b.then'
 
 -- PARTS
@@ -173,7 +176,7 @@ first_stays : (xs : List ℕ) (p : Part × ℕ) → first_part xs ≡ Ok p → P
 unfolding first_part
 first_stays xs p h =
     let m = four_at LowestFirst xs 0 in
-    let c = chosen (nat_lt (length xs) 4) (More (4 - length xs)) (first_by (four_at LowestFirst xs 0) xs) p h in
+    let c = chosen (nat_lt (length xs) 4) (halt.More (4 - length xs)) (first_by (four_at LowestFirst xs 0) xs) p h in
     let n = ltb-false (length xs) 4 c.no in
     let s = first_by_stays (four_at LowestFirst xs 0 == 0x0A0D0D0A) (four_at LowestFirst xs 0) xs p c.read in
     record {
@@ -185,11 +188,11 @@ first_stays xs p h =
 
 -- the length of a record of a pcap behind its first 16 bytes
 abbrev size_by : ℕ → Result ℕ Halt
-size_by n = cond (nat_lt 1048560 n) (Err (Wrong 8 (TooLong n))) (Ok (16 + n))
+size_by n = cond (nat_lt 1048560 n) (Err (halt.Flaw (flaw 8 (TooLong n)))) (Ok (16 + n))
 
 size_some : (n m : ℕ) → size_by n ≡ Ok m → 1 ≤ m
 size_some n m h =
-    let c = chosen (nat_lt 1048560 n) (Wrong 8 (TooLong n)) (Ok (16 + n)) m h in
+    let c = chosen (nat_lt 1048560 n) (halt.Flaw (flaw 8 (TooLong n))) (Ok (16 + n)) m h in
     let r = c.read in let g : 16 + n ≡ m = cc r in omega arith
 
 pub record SizeStays (c : Classic) (xs : List ℕ) (n : ℕ) : Type 0 where
@@ -199,7 +202,7 @@ pub record SizeStays (c : Classic) (xs : List ℕ) (n : ℕ) : Type 0 where
 size_stays : (c : Classic) (xs : List ℕ) (n : ℕ) → record_size c xs ≡ Ok n → SizeStays c xs n
 unfolding record_size
 size_stays c xs n h =
-    let k = chosen (nat_lt (length xs) 16) (More (16 - length xs)) (size_by (four_at c.order xs 8)) n h in
+    let k = chosen (nat_lt (length xs) 16) (halt.More (16 - length xs)) (size_by (four_at c.order xs 8)) n h in
     let l = ltb-false (length xs) 16 k.no in
     record {
       same =
@@ -236,7 +239,7 @@ pub record There (n : ℕ) (xs zs : List ℕ) : Type 0 where
 
 there : (n : ℕ) (xs zs : List ℕ) → whole n xs ≡ Ok zs → There n xs zs
 there n xs zs h =
-    let c = chosen (nat_lt (length xs) n) (More (n - length xs)) (Ok (take n xs)) zs h in
+    let c = chosen (nat_lt (length xs) n) (halt.More (n - length xs)) (Ok (take n xs)) zs h in
     let r = c.read in
     record { enough = ltb-false (length xs) n c.no; front = cc r }
 
@@ -253,16 +256,16 @@ pub record Stays (s : State) (xs : List ℕ) (x : Record × ℕ) : Type 0 where
 
 -- the reading behind a part
 abbrev behind_part : State → List ℕ → Part × ℕ → Result (Record × ℕ) Halt
-behind_part s xs p = whole p.1 xs >>= λ ys. read_part p.0 s.interfaces ys >>= λ r. Ok (r, p.1)
+behind_part s xs p = whole p.1 xs >>= λ ys. raised (read_part p.0 s.interfaces ys) >>= λ r. Ok (r, p.1)
 
 pub stays : (s : State) (xs : List ℕ) (x : Record × ℕ) → record_of s xs ≡ Ok x → Stays s xs x
 unfolding record_of
 stays s xs x h =
     let a = both (part_of s.stage xs) (behind_part s xs) x h in
     let p = a.first in
-    let b = both (whole a.first.1 xs) (λ ys. read_part a.first.0 s.interfaces ys >>= λ r. Ok (r, a.first.1)) x a.then' in
+    let b = both (whole a.first.1 xs) (λ ys. raised (read_part a.first.0 s.interfaces ys) >>= λ r. Ok (r, a.first.1)) x a.then' in
     let t = there a.first.1 xs b.first b.read in
-    let c = both (read_part a.first.0 s.interfaces b.first) (λ r. Ok (r, a.first.1)) x b.then' in
+    let c = both (raised (read_part a.first.0 s.interfaces b.first)) (λ r. Ok (r, a.first.1)) x b.then' in
     let f = c.then' in
     let g : (c.first, a.first.1) ≡ x = cc f in
     let q : a.first.1 ≡ x.1 = ap (λ (y : Record × ℕ). y.1) g in
@@ -274,6 +277,6 @@ stays s xs x h =
       enough = omega arith;
       same =
           λ ys. ap (λ r. r >>= behind_part s (xs ++ ys)) (k.same ys)
-          ∙ ap (λ r. r >>= λ zs. read_part a.first.0 s.interfaces zs >>= λ r. Ok (r, a.first.1)) (whole_stays a.first.1 xs ys t.enough ∙ ap Ok (sym t.front))
+          ∙ ap (λ r. r >>= λ zs. raised (read_part a.first.0 s.interfaces zs) >>= λ r. Ok (r, a.first.1)) (whole_stays a.first.1 xs ys t.enough ∙ ap Ok (sym t.front))
           ∙ b.then';
     }

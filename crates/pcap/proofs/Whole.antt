@@ -10,7 +10,7 @@ use Rattle.pcap.specs.declared.record.Record.{Record}
 use Rattle.pcap.specs.declared.record.Record.TheVariants as record'
 use Rattle.pcap.specs.declared.reader.State.{State}
 use Rattle.pcap.specs.declared.reader.Reader.{Reader}
-use Rattle.pcap.specs.Reader.{record_of, after, Seen, packets_in, further, passed, behind, Read, with_packets, read_in, read_of}
+use Rattle.pcap.specs.Reader.{record_of, after, Seen, packets_in, further, passed, behind, Read, with_packets, read_in, read_of, joined}
 use Rattle.pcap.proofs.Stays.{stays}
 
 -- the record at the front, behind the bytes that are due
@@ -141,10 +141,6 @@ passing r k xs h l = by (next_of r xs) refl
         ∙ ap (λ t. with_packets (packets_in x.0 (take x.1 (drop r.state.due xs))) (read_of t (drop x.1 (drop r.state.due xs)))) (same_behind r k x h))
 
 -- PARTS
--- what is read, and then what is read of what it left with more bytes behind
-abbrev pub joined : Read → List ℕ → Read
-joined w ys = with_packets w.packets (read_of w.last (w.left ++ ys))
-
 regrouped : (ps : List Seen) (w : Read) (ys : List ℕ) → with_packets ps (joined w ys) ≡ joined (with_packets ps w) ys
 regrouped ps w ys = ap (λ qs. record (read_of w.last (w.left ++ ys)) { packets = qs }) (sym (append_assoc ps w.packets (read_of w.last (w.left ++ ys)).packets))
 

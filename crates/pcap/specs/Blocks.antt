@@ -7,8 +7,9 @@ use Rattle.std.specs.declared.result.Result.{Result}
 use Rattle.std.specs.declared.result.Result.TheVariants.{Ok, Err}
 use Rattle.pcap.specs.declared.order.Order.{Order}
 use Rattle.pcap.specs.declared.order.Order.TheVariants.{LowestFirst, HighestFirst}
+use Rattle.pcap.specs.declared.fault.Flaw.{Flaw}
 use Rattle.pcap.specs.declared.fault.Halt.{Halt}
-use Rattle.pcap.specs.declared.fault.Halt.TheVariants.{More, Wrong}
+use Rattle.pcap.specs.declared.fault.Halt.TheVariants.{More}
 use Rattle.pcap.specs.declared.fault.Wrong.TheVariants.{NotARecording, UnknownVersion, LinkTypeNotEthernet, LengthLies, TooLong, UnknownInterface, TooManyInterfaces, TimeOutOfRange}
 use Rattle.pcap.specs.declared.interface.Offset.TheVariants.{Later}
 use Rattle.pcap.specs.declared.interface.Interface.{Interface}
@@ -19,7 +20,7 @@ use Rattle.pcap.specs.declared.blocks.Extent.{Extent}
 use Rattle.pcap.specs.declared.record.Data.{Data}
 use Rattle.pcap.specs.declared.record.Record.{Record}
 use Rattle.pcap.specs.declared.record.Record.TheVariants as record'
-use Rattle.pcap.specs.Bind.{◌>>=◌}
+use Rattle.pcap.specs.Bind.{◌>>=◌, flaw, raised}
 use Rattle.pcap.specs.Order.{two_at, four_at}
 use Rattle.pcap.specs.Interface.{interface_of, time_of}
 use Rattle.pcap.specs.Options.{with_options}
@@ -55,67 +56,69 @@ order_of_magic n =
     if n == 0x1A2B3C4D then Some LowestFirst else if n == 0x4D3C2B1A then Some HighestFirst else None
 
 -- a section's order, if it is known
-abbrev pub known_order : Option Order → Result Order Halt
+abbrev pub known_order : Option Order → Result Order Flaw
 known_order (Some o) = Ok o
-known_order None = Err (Wrong 8 NotARecording)
+known_order None = Err (flaw 8 NotARecording)
 
 -- the order of the numbers of a block: that of its section, or of the section that it begins
-unfoldable pub order_of_block : Order → List ℕ → Result Order Halt
+unfoldable pub order_of_block : Order → List ℕ → Result Order Flaw
 order_of_block o xs =
     if four_at LowestFirst xs 0 == 0x0A0D0D0A then known_order (order_of_magic (four_at LowestFirst xs 8)) else Ok o
 
 -- how much is read at once of a block of a kind with a length
-abbrev pub sized : Order → Kind → ℕ → Result Extent Halt
+abbrev pub sized : Order → Kind → ℕ → Result Extent Flaw
 sized o kind.Other total = Ok (record { order = o; kind = kind.Other; bytes = 8 })
 sized o k total =
-    if nat_lt 1048576 total then Err (Wrong 4 (TooLong total)) else Ok (record { order = o; kind = k; bytes = total })
+    if nat_lt 1048576 total then Err (flaw 4 (TooLong total)) else Ok (record { order = o; kind = k; bytes = total })
 
 -- the same, by a length that is none where it is too small or no multiple of four
-abbrev pub extent_by : Order → Kind → ℕ → Result Extent Halt
+abbrev pub extent_by : Order → Kind → ℕ → Result Extent Flaw
 extent_by o k total =
-    if nat_lt total (least k) then Err (Wrong 4 (LengthLies total))
+    if nat_lt total (least k) then Err (flaw 4 (LengthLies total))
     else if total % 4 == 0 then sized o k total
-    else Err (Wrong 4 (LengthLies total))
+    else Err (flaw 4 (LengthLies total))
 
 -- how much is read at once of the block at the front: its type and its length stand first
+unfoldable pub extent_of : Order → List ℕ → Result Extent Flaw
+extent_of o xs = order_of_block o xs >>= λ p. extent_by p (kind_of (four_at p xs 0)) (four_at p xs 4)
+
+-- the same, if the first 12 bytes of the block are there
 unfoldable pub block_extent : Order → List ℕ → Result Extent Halt
-block_extent o xs =
-    if nat_lt (length xs) 12 then Err (More (12 - length xs))
-    else order_of_block o xs >>= λ p. extent_by p (kind_of (four_at p xs 0)) (four_at p xs 4)
+block_extent o xs = if nat_lt (length xs) 12 then Err (More (12 - length xs)) else raised (extent_of o xs)
 
 -- an interface that is Ethernet's
-abbrev pub if_ethernet : ℕ → Option Interface → Result Interface Halt
-if_ethernet id (Some i) = if i.link == 1 then Ok i else Err (Wrong 8 (LinkTypeNotEthernet i.link))
-if_ethernet id None = Err (Wrong 8 (UnknownInterface id))
+abbrev pub if_ethernet : ℕ → Option Interface → Result Interface Flaw
+if_ethernet id (Some i) = if i.link == 1 then Ok i else Err (flaw 8 (LinkTypeNotEthernet i.link))
+if_ethernet id None = Err (flaw 8 (UnknownInterface id))
 
 -- the interface with a number, which is Ethernet's
-unfoldable pub ethernet : Interfaces → ℕ → Result Interface Halt
+unfoldable pub ethernet : Interfaces → ℕ → Result Interface Flaw
 ethernet is id = if_ethernet id (interface_of is id)
 
 -- a Section Header Block: the major version in two bytes, 1; version, length and options of the
 -- section are passed over
-unfoldable pub read_section : Order → List ℕ → Result Order Halt
-read_section o xs = if two_at o xs 12 == 1 then Ok o else Err (Wrong 12 (UnknownVersion (two_at o xs 12)))
+unfoldable pub read_section : Order → List ℕ → Result Order Flaw
+read_section o xs = if two_at o xs 12 == 1 then Ok o else Err (flaw 12 (UnknownVersion (two_at o xs 12)))
 
 -- an Interface Description Block: the link type, two bytes, the most bytes that are kept of a
 -- packet, and options; without them its clock counts microseconds
-unfoldable pub read_interface : Order → Interfaces → List ℕ → Result Interface Halt
+unfoldable pub read_interface : Order → Interfaces → List ℕ → Result Interface Flaw
 read_interface o is xs =
-    if nat_le 64 is.count then Err (Wrong 0 TooManyInterfaces)
+    if nat_le 64 is.count then Err (flaw 0 TooManyInterfaces)
     else with_options o (length xs - 4)
     (record { link = two_at o xs 8; kept = four_at o xs 12; per_second = 1000000; offset = Later 0 })
     (take (length xs - 20) (drop 16 xs))
 
 -- a packet with a time, if that is in range
-abbrev pub timed : Data → Option ℕ → Result Data Halt
+abbrev pub timed : Data → Option ℕ → Result Data Flaw
 timed d (Some time) = Ok (record d { time = Some time })
-timed d None = Err (Wrong 12 TimeOutOfRange)
+timed d None = Err (flaw 12 TimeOutOfRange)
 
 -- an Enhanced Packet Block or a Packet Block behind the number of its interface: the time in two
 -- halves, the higher first, how many bytes were kept, how many were on the line, and the packet
-unfoldable pub read_stamped : Order → Interfaces → ℕ → List ℕ → Result Data Halt
+unfoldable pub read_stamped : Order → Interfaces → ℕ → List ℕ → Result Data Flaw
 read_stamped o is id xs =
-    if nat_lt (length xs - 32) (four_at o xs 20) then Err (Wrong 20 (LengthLies (four_at o xs 20)))
+    if nat_lt (length xs - 32) (four_at o xs 20) then Err (flaw 20 (LengthLies (four_at o xs 20)))
     else ethernet is id >>= λ i.
     timed (record { time = None; start = 28; captured = four_at o xs 20; wire = four_at o xs 24; interface = id })
     (time_of i (four_at o xs 12 * 4294967296 + four_at o xs 16))
@@ -125,14 +128,14 @@ abbrev pub kept_of : ℕ → ℕ → ℕ
 kept_of kept wire = if kept == 0 then wire else min wire kept
 
 -- a Simple Packet Block: the length on the line, and the packet of the section's first interface
-unfoldable pub read_simple : Order → Interfaces → List ℕ → Result Data Halt
+unfoldable pub read_simple : Order → Interfaces → List ℕ → Result Data Flaw
 read_simple o is xs =
     ethernet is 0 >>= λ i.
-    if nat_lt (length xs - 16) (kept_of i.kept (four_at o xs 8)) then Err (Wrong 8 (LengthLies (kept_of i.kept (four_at o xs 8))))
+    if nat_lt (length xs - 16) (kept_of i.kept (four_at o xs 8)) then Err (flaw 8 (LengthLies (kept_of i.kept (four_at o xs 8))))
     else Ok (record { time = None; start = 12; captured = kept_of i.kept (four_at o xs 8); wire = four_at o xs 8; interface = 0 })
 
 -- what stands between the lengths of a block, by its kind
-unfoldable pub read_body : Order → Kind → Interfaces → List ℕ → Result Record Halt
+unfoldable pub read_body : Order → Kind → Interfaces → List ℕ → Result Record Flaw
 read_body o kind.Section is xs = read_section o xs >>= λ p. Ok (record'.Section p)
 read_body o kind.Interface is xs = read_interface o is xs >>= λ i. Ok (record'.Interface i)
 read_body o kind.Packet is xs = read_stamped o is (two_at o xs 8) xs >>= λ d. Ok (record'.Packet d)
@@ -141,12 +144,12 @@ read_body o kind.Simple is xs = read_simple o is xs >>= λ d. Ok (record'.Packet
 read_body o kind.Other is xs = Ok (record'.Other o (four_at o xs 4))
 
 -- a whole block, whose last four bytes are its length again
-abbrev pub read_whole : Order → Kind → Interfaces → List ℕ → Result Record Halt
+abbrev pub read_whole : Order → Kind → Interfaces → List ℕ → Result Record Flaw
 read_whole o k is xs =
     if four_at o xs (length xs - 4) == four_at o xs 4 then read_body o k is xs
-    else Err (Wrong (length xs - 4) (LengthLies (four_at o xs (length xs - 4))))
+    else Err (flaw (length xs - 4) (LengthLies (four_at o xs (length xs - 4))))
 
 -- a block, from as many bytes as are read at once
-unfoldable pub read_block : Order → Kind → Interfaces → List ℕ → Result Record Halt
+unfoldable pub read_block : Order → Kind → Interfaces → List ℕ → Result Record Flaw
 read_block o kind.Other is xs = Ok (record'.Other o (four_at o xs 4))
 read_block o k is xs = read_whole o k is xs

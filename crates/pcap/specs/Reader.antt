@@ -1,14 +1,15 @@
 -- A recording, record by record, and the packets of a whole one.
 -- Assumes nothing.
-use Rattle.std.specs.Prelude.{ℕ, zero, suc, ◌+◌, ◌-◌, ◌%◌, ◌^◌, min, List, [], ◌∷◌, ◌++◌, length, take, drop, replicate, nat_lt, ◌==◌, if◌then◌else◌}
+use Rattle.std.specs.Prelude.{ℕ, zero, suc, ⊤, ◌≤◌, ◌+◌, ◌-◌, ◌%◌, ◌^◌, min, List, [], ◌∷◌, ◌++◌, length, take, drop, replicate, nat_lt, ◌==◌, if◌then◌else◌}
 use Rattle.std.specs.declared.option.Option.{Option}
 use Rattle.std.specs.declared.option.Option.TheVariants.{Some, None}
 use Rattle.std.specs.declared.result.Result.{Result}
 use Rattle.std.specs.declared.result.Result.TheVariants.{Ok, Err}
 use Rattle.pcap.specs.declared.order.Order.{Order}
 use Rattle.pcap.specs.declared.order.Order.TheVariants.{LowestFirst}
+use Rattle.pcap.specs.declared.fault.Flaw as flaws
 use Rattle.pcap.specs.declared.fault.Halt.{Halt}
-use Rattle.pcap.specs.declared.fault.Halt.TheVariants.{More, Wrong}
+use Rattle.pcap.specs.declared.fault.Halt.TheVariants.{More, Flaw}
 use Rattle.pcap.specs.declared.fault.Wrong.TheVariants.{NotARecording, LengthLies, CutInRecord}
 use Rattle.pcap.specs.declared.fault.Wrong as wrong
 use Rattle.pcap.specs.declared.fault.Fault.{Fault}
@@ -27,7 +28,7 @@ use Rattle.pcap.specs.declared.reader.Packet.{Packet}
 use Rattle.pcap.specs.declared.reader.Step.{Step}
 use Rattle.pcap.specs.declared.reader.Step.TheVariants as step
 use Rattle.pcap.specs.declared.reader.Reader.{Reader}
-use Rattle.pcap.specs.Bind.{◌>>=◌}
+use Rattle.pcap.specs.Bind.{◌>>=◌, flaw, raised}
 use Rattle.pcap.specs.Order.{four_at}
 use Rattle.pcap.specs.Interface.{added}
 use Rattle.pcap.specs.Classic.{classic_of, record_size, read_header, read_packet}
@@ -47,7 +48,7 @@ block_part o xs = block_extent o xs >>= λ e. Ok (part.Block e.order e.kind, e.b
 -- the header of a pcap, if its magic number is known
 abbrev pub header_part : Option Classic → Result (Part × ℕ) Halt
 header_part (Some c) = Ok (part.Header c, 24)
-header_part None = Err (Wrong 0 NotARecording)
+header_part None = Err (Flaw (flaw 0 NotARecording))
 
 -- the front of a recording: a section of a pcapng, or the header of a pcap
 unfoldable pub first_part : List ℕ → Result (Part × ℕ) Halt
@@ -64,12 +65,12 @@ part_of (stage.Blocks o) xs = block_part o xs
 part_of (stage.Trailer o total) xs = Ok (part.Trailer o total, 4)
 
 -- the length behind a block that was passed over: that before it
-unfoldable pub read_trailer : Order → ℕ → List ℕ → Result Record Halt
+unfoldable pub read_trailer : Order → ℕ → List ℕ → Result Record flaws.Flaw
 read_trailer o total xs =
-    if four_at o xs 0 == total then Ok (record'.Trailer o) else Err (Wrong 0 (LengthLies (four_at o xs 0)))
+    if four_at o xs 0 == total then Ok (record'.Trailer o) else Err (flaw 0 (LengthLies (four_at o xs 0)))
 
 -- what is read of a part, from all its bytes
-unfoldable pub read_part : Part → Interfaces → List ℕ → Result Record Halt
+unfoldable pub read_part : Part → Interfaces → List ℕ → Result Record flaws.Flaw
 read_part (part.Header c) is xs = read_header c xs >>= λ d. Ok (record'.Header d)
 read_part (part.Record c) is xs = Ok (record'.Packet (read_packet c xs))
 read_part (part.Block o k) is xs = read_block o k is xs
@@ -84,7 +85,7 @@ unfoldable pub record_of : State → List ℕ → Result (Record × ℕ) Halt
 record_of s xs =
     part_of s.stage xs >>= λ p.
     whole p.1 xs >>= λ ys.
-    read_part p.0 s.interfaces ys >>= λ r.
+    raised (read_part p.0 s.interfaces ys) >>= λ r.
     Ok (r, p.1)
 
 -- what is known behind a record: what stands next, how many bytes are passed over before it, and
@@ -154,6 +155,14 @@ read_in (suc n) r xs =
 unfoldable pub read_of : Reader → List ℕ → Read
 read_of r xs = read_in (length xs) r xs
 
+-- a step reads a byte at least, of so many that are there, or asks for a byte at least, and for no
+-- more than make the longest record
+abbrev pub Reads : ℕ → Step → Type 0
+Reads k (step.More n) = (1 ≤ n) × (n + k ≤ 1048576)
+Reads k (step.Passed n) = (1 ≤ n) × (n ≤ k)
+Reads k (step.Packet n p) = (1 ≤ n) × (n ≤ k)
+Reads k (step.Fault f) = ⊤
+
 -- what a step answers, as it is seen
 pub data Answer : Type 0 where
   more : ℕ → Answer
@@ -171,7 +180,7 @@ shown (step.Fault f) = fault f
 -- why no record is read
 abbrev pub halted : ℕ → Halt → Answer
 halted place (More n) = more n
-halted place (Wrong at w) = fault (record { place = further place at; wrong = w })
+halted place (Flaw f) = fault (record { place = further place f.at; wrong = f.wrong })
 
 -- a record that is read, from so many bytes
 abbrev pub found : Record × ℕ → List ℕ → Answer
@@ -237,3 +246,43 @@ wrong_at place None = None
 -- the fault of a recording that ends with so many bytes left
 unfoldable pub end_of : Reader → ℕ → Option Fault
 end_of r n = wrong_at r.place (cut r.state.stage n)
+
+-- how many bytes a step read
+abbrev pub used : Answer → ℕ
+used (more n) = 0
+used (passed_over n) = n
+used (packet n p) = n
+used (fault f) = 0
+
+-- the packets that it gave
+abbrev pub given : Answer → List Seen
+given (packet n p) = p ∷ []
+given other = []
+
+-- it read nothing
+abbrev pub Halts : Answer → Type 0
+Halts (more n) = ⊤
+Halts (fault f) = ⊤
+Halts other = ⊥
+
+-- what is read, and then what is read of what it left with more bytes behind
+abbrev pub joined : Read → List ℕ → Read
+joined w ys = with_packets w.packets (read_of w.last (w.left ++ ys))
+
+-- the fault of a recording that ends behind a step
+abbrev pub fault_by : Answer → Reader → ℕ → Option Fault
+fault_by (fault f) r n = Some f
+fault_by other r n = end_of r n
+
+-- what is read of a whole recording
+unfoldable pub recording : List ℕ → Read
+recording xs = read_of at_start xs
+
+-- the packets of a whole recording
+unfoldable pub packets_of : List ℕ → List Seen
+packets_of xs = (recording xs).packets
+
+-- what is wrong with a whole recording, if anything is
+unfoldable pub fault_of : List ℕ → Option Fault
+fault_of xs =
+    fault_by (answer_of (recording xs).last (recording xs).left) (recording xs).last (length (recording xs).left)

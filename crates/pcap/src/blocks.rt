@@ -1,12 +1,12 @@
 //! The blocks of a pcapng: a type, a length, a body and the length again, each of four bytes but
 //! the body, which is filled up to a multiple of four.
-ghost use Rattle.std.specs.Prelude.{◌≡◌, ◌+◌, ◌≤◌, length, IfOk};
-ghost use Rattle.pcap.specs.Record.{Within};
+ghost use Rattle.std.specs.Prelude.{◌≡◌, ◌+◌, ◌≤◌, length, IfOk, IfErr};
+ghost use Rattle.pcap.specs.Record.{Within, Asks};
 ghost use Rattle.pcap.specs.Blocks.{kind_of, least, kind_least, order_of_magic, order_of_block};
-ghost use Rattle.pcap.specs.Blocks.{block_extent, ethernet, read_section, read_interface};
+ghost use Rattle.pcap.specs.Blocks.{extent_of, block_extent, ethernet, read_section, read_interface};
 ghost use Rattle.pcap.specs.Blocks.{read_stamped, read_simple, read_body, read_block};
 
-use crate::fault::{Halt, Wrong};
+use crate::fault::{Flaw, Halt, Wrong};
 use crate::interface::{ETHERNET, Interface, Interfaces, MOST, Offset};
 use crate::options::with_options;
 use crate::order::Order;
@@ -84,7 +84,7 @@ pub fn order_of_magic(magic: u32) -> Option<Order>
 /// The order of the numbers of the block at the front, in a section with an order: a block that
 /// begins a section tells its own. NotARecording where it tells none.
 #[tactic(auto, unfolding(crate::specs::Blocks::order_of_block))]
-pub fn order_of_block(order: Order, front: &[u8]) -> Result<Order, Halt>
+pub fn order_of_block(order: Order, front: &[u8]) -> Result<Order, Flaw>
     requires { 12 ≤ length front.now }
     ensures { result ≡ order_of_block order front.now }
 {
@@ -93,8 +93,30 @@ pub fn order_of_block(order: Order, front: &[u8]) -> Result<Order, Halt>
     }
     match order_of_magic(Order::LowestFirst.four_at(front, 8)) {
         Some(own) => Ok(own),
-        None => Err(Halt::Wrong(8, Wrong::NotARecording)),
+        None => Err(Wrong::NotARecording.at(8)),
     }
+}
+
+// How much is read of the block whose first 12 bytes stand at the front.
+#[tactic(auto, unfolding(crate::specs::Blocks::extent_of))]
+fn extent_of(order: Order, front: &[u8]) -> Result<Extent, Flaw>
+    requires { 12 ≤ length front.now }
+    ensures gives { result ≡ extent_of order front.now }
+    ensures least { IfOk result (λ e. kind_least e.kind ≤ e.bytes) }
+    ensures most { IfOk result (λ e. e.bytes ≤ 1048576) }
+{
+    let order = order_of_block(order, front)?;
+    let kind = Kind::of(order.four_at(front, 0));
+    let total = order.four_at(front, 4);
+    if total < kind.least() || total % 4 != 0 {
+        return Err(Wrong::LengthLies(total).at(4));
+    }
+    let bytes = match kind {
+        Kind::Other => 8,
+        _ if LONGEST < total => return Err(Wrong::TooLong(total).at(4)),
+        _ => total as usize,
+    };
+    Ok(Extent { order, kind, bytes })
 }
 
 /// How much is read of the block at the front. It needs 12 bytes; then NotARecording where a
@@ -104,59 +126,50 @@ pub fn order_of_block(order: Order, front: &[u8]) -> Result<Order, Halt>
 pub fn block_extent(order: Order, front: &[u8]) -> Result<Extent, Halt>
     ensures gives { result ≡ block_extent order front.now }
     ensures least { IfOk result (λ e. kind_least e.kind ≤ e.bytes) }
+    ensures most { IfOk result (λ e. e.bytes ≤ 1048576) }
+    ensures asks { IfErr result (λ h. Asks h (length front.now)) }
 {
     if front.len() < 12 {
         return Err(Halt::More(12 - front.len()));
     }
-    let order = order_of_block(order, front)?;
-    let kind = Kind::of(order.four_at(front, 0));
-    let total = order.four_at(front, 4);
-    if total < kind.least() || total % 4 != 0 {
-        return Err(Halt::Wrong(4, Wrong::LengthLies(total)));
-    }
-    let bytes = match kind {
-        Kind::Other => 8,
-        _ if LONGEST < total => return Err(Halt::Wrong(4, Wrong::TooLong(total))),
-        _ => total as usize,
-    };
-    Ok(Extent { order, kind, bytes })
+    Ok(extent_of(order, front)?)
 }
 
 // The interface of a packet, which is Ethernet's: UnknownInterface, then LinkTypeNotEthernet.
 #[tactic(auto, unfolding(crate::specs::Blocks::ethernet))]
-fn ethernet(interfaces: &Interfaces, id: u32) -> Result<Interface, Halt>
+fn ethernet(interfaces: &Interfaces, id: u32) -> Result<Interface, Flaw>
     ensures { result ≡ ethernet interfaces.now id }
 {
     let Some(interface) = interfaces.get(id as usize) else {
-        return Err(Halt::Wrong(8, Wrong::UnknownInterface(id)));
+        return Err(Wrong::UnknownInterface(id).at(8));
     };
     if interface.link != ETHERNET {
-        return Err(Halt::Wrong(8, Wrong::LinkTypeNotEthernet(interface.link)));
+        return Err(Wrong::LinkTypeNotEthernet(interface.link).at(8));
     }
     Ok(interface)
 }
 
 // The order of a section, whose major version is 1, else UnknownVersion.
 #[tactic(auto, unfolding(crate::specs::Blocks::read_section))]
-fn read_section(order: Order, block: &[u8]) -> Result<Order, Halt>
+fn read_section(order: Order, block: &[u8]) -> Result<Order, Flaw>
     requires { 28 ≤ length block.now }
     ensures { result ≡ read_section order block.now }
 {
     let version = order.two_at(block, 12);
     if version != 1 {
-        return Err(Halt::Wrong(12, Wrong::UnknownVersion(version)));
+        return Err(Wrong::UnknownVersion(version).at(12));
     }
     Ok(order)
 }
 
 // An interface: TooManyInterfaces, then what an option is refused for.
 #[tactic(auto, unfolding(crate::specs::Blocks::read_interface))]
-fn read_interface(order: Order, interfaces: &Interfaces, block: &[u8]) -> Result<Interface, Halt>
+fn read_interface(order: Order, interfaces: &Interfaces, block: &[u8]) -> Result<Interface, Flaw>
     requires { 20 ≤ length block.now }
     ensures { result ≡ read_interface order interfaces.now block.now }
 {
     if MOST <= interfaces.count {
-        return Err(Halt::Wrong(0, Wrong::TooManyInterfaces));
+        return Err(Wrong::TooManyInterfaces.at(0));
     }
     let plain = Interface {
         link: order.two_at(block, 8),
@@ -172,19 +185,19 @@ fn read_interface(order: Order, interfaces: &Interfaces, block: &[u8]) -> Result
 // more bytes than the block has left for it; UnknownInterface; LinkTypeNotEthernet;
 // TimeOutOfRange.
 #[tactic(auto, unfolding(crate::specs::Blocks::read_stamped))]
-fn read_stamped(order: Order, interfaces: &Interfaces, id: u32, block: &[u8]) -> Result<Data, Halt>
+fn read_stamped(order: Order, interfaces: &Interfaces, id: u32, block: &[u8]) -> Result<Data, Flaw>
     requires { 32 ≤ length block.now }
     ensures gives { result ≡ read_stamped order interfaces.now id block.now }
     ensures within { IfOk result (λ d. d.start + d.captured ≤ length block.now) }
 {
     let captured = order.four_at(block, 20);
     if block.len() - 32 < captured as usize {
-        return Err(Halt::Wrong(20, Wrong::LengthLies(captured)));
+        return Err(Wrong::LengthLies(captured).at(20));
     }
     let interface = ethernet(interfaces, id)?;
     let units = order.four_at(block, 12) as u64 * 0x1_0000_0000 + order.four_at(block, 16) as u64;
     let Some(time) = interface.time(units) else {
-        return Err(Halt::Wrong(12, Wrong::TimeOutOfRange));
+        return Err(Wrong::TimeOutOfRange.at(12));
     };
     Ok(Data {
         time: Some(time),
@@ -199,7 +212,7 @@ fn read_stamped(order: Order, interfaces: &Interfaces, id: u32, block: &[u8]) ->
 // LinkTypeNotEthernet; LengthLies where it has more bytes than the block has left for it. The
 // interface's limit says how many were kept.
 #[tactic(auto, unfolding(crate::specs::Blocks::read_simple))]
-fn read_simple(order: Order, interfaces: &Interfaces, block: &[u8]) -> Result<Data, Halt>
+fn read_simple(order: Order, interfaces: &Interfaces, block: &[u8]) -> Result<Data, Flaw>
     requires { 16 ≤ length block.now }
     ensures gives { result ≡ read_simple order interfaces.now block.now }
     ensures within { IfOk result (λ d. d.start + d.captured ≤ length block.now) }
@@ -211,7 +224,7 @@ fn read_simple(order: Order, interfaces: &Interfaces, block: &[u8]) -> Result<Da
         kept => wire.min(kept),
     };
     if block.len() - 16 < captured as usize {
-        return Err(Halt::Wrong(8, Wrong::LengthLies(captured)));
+        return Err(Wrong::LengthLies(captured).at(8));
     }
     Ok(Data {
         time: None,
@@ -229,7 +242,7 @@ fn read_body(
     kind: Kind,
     interfaces: &Interfaces,
     block: &[u8],
-) -> Result<Record, Halt>
+) -> Result<Record, Flaw>
     requires { least kind ≤ length block.now }
     ensures gives { result ≡ read_body order kind interfaces.now block.now }
     ensures within { IfOk result (λ r. Within r (length block.now)) }
@@ -261,7 +274,7 @@ pub fn read_block(
     kind: Kind,
     interfaces: &Interfaces,
     block: &[u8],
-) -> Result<Record, Halt>
+) -> Result<Record, Flaw>
     requires { kind_least kind ≤ length block.now }
     ensures gives { result ≡ read_block order kind interfaces.now block.now }
     ensures within { IfOk result (λ r. Within r (length block.now)) }
@@ -273,7 +286,7 @@ pub fn read_block(
     let end = block.len() - 4;
     let again = order.four_at(block, end);
     if again != total {
-        return Err(Halt::Wrong(end, Wrong::LengthLies(again)));
+        return Err(Wrong::LengthLies(again).at(end));
     }
     read_body(order, kind, interfaces, block)
 }

@@ -1,8 +1,9 @@
 //! The classic pcap: a header of 24 bytes, and records, each with 16 bytes before its packet.
-ghost use Rattle.std.specs.Prelude.{◌≡◌, ◌+◌, ◌≤◌, length, IfOk};
+ghost use Rattle.std.specs.Prelude.{◌≡◌, ◌+◌, ◌≤◌, length, IfOk, IfErr};
+ghost use Rattle.pcap.specs.Record.{Asks};
 ghost use Rattle.pcap.specs.Classic.{classic_of, record_size, read_header, read_packet};
 
-use crate::fault::{Halt, Wrong};
+use crate::fault::{Flaw, Halt, Wrong};
 use crate::interface::{ETHERNET, SECOND};
 use crate::order::Order;
 use crate::record::{Data, LONGEST};
@@ -45,17 +46,17 @@ impl Classic {
 
     /// The header: UnknownVersion unless its major version is 2, then LinkTypeNotEthernet.
     #[tactic(auto, unfolding(crate::specs::Classic::read_header))]
-    pub fn header(self, whole: &[u8]) -> Result<Classic, Halt>
+    pub fn header(self, whole: &[u8]) -> Result<Classic, Flaw>
         requires { 24 ≤ length whole.now }
         ensures { result ≡ read_header self whole.now }
     {
         let version = self.order.two_at(whole, 4);
         if version != 2 {
-            return Err(Halt::Wrong(4, Wrong::UnknownVersion(version)));
+            return Err(Wrong::UnknownVersion(version).at(4));
         }
         let link = (self.order.four_at(whole, 20) % 65536) as u16;
         if link != ETHERNET {
-            return Err(Halt::Wrong(20, Wrong::LinkTypeNotEthernet(link)));
+            return Err(Wrong::LinkTypeNotEthernet(link).at(20));
         }
         Ok(self)
     }
@@ -65,13 +66,15 @@ impl Classic {
     pub fn size(self, front: &[u8]) -> Result<usize, Halt>
         ensures gives { result ≡ record_size self front.now }
         ensures least { IfOk result (λ n. 16 ≤ n) }
+        ensures most { IfOk result (λ n. n ≤ 1048576) }
+        ensures asks { IfErr result (λ h. Asks h (length front.now)) }
     {
         if front.len() < RECORD_BYTES {
             return Err(Halt::More(RECORD_BYTES - front.len()));
         }
         let captured = self.order.four_at(front, 8);
         if LONGEST - 16 < captured {
-            return Err(Halt::Wrong(8, Wrong::TooLong(captured)));
+            return Err(Halt::Flaw(Wrong::TooLong(captured).at(8)));
         }
         Ok(RECORD_BYTES + captured as usize)
     }

@@ -1,4 +1,8 @@
 //! What is wrong with a recording, and at which of its bytes.
+ghost use Rattle.std.specs.Prelude.{◌≡◌};
+ghost use Rattle.pcap.specs.Bind.{flaw};
+ghost use Rattle.pcap.specs.declared.fault.Halt.TheVariants as Halt;
+
 use std::fmt;
 
 /// What is wrong.
@@ -35,13 +39,38 @@ pub struct Fault {
     pub wrong: Wrong,
 }
 
+/// What is wrong within a record or a block, and how many bytes behind its front.
+#[derive(Clone, Copy, Debug, PartialEq, Eq)]
+pub struct Flaw {
+    pub at: usize,
+    pub wrong: Wrong,
+}
+
+impl Wrong {
+    /// This, so many bytes behind the front.
+    pub fn at(self, at: usize) -> Flaw
+        ensures { result ≡ flaw at self }
+    {
+        Flaw { at, wrong: self }
+    }
+}
+
 /// Why no record is read at the front of some bytes.
 #[derive(Clone, Copy, Debug, PartialEq, Eq)]
 pub enum Halt {
     /// It needs so many bytes more, at least 1.
     More(usize),
-    /// Something is wrong so many bytes behind the front.
-    Wrong(usize, Wrong),
+    /// Something is wrong.
+    Flaw(Flaw),
+}
+
+/// What is wrong ends the reading.
+impl From<Flaw> for Halt {
+    ghost from_gives = { λ f h. h ≡ Halt.Flaw f };
+
+    fn from(flaw: Flaw) -> Halt {
+        Halt::Flaw(flaw)
+    }
 }
 
 impl fmt::Display for Wrong {

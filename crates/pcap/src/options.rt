@@ -3,7 +3,7 @@
 ghost use Rattle.std.specs.Prelude.{◌≡◌, ◌≤◌, ◌<◌, length, IfOk, IfSome};
 ghost use Rattle.pcap.specs.Options.{with_option, option_at, with_options};
 
-use crate::fault::{Halt, Wrong};
+use crate::fault::{Flaw, Wrong};
 use crate::interface::{Interface, Offset, per_second_of};
 use crate::order::Order;
 
@@ -24,17 +24,17 @@ fn with_option(
     interface: Interface,
     code: u16,
     value: &[u8],
-) -> Result<Interface, Halt>
+) -> Result<Interface, Flaw>
     requires { length value.now < 65536 }
     ensures { result ≡ with_option order at interface code value.now }
 {
     match code {
         RESOLUTION => {
             let [byte] = value else {
-                return Err(Halt::Wrong(at, Wrong::LengthLies(value.len() as u32)));
+                return Err(Wrong::LengthLies(value.len() as u32).at(at));
             };
             let Some(per_second) = per_second_of(*byte) else {
-                return Err(Halt::Wrong(at, Wrong::UnknownResolution(*byte)));
+                return Err(Wrong::UnknownResolution(*byte).at(at));
             };
             Ok(Interface {
                 per_second,
@@ -43,7 +43,7 @@ fn with_option(
         }
         OFFSET => {
             if value.len() != 8 {
-                return Err(Halt::Wrong(at, Wrong::LengthLies(value.len() as u32)));
+                return Err(Wrong::LengthLies(value.len() as u32).at(at));
             }
             Ok(Interface {
                 offset: Offset::of(order.eight_at(value, 0)),
@@ -63,7 +63,7 @@ fn option_at(
     end: usize,
     interface: Interface,
     options: &[u8],
-) -> Result<Option<(Interface, usize)>, Halt>
+) -> Result<Option<(Interface, usize)>, Flaw>
     requires { length options.now ≤ end }
     ensures gives { result ≡ option_at order end interface options.now }
     ensures used { IfOk result (λ o. IfSome o (λ x. (4 ≤ x.1) × (x.1 ≤ length options.now))) }
@@ -73,7 +73,7 @@ fn option_at(
     }
     let at = end - options.len();
     if options.len() < 4 {
-        return Err(Halt::Wrong(at, Wrong::LengthLies(options.len() as u32)));
+        return Err(Wrong::LengthLies(options.len() as u32).at(at));
     }
     let code = order.two_at(options, 0);
     if code == END {
@@ -82,7 +82,7 @@ fn option_at(
     let length = order.two_at(options, 2);
     let used = 4 + (length as usize + 3) / 4 * 4;
     if options.len() < used {
-        return Err(Halt::Wrong(at, Wrong::LengthLies(length as u32)));
+        return Err(Wrong::LengthLies(length as u32).at(at));
     }
     let value = &options[4..4 + length as usize];
     Ok(Some((with_option(order, at, interface, code, value)?, used)))
@@ -97,7 +97,7 @@ pub fn with_options(
     end: usize,
     plain: Interface,
     options: &[u8],
-) -> Result<Interface, Halt>
+) -> Result<Interface, Flaw>
     requires { length options.now ≤ end }
     ensures { result ≡ with_options order end plain options.now }
 {

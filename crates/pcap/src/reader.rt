@@ -1,13 +1,16 @@
 //! The reader of a recording: a step for each header, packet and block.
-ghost use Rattle.std.specs.Prelude.{◌≡◌, ◌≢◌, ◌+◌, ◌≤◌, length, IfOk};
-ghost use Rattle.pcap.specs.Record.{Within};
-ghost use Rattle.pcap.specs.Reader.{part_least, block_part, first_part, part_of, read_part};
+ghost use Rattle.std.specs.Prelude.{◌≡◌, ◌≢◌, ◌+◌, ◌≤◌, length, IfOk, IfErr};
+ghost use Rattle.std.specs.Prelude.{List, ℕ, ◌++◌, drop};
+ghost use Rattle.pcap.specs.declared.reader.Reader as reader;
+ghost use Rattle.pcap.specs.Record.{Within, Asks};
+ghost use Rattle.pcap.specs.Reader.{read_of, joined, with_packets, given, used};
+ghost use Rattle.pcap.specs.Reader.{Reads, part_least, block_part, first_part, part_of, read_part};
 ghost use Rattle.pcap.specs.Reader.{read_trailer, record_of, after, passed, shown, seen, packet_of};
 ghost use Rattle.pcap.specs.Reader.{answer_of, behind_step, at_start, end_of};
 
 use crate::blocks::{Extent, Kind, SECTION, block_extent, read_block};
 use crate::classic::{Classic, HEADER_BYTES};
-use crate::fault::{Fault, Halt, Wrong};
+use crate::fault::{Fault, Flaw, Halt, Wrong};
 use crate::interface::{Interface, Interfaces, MOST, Offset};
 use crate::order::Order;
 use crate::record::{Data, Record};
@@ -95,6 +98,8 @@ impl Stage {
     fn measure(self, front: &[u8]) -> Result<(Part, usize), Halt>
         ensures gives { result ≡ part_of self front.now }
         ensures least { IfOk result (λ p. part_least p.0 ≤ p.1) }
+        ensures most { IfOk result (λ p. p.1 ≤ 1048576) }
+        ensures asks { IfErr result (λ h. Asks h (length front.now)) }
     {
         match self {
             Stage::Start => start(front),
@@ -110,6 +115,8 @@ impl Stage {
 fn block(order: Order, front: &[u8]) -> Result<(Part, usize), Halt>
     ensures gives { result ≡ block_part order front.now }
     ensures least { IfOk result (λ p. part_least p.0 ≤ p.1) }
+    ensures most { IfOk result (λ p. p.1 ≤ 1048576) }
+    ensures asks { IfErr result (λ h. Asks h (length front.now)) }
 {
     let extent = block_extent(order, front)?;
     Ok((Part::Block(extent.order, extent.kind), extent.bytes))
@@ -120,6 +127,8 @@ fn block(order: Order, front: &[u8]) -> Result<(Part, usize), Halt>
 fn start(front: &[u8]) -> Result<(Part, usize), Halt>
     ensures gives { result ≡ first_part front.now }
     ensures least { IfOk result (λ p. part_least p.0 ≤ p.1) }
+    ensures most { IfOk result (λ p. p.1 ≤ 1048576) }
+    ensures asks { IfErr result (λ h. Asks h (length front.now)) }
 {
     if front.len() < 4 {
         return Err(Halt::More(4 - front.len()));
@@ -130,14 +139,14 @@ fn start(front: &[u8]) -> Result<(Part, usize), Halt>
     }
     match Classic::of(magic) {
         Some(classic) => Ok((Part::Header(classic), HEADER_BYTES)),
-        None => Err(Halt::Wrong(0, Wrong::NotARecording)),
+        None => Err(Halt::Flaw(Wrong::NotARecording.at(0))),
     }
 }
 
 impl Part {
     // What is read of all its bytes.
     #[tactic(auto, unfolding(crate::specs::Reader::read_part))]
-    fn read(self, interfaces: &Interfaces, whole: &[u8]) -> Result<Record, Halt>
+    fn read(self, interfaces: &Interfaces, whole: &[u8]) -> Result<Record, Flaw>
         requires { part_least self ≤ length whole.now }
         ensures gives { result ≡ read_part self interfaces.now whole.now }
         ensures within { IfOk result (λ r. Within r (length whole.now)) }
@@ -153,14 +162,14 @@ impl Part {
 
 // The length behind a block that was passed over.
 #[tactic(auto, unfolding(crate::specs::Reader::read_trailer))]
-fn trailer(order: Order, total: u32, whole: &[u8]) -> Result<Record, Halt>
+fn trailer(order: Order, total: u32, whole: &[u8]) -> Result<Record, Flaw>
     requires { 4 ≤ length whole.now }
     ensures gives { result ≡ read_trailer order total whole.now }
     ensures within { IfOk result (λ r. Within r (length whole.now)) }
 {
     let again = order.four_at(whole, 0);
     if again != total {
-        return Err(Halt::Wrong(0, Wrong::LengthLies(again)));
+        return Err(Wrong::LengthLies(again).at(0));
     }
     Ok(Record::Trailer(order))
 }
@@ -170,7 +179,9 @@ impl State {
     #[tactic(auto, unfolding(crate::specs::Reader::record_of))]
     fn read(&self, front: &[u8]) -> Result<(Record, usize), Halt>
         ensures gives { result ≡ record_of self.now front.now }
+        ensures some { IfOk result (λ x. 1 ≤ x.1) }
         ensures there { IfOk result (λ x. x.1 ≤ length front.now) }
+        ensures asks { IfErr result (λ h. Asks h (length front.now)) }
         ensures within { IfOk result (λ x. Within x.0 x.1) }
     {
         let (part, n) = self.stage.measure(front)?;
@@ -233,6 +244,7 @@ impl Reader {
     fn pass<'a>(&mut self, front: &'a [u8]) -> Step<'a>
         requires { self.old.state.due ≢ 0 }
         ensures answer { shown result ≡ answer_of self.old front.now }
+        ensures reads { Reads (length front.now) result }
         ensures next { self.new ≡ behind_step self.old front.now }
     {
         if front.is_empty() {
@@ -249,6 +261,7 @@ impl Reader {
     #[tactic(auto, unfolding(crate::specs::Reader::answer_of, crate::specs::Reader::behind_step))]
     pub fn step<'a>(&mut self, front: &'a [u8]) -> Step<'a>
         ensures answer { shown result ≡ answer_of self.old front.now }
+        ensures reads { Reads (length front.now) result }
         ensures next { self.new ≡ behind_step self.old front.now }
     {
         if self.state.due != 0 {
@@ -257,7 +270,7 @@ impl Reader {
         let (read, n) = match self.state.read(front) {
             Ok(found) => found,
             Err(Halt::More(n)) => return Step::More(n),
-            Err(Halt::Wrong(at, wrong)) => {
+            Err(Halt::Flaw(Flaw { at, wrong })) => {
                 let place = self.place.wrapping_add(at as u64);
                 return Step::Fault(Fault { place, wrong });
             }
@@ -304,3 +317,16 @@ fn lent(found: Data, whole: &[u8]) -> Packet<'_>
         interface: found.interface,
     }
 }
+
+/// Law of the parts: what is read of bytes is what is read of their first part, and then of what
+/// that left with the rest behind it, so that it does not matter how a recording is cut; and a step
+/// gives the first packet of what is read, if it gives one, and leaves the reader where all the
+/// others are read.
+#[tactic(auto, using(crate::proofs::Whole::parts, crate::proofs::Steps::steps))]
+pub fn in_whatever_parts()
+    ensures parts { (r : reader.Reader) (xs ys : List ℕ) →
+        read_of r (xs ++ ys) ≡ joined (read_of r xs) ys }
+    ensures steps { (r : reader.Reader) (xs : List ℕ) →
+        read_of r xs ≡ with_packets (given (answer_of r xs))
+        (read_of (behind_step r xs) (drop (used (answer_of r xs)) xs)) }
+{}

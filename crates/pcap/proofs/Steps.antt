@@ -1,0 +1,59 @@
+-- What is read of some bytes is what a step gives, and then what is read behind it.
+use Rattle.std.proofs.Common.{◌≡◌, ℕ, ◌+◌, ◌≤◌, ◌<◌, ◌%◌, ◌^◌, min, Bool, true, false, cond, List, [], ◌∷◌, length, drop, take, refl, ap, sym, ◌∙◌, arith, ◌==◌}
+use Rattle.std.proofs.lemmas.Bool.{eqb-true}
+use Rattle.std.proofs.Math.Nat.{mod-eq_of_lt}
+use Rattle.std.specs.declared.result.Result.{Result}
+use Rattle.std.specs.declared.result.Result.TheVariants.{Ok, Err}
+use Rattle.pcap.specs.declared.fault.Halt.{Halt}
+use Rattle.pcap.specs.declared.fault.Halt.TheVariants.{More, Flaw}
+use Rattle.pcap.specs.declared.record.Record.{Record}
+use Rattle.pcap.specs.declared.record.Record.TheVariants as record'
+use Rattle.pcap.specs.declared.reader.State.{State}
+use Rattle.pcap.specs.declared.reader.Reader.{Reader}
+use Rattle.pcap.specs.Reader.{record_of, packets_in, passed, behind, further, Read, with_packets, read_of, Answer, more, passed_over, packet, fault, found, halted, answered, left_at, answer_of, behind_step, used, given, Halts}
+use Rattle.pcap.proofs.Whole.{next_of, stopped, goes, stops, passing}
+
+-- what is read, by what a step answers and where it leaves the reader
+abbrev By : Reader → List ℕ → Answer → Reader → Type 0
+By r xs a s = read_of r xs ≡ with_packets (given a) (read_of s (drop (used a) xs))
+
+-- a record
+of_found : (r : Reader) (xs : List ℕ) (x : Record × ℕ) → read_of r xs ≡ with_packets (packets_in x.0 (take x.1 xs)) (read_of (behind r x) (drop x.1 xs)) → By r xs (found x xs) (behind r x)
+of_found r xs (record'.Header c, n) h = h
+of_found r xs (record'.Section o, n) h = h
+of_found r xs (record'.Interface i, n) h = h
+of_found r xs (record'.Packet d, n) h = h
+of_found r xs (record'.Other o t, n) h = h
+of_found r xs (record'.Trailer o, n) h = h
+
+not_found : (p : ℕ) (e : Halt) (r : Reader) (xs : List ℕ) → By r xs (halted p e) r
+not_found p (More n) r xs = refl
+not_found p (Flaw f) r xs = refl
+
+-- where no bytes are due
+none_due : (r : Reader) (xs : List ℕ) → r.state.due ≡ 0 → (q : Result (Record × ℕ) Halt) → record_of r.state xs ≡ q → By r xs (answered r.place q xs) (left_at r q)
+none_due r xs d (Err e) h = not_found r.place e r xs
+none_due r xs d (Ok x) h =
+    let z : drop r.state.due xs ≡ xs = ap (λ n. drop n xs) d in
+    of_found r xs x
+    (goes r xs x (ap (record_of r.state) z ∙ h)
+    ∙ ap (λ zs. with_packets (packets_in x.0 (take x.1 zs)) (read_of (behind r x) (drop x.1 zs))) z)
+
+by_length :
+    (b : Bool) (r : Reader) (xs : List ℕ) →
+    By r xs (cond b (more 1) (passed_over (min (length xs) r.state.due))) (cond b r (passed r (min (length xs) r.state.due)))
+by_length true r xs = refl
+by_length false r xs = passing r (min (length xs) r.state.due) xs (omega arith) (omega arith)
+
+by_due :
+    (b : Bool) (r : Reader) (xs : List ℕ) → r.state.due == 0 ≡ b →
+    By r xs
+    (cond b (answered r.place (record_of r.state xs) xs) (cond (length xs == 0) (more 1) (passed_over (min (length xs) r.state.due))))
+    (cond b (left_at r (record_of r.state xs)) (cond (length xs == 0) r (passed r (min (length xs) r.state.due))))
+by_due true r xs h = none_due r xs (eqb-true r.state.due 0 h) (record_of r.state xs) refl
+by_due false r xs h = by_length (length xs == 0) r xs
+
+-- A step gives the first packets of what is read, and leaves the reader where the others are read.
+pub steps : (r : Reader) (xs : List ℕ) → read_of r xs ≡ with_packets (given (answer_of r xs)) (read_of (behind_step r xs) (drop (used (answer_of r xs)) xs))
+unfolding answer_of behind_step
+steps r xs = by_due (r.state.due == 0) r xs refl
