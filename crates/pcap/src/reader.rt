@@ -1,9 +1,9 @@
 //! The reader of a recording: a step for each header, packet and block.
 ghost use Rattle.std.specs.Prelude.{◌≡◌, ◌≢◌, ◌+◌, ◌≤◌, length, IfOk, IfErr};
-ghost use Rattle.std.specs.Prelude.{List, ℕ, ◌++◌, drop};
+ghost use Rattle.std.specs.Prelude.{List, [], ℕ, ◌++◌, ◌<◌, ◌^◌, drop};
 ghost use Rattle.pcap.specs.declared.reader.Reader as reader;
 ghost use Rattle.pcap.specs.Record.{Within, Asks};
-ghost use Rattle.pcap.specs.Reader.{read_of, joined, with_packets, given, used};
+ghost use Rattle.pcap.specs.Reader.{read_of, joined, with_packets, given, used, Halts};
 ghost use Rattle.pcap.specs.Reader.{Reads, part_least, block_part, first_part, part_of, read_part};
 ghost use Rattle.pcap.specs.Reader.{read_trailer, record_of, after, passed, shown, seen, packet_of};
 ghost use Rattle.pcap.specs.Reader.{answer_of, behind_step, at_start, end_of};
@@ -321,12 +321,14 @@ fn lent(found: Data, whole: &[u8]) -> Packet<'_>
 /// Law of the parts: what is read of bytes is what is read of their first part, and then of what
 /// that left with the rest behind it, so that it does not matter how a recording is cut; and a step
 /// gives the first packet of what is read, if it gives one, and leaves the reader where all the
-/// others are read.
-#[tactic(auto, using(crate::proofs::Whole::parts, crate::proofs::Steps::steps))]
+/// others are read; where it reads nothing, nothing can be read.
+#[tactic(auto, using(crate::proofs::Whole::parts, crate::proofs::Steps::steps, crate::proofs::Steps::halts))]
 pub fn in_whatever_parts()
     ensures parts { (r : reader.Reader) (xs ys : List ℕ) →
         read_of r (xs ++ ys) ≡ joined (read_of r xs) ys }
     ensures steps { (r : reader.Reader) (xs : List ℕ) →
         read_of r xs ≡ with_packets (given (answer_of r xs))
         (read_of (behind_step r xs) (drop (used (answer_of r xs)) xs)) }
+    ensures halts { (r : reader.Reader) (xs : List ℕ) → r.place < 2 ^ 64 →
+        Halts (answer_of r xs) → read_of r xs ≡ record { packets = []; last = r; left = xs } }
 {}
