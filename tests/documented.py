@@ -12,7 +12,7 @@ import re
 import sys
 
 CRATES = """types nmt dll counters entries frames head watched bitmap node partners start phases heartbeats tick reception
-due lentlaws lent calling recipes weigh trace dosing forms shift shiftreport reach positions readings transitions
+due lentlaws lent calling recipes weigh trace dosing forms pcap shift shiftreport reach positions readings transitions
 counting entry_bytes chart examples script telling replay""".split()
 ROOT = pathlib.Path(__file__).resolve().parent.parent
 ITEM = re.compile(r'^ *pub(?:\(crate\))? (?:const |static |extern "C" )*(?:fn|struct|enum|trait|type|(?=[A-Z_]+:)) ?(\w+)')

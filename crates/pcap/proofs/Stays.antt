@@ -1,8 +1,8 @@
 -- A record that is read at the front of some bytes is read there too where more bytes stand behind
 -- them, and it has a byte at least.
-use Rattle.std.proofs.Common.{◌≡◌, ℕ, zero, suc, ◌+◌, ◌-◌, ◌≤◌, ◌<◌, ◌%◌, Bool, true, false, cond, List, [], ◌∷◌, ◌++◌, length, drop, take, slice_index, refl, ap, sym, ◌∙◌, subst, arith, rules, ◌==◌, nat_lt}
-use Rattle.std.proofs.lemmas.List.{length-append, length-drop, get_or_append_left, take-append-le, drop-append-le}
-use Rattle.std.proofs.lemmas.Bool.{le-ltb, ltb-false, ltb-true}
+use Rattle.std.proofs.Common.{◌≡◌, ℕ, ◌+◌, ◌-◌, ◌≤◌, ◌%◌, Bool, true, false, cond, List, ◌++◌, length, take, slice_index, refl, ap, sym, ◌∙◌, arith, ◌==◌, nat_lt}
+use Rattle.std.proofs.lemmas.List.{length-append, get_or_append_left, take-append-le}
+use Rattle.std.proofs.lemmas.Bool.{le-ltb, ltb-false}
 use Rattle.std.specs.declared.option.Option.{Option}
 use Rattle.std.specs.declared.option.Option.TheVariants.{Some, None}
 use Rattle.std.specs.declared.result.Result.{Result}
@@ -13,19 +13,18 @@ use Rattle.pcap.specs.declared.fault.Flaw.{Flaw}
 use Rattle.pcap.specs.declared.fault.Halt.{Halt}
 use Rattle.pcap.specs.declared.fault.Halt.TheVariants as halt
 use Rattle.pcap.specs.declared.fault.Wrong.TheVariants.{LengthLies, TooLong}
-use Rattle.pcap.specs.declared.interface.Interfaces.{Interfaces}
 use Rattle.pcap.specs.declared.classic.Classic.{Classic}
 use Rattle.pcap.specs.declared.blocks.Kind.{Kind}
 use Rattle.pcap.specs.declared.blocks.Kind.TheVariants as kind
 use Rattle.pcap.specs.declared.blocks.Extent.{Extent}
-use Rattle.pcap.specs.declared.record.Record.{Record}
+use Rattle.pcap.specs.declared.records.Record.{Record}
 use Rattle.pcap.specs.declared.reader.Stage.{Stage}
 use Rattle.pcap.specs.declared.reader.Stage.TheVariants as stage
 use Rattle.pcap.specs.declared.reader.Part.{Part}
 use Rattle.pcap.specs.declared.reader.Part.TheVariants as part
 use Rattle.pcap.specs.declared.reader.State.{State}
 use Rattle.pcap.specs.Bind.{◌>>=◌, flaw, raised}
-use Rattle.pcap.specs.Order.{two_at, four_at}
+use Rattle.pcap.specs.Order.{four_at}
 use Rattle.pcap.specs.Classic.{classic_of, record_size}
 use Rattle.pcap.specs.Blocks.{kind_of, least, order_of_magic, known_order, order_of_block, sized, extent_by, extent_of, block_extent}
 use Rattle.pcap.specs.Reader.{block_part, header_part, first_part, part_of, read_part, whole, record_of}

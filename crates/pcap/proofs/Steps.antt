@@ -1,5 +1,5 @@
 -- What is read of some bytes is what a step gives, and then what is read behind it.
-use Rattle.std.proofs.Common.{◌≡◌, ℕ, ◌+◌, ◌-◌, ◌≤◌, ◌<◌, ◌%◌, ◌^◌, min, Bool, true, false, cond, List, [], ◌∷◌, length, drop, take, refl, ap, sym, ◌∙◌, arith, ◌==◌}
+use Rattle.std.proofs.Common.{◌≡◌, ℕ, ◌-◌, ◌<◌, ◌%◌, ◌^◌, min, Bool, true, false, cond, List, [], ◌∷◌, length, drop, take, refl, ap, ◌∙◌, arith, ◌==◌}
 use Rattle.std.proofs.lemmas.Bool.{eqb-true}
 use Rattle.std.proofs.lemmas.List.{drop_all}
 use Rattle.std.proofs.Math.Nat.{mod-eq_of_lt}
@@ -7,12 +7,12 @@ use Rattle.std.specs.declared.result.Result.{Result}
 use Rattle.std.specs.declared.result.Result.TheVariants.{Ok, Err}
 use Rattle.pcap.specs.declared.fault.Halt.{Halt}
 use Rattle.pcap.specs.declared.fault.Halt.TheVariants.{More, Flaw}
-use Rattle.pcap.specs.declared.record.Record.{Record}
-use Rattle.pcap.specs.declared.record.Record.TheVariants as record'
+use Rattle.pcap.specs.declared.records.Record.{Record}
+use Rattle.pcap.specs.declared.records.Record.TheVariants as record'
 use Rattle.pcap.specs.declared.reader.State.{State}
 use Rattle.pcap.specs.declared.reader.Reader.{Reader}
-use Rattle.pcap.specs.Reader.{record_of, packets_in, passed, behind, further, Read, with_packets, read_of, Answer, more, passed_over, packet, fault, found, halted, answered, left_at, answer_of, behind_step, used, given, Halts}
-use Rattle.pcap.proofs.Whole.{next_of, stopped, goes, stops, passing}
+use Rattle.pcap.specs.Reader.{record_of, packets_in, passed, behind, further, with_packets, read_of, Answer, more, passed_over, found, halted, answered, left_at, answer_of, behind_step, used, given, Halts}
+use Rattle.pcap.proofs.InParts.{stopped, goes, stops, passing}
 
 -- what is read, by what a step answers and where it leaves the reader
 abbrev By : Reader → List ℕ → Answer → Reader → Type 0

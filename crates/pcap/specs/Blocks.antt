@@ -1,6 +1,6 @@
 -- The blocks of a pcapng.
 -- Assumes nothing.
-use Rattle.std.specs.Prelude.{ℕ, ◌+◌, ◌-◌, ◌*◌, ◌%◌, min, List, Bool, length, take, drop, nat_lt, nat_le, ◌==◌, ◌||◌, not, if◌then◌else◌}
+use Rattle.std.specs.Prelude.{ℕ, ◌+◌, ◌-◌, ◌*◌, ◌%◌, min, List, length, take, drop, nat_lt, nat_le, ◌==◌, if◌then◌else◌}
 use Rattle.std.specs.declared.option.Option.{Option}
 use Rattle.std.specs.declared.option.Option.TheVariants.{Some, None}
 use Rattle.std.specs.declared.result.Result.{Result}
@@ -17,9 +17,9 @@ use Rattle.pcap.specs.declared.interface.Interfaces.{Interfaces}
 use Rattle.pcap.specs.declared.blocks.Kind.{Kind}
 use Rattle.pcap.specs.declared.blocks.Kind.TheVariants as kind
 use Rattle.pcap.specs.declared.blocks.Extent.{Extent}
-use Rattle.pcap.specs.declared.record.Data.{Data}
-use Rattle.pcap.specs.declared.record.Record.{Record}
-use Rattle.pcap.specs.declared.record.Record.TheVariants as record'
+use Rattle.pcap.specs.declared.records.Data.{Data}
+use Rattle.pcap.specs.declared.records.Record.{Record}
+use Rattle.pcap.specs.declared.records.Record.TheVariants as record'
 use Rattle.pcap.specs.Bind.{◌>>=◌, flaw, raised}
 use Rattle.pcap.specs.Order.{two_at, four_at}
 use Rattle.pcap.specs.Interface.{interface_of, time_of}

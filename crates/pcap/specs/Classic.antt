@@ -5,7 +5,6 @@ use Rattle.std.specs.declared.option.Option.{Option}
 use Rattle.std.specs.declared.option.Option.TheVariants.{Some, None}
 use Rattle.std.specs.declared.result.Result.{Result}
 use Rattle.std.specs.declared.result.Result.TheVariants.{Ok, Err}
-use Rattle.pcap.specs.declared.order.Order.{Order}
 use Rattle.pcap.specs.declared.order.Order.TheVariants.{LowestFirst, HighestFirst}
 use Rattle.pcap.specs.declared.fault.Flaw as flaws
 use Rattle.pcap.specs.declared.fault.Halt.{Halt}
@@ -14,7 +13,7 @@ use Rattle.pcap.specs.declared.fault.Wrong.TheVariants.{UnknownVersion, LinkType
 use Rattle.pcap.specs.declared.classic.Fraction.{Fraction}
 use Rattle.pcap.specs.declared.classic.Fraction.TheVariants.{Microseconds, Nanoseconds}
 use Rattle.pcap.specs.declared.classic.Classic.{Classic}
-use Rattle.pcap.specs.declared.record.Data.{Data}
+use Rattle.pcap.specs.declared.records.Data.{Data}
 use Rattle.pcap.specs.Bind.{flaw}
 use Rattle.pcap.specs.Order.{two_at, four_at}
 

@@ -16,9 +16,9 @@ use Rattle.pcap.specs.declared.fault.Fault.{Fault}
 use Rattle.pcap.specs.declared.interface.Offset.TheVariants.{Later}
 use Rattle.pcap.specs.declared.interface.Interfaces.{Interfaces}
 use Rattle.pcap.specs.declared.classic.Classic.{Classic}
-use Rattle.pcap.specs.declared.record.Data.{Data}
-use Rattle.pcap.specs.declared.record.Record.{Record}
-use Rattle.pcap.specs.declared.record.Record.TheVariants as record'
+use Rattle.pcap.specs.declared.records.Data.{Data}
+use Rattle.pcap.specs.declared.records.Record.{Record}
+use Rattle.pcap.specs.declared.records.Record.TheVariants as record'
 use Rattle.pcap.specs.declared.reader.Stage.{Stage}
 use Rattle.pcap.specs.declared.reader.Stage.TheVariants as stage
 use Rattle.pcap.specs.declared.reader.Part.{Part}

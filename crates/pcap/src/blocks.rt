@@ -1,16 +1,17 @@
 //! The blocks of a pcapng: a type, a length, a body and the length again, each of four bytes but
 //! the body, which is filled up to a multiple of four.
 ghost use Rattle.std.specs.Prelude.{◌≡◌, ◌+◌, ◌≤◌, length, IfOk, IfErr};
-ghost use Rattle.pcap.specs.Record.{Within, Asks};
+ghost use Rattle.pcap.specs.Records.{Within, Asks};
 ghost use Rattle.pcap.specs.Blocks.{kind_of, least, kind_least, order_of_magic, order_of_block};
-ghost use Rattle.pcap.specs.Blocks.{extent_of, block_extent, ethernet, read_section, read_interface};
-ghost use Rattle.pcap.specs.Blocks.{read_stamped, read_simple, read_body, read_block};
+ghost use Rattle.pcap.specs.Blocks.{extent_of, block_extent, ethernet, read_section};
+ghost use Rattle.pcap.specs.Blocks.{read_interface, read_stamped, read_simple, read_body};
+ghost use Rattle.pcap.specs.Blocks.{read_block};
 
 use crate::fault::{Flaw, Halt, Wrong};
 use crate::interface::{ETHERNET, Interface, Interfaces, MOST, Offset};
 use crate::options::with_options;
 use crate::order::Order;
-use crate::record::{Data, LONGEST, Record};
+use crate::records::{Data, LONGEST, Record};
 
 /// The type of the block with which a section begins: the same number in either order.
 pub const SECTION: u32 = 0x0A0D_0D0A;
@@ -34,7 +35,7 @@ pub enum Kind {
 
 impl Kind {
     /// By the number of its type.
-    pub fn of(number: u32) -> Kind
+    pub(crate) fn of(number: u32) -> Kind
         ensures { result ≡ kind_of number }
     {
         match number {
@@ -48,7 +49,7 @@ impl Kind {
     }
 
     /// The fewest bytes that such a block has.
-    pub fn least(self) -> u32
+    pub(crate) fn least(self) -> u32
         ensures { result ≡ least self }
     {
         match self {
@@ -71,7 +72,7 @@ pub struct Extent {
 }
 
 /// The order of a section's numbers, by its four bytes from 8 on, read lowest first.
-pub fn order_of_magic(magic: u32) -> Option<Order>
+pub(crate) fn order_of_magic(magic: u32) -> Option<Order>
     ensures { result ≡ order_of_magic magic }
 {
     match magic {
@@ -84,7 +85,7 @@ pub fn order_of_magic(magic: u32) -> Option<Order>
 /// The order of the numbers of the block at the front, in a section with an order: a block that
 /// begins a section tells its own. NotARecording where it tells none.
 #[tactic(auto, unfolding(crate::specs::Blocks::order_of_block))]
-pub fn order_of_block(order: Order, front: &[u8]) -> Result<Order, Flaw>
+pub(crate) fn order_of_block(order: Order, front: &[u8]) -> Result<Order, Flaw>
     requires { 12 ≤ length front.now }
     ensures { result ≡ order_of_block order front.now }
 {
@@ -123,7 +124,7 @@ fn extent_of(order: Order, front: &[u8]) -> Result<Extent, Flaw>
 /// section begins that tells no order; LengthLies below the least length of its kind, or at no
 /// multiple of 4; TooLong, unless it is passed over.
 #[tactic(auto, unfolding(crate::specs::Blocks::block_extent))]
-pub fn block_extent(order: Order, front: &[u8]) -> Result<Extent, Halt>
+pub(crate) fn block_extent(order: Order, front: &[u8]) -> Result<Extent, Halt>
     ensures gives { result ≡ block_extent order front.now }
     ensures least { IfOk result (λ e. kind_least e.kind ≤ e.bytes) }
     ensures most { IfOk result (λ e. e.bytes ≤ 1048576) }
@@ -269,7 +270,7 @@ fn read_body(
 /// interface and its options), UnknownInterface, LinkTypeNotEthernet, LengthLies or TimeOutOfRange
 /// (a packet).
 #[tactic(auto, unfolding(crate::specs::Blocks::read_block))]
-pub fn read_block(
+pub(crate) fn read_block(
     order: Order,
     kind: Kind,
     interfaces: &Interfaces,

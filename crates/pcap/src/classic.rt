@@ -1,12 +1,12 @@
 //! The classic pcap: a header of 24 bytes, and records, each with 16 bytes before its packet.
 ghost use Rattle.std.specs.Prelude.{◌≡◌, ◌+◌, ◌≤◌, length, IfOk, IfErr};
-ghost use Rattle.pcap.specs.Record.{Asks};
+ghost use Rattle.pcap.specs.Records.{Asks};
 ghost use Rattle.pcap.specs.Classic.{classic_of, record_size, read_header, read_packet};
 
 use crate::fault::{Flaw, Halt, Wrong};
 use crate::interface::{ETHERNET, SECOND};
 use crate::order::Order;
-use crate::record::{Data, LONGEST};
+use crate::records::{Data, LONGEST};
 
 /// The length of the header.
 pub const HEADER_BYTES: usize = 24;
@@ -31,7 +31,7 @@ pub struct Classic {
 impl Classic {
     /// By the first four bytes, read lowest first: 0xA1B2C3D4, or 0xA1B23C4D with nanoseconds, or
     /// one of these with its bytes the other way round. None by any other number.
-    pub fn of(magic: u32) -> Option<Classic>
+    pub(crate) fn of(magic: u32) -> Option<Classic>
         ensures { result ≡ classic_of magic }
     {
         let (order, fraction) = match magic {
@@ -46,7 +46,7 @@ impl Classic {
 
     /// The header: UnknownVersion unless its major version is 2, then LinkTypeNotEthernet.
     #[tactic(auto, unfolding(crate::specs::Classic::read_header))]
-    pub fn header(self, whole: &[u8]) -> Result<Classic, Flaw>
+    pub(crate) fn header(self, whole: &[u8]) -> Result<Classic, Flaw>
         requires { 24 ≤ length whole.now }
         ensures { result ≡ read_header self whole.now }
     {
@@ -63,7 +63,7 @@ impl Classic {
 
     /// How many bytes the record at the front has. It needs 16 bytes; then TooLong.
     #[tactic(auto, unfolding(crate::specs::Classic::record_size))]
-    pub fn size(self, front: &[u8]) -> Result<usize, Halt>
+    pub(crate) fn size(self, front: &[u8]) -> Result<usize, Halt>
         ensures gives { result ≡ record_size self front.now }
         ensures least { IfOk result (λ n. 16 ≤ n) }
         ensures most { IfOk result (λ n. n ≤ 1048576) }
@@ -79,10 +79,10 @@ impl Classic {
         Ok(RECORD_BYTES + captured as usize)
     }
 
-    /// The packet of a whole record: seconds, the fraction, how many bytes were kept, how many there
-    /// were on the line, and the packet's bytes.
+    /// The packet of a whole record: seconds, the fraction, how many bytes were kept, how many
+    /// there were on the line, and the packet's bytes.
     #[tactic(auto, unfolding(crate::specs::Classic::read_packet))]
-    pub fn packet(self, whole: &[u8]) -> Data
+    pub(crate) fn packet(self, whole: &[u8]) -> Data
         requires { 16 ≤ length whole.now }
         ensures gives { result ≡ read_packet self whole.now }
         ensures within { result.start + result.captured ≤ length whole.now }

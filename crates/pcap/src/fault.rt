@@ -1,6 +1,7 @@
 //! What is wrong with a recording, and at which of its bytes.
-ghost use Rattle.std.specs.Prelude.{◌≡◌};
+ghost use Rattle.std.specs.Prelude.{◌≡◌, Some};
 ghost use Rattle.pcap.specs.Bind.{flaw};
+ghost use Rattle.pcap.specs.Text.{wrong_text, fault_text};
 ghost use Rattle.pcap.specs.declared.fault.Halt.TheVariants as Halt;
 
 use std::fmt;
@@ -74,6 +75,8 @@ impl From<Flaw> for Halt {
 }
 
 impl fmt::Display for Wrong {
+    ghost output = { λ x. Some (wrong_text x) };
+
     fn fmt<W: fmt::Write>(&self, f: &mut fmt::Formatter<W>) -> fmt::Result {
         match self {
             Wrong::NotARecording => f.write_str("neither pcap nor pcapng"),
@@ -93,6 +96,8 @@ impl fmt::Display for Wrong {
 }
 
 impl fmt::Display for Fault {
+    ghost output = { λ x. Some (fault_text x) };
+
     fn fmt<W: fmt::Write>(&self, f: &mut fmt::Formatter<W>) -> fmt::Result {
         write!(f, "byte {}: {}", self.place, self.wrong)
     }

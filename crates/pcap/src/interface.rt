@@ -1,6 +1,7 @@
 //! The interfaces of a section: what was recorded where, and by which clock.
 ghost use Rattle.std.specs.Prelude.{◌≡◌, ◌<◌, ◌^◌};
-ghost use Rattle.pcap.specs.Interface.{time_of, per_second_of, offset_of, interface_of, added, moved};
+ghost use Rattle.pcap.specs.Interface.{per_second_of, offset_of, moved, time_of};
+ghost use Rattle.pcap.specs.Interface.{interface_of, added};
 
 /// The link type of Ethernet.
 pub const ETHERNET: u16 = 1;
@@ -33,7 +34,7 @@ pub struct Interface {
 
 /// How many units of a clock make a second, by the byte of the option if_tsresol: a power of 10,
 /// or of 2 where the highest bit is set. None where it is 2^64 or more.
-pub fn per_second_of(byte: u8) -> Option<u64>
+pub(crate) fn per_second_of(byte: u8) -> Option<u64>
     ensures { result ≡ per_second_of byte }
 {
     if byte < 128 {
@@ -45,7 +46,7 @@ pub fn per_second_of(byte: u8) -> Option<u64>
 
 impl Offset {
     /// By the option if_tsoffset: a signed number of 64 bits, in two's complement.
-    pub fn of(seconds: u64) -> Offset
+    pub(crate) fn of(seconds: u64) -> Offset
         ensures { result ≡ offset_of seconds }
     {
         if seconds < 0x8000_0000_0000_0000 {
@@ -72,7 +73,7 @@ impl Interface {
     /// The nanoseconds since 1970 at so many units of its clock. None where they are below 0, or
     /// 2^64 or more; or where no unit makes a second.
     #[tactic(auto, unfolding(crate::specs::Interface::time_of))]
-    pub fn time(self, units: u64) -> Option<u64>
+    pub(crate) fn time(self, units: u64) -> Option<u64>
         ensures { result ≡ time_of self units }
     {
         if self.per_second == 0 {
@@ -93,7 +94,7 @@ pub struct Interfaces {
 
 impl Interfaces {
     /// The interface with a number, counted from 0; None where it is not described.
-    pub fn get(&self, id: usize) -> Option<Interface>
+    pub(crate) fn get(&self, id: usize) -> Option<Interface>
         ensures { result ≡ interface_of self.now id }
     {
         if id < self.count {
@@ -104,7 +105,7 @@ impl Interfaces {
     }
 
     /// One interface more; nothing changes where there are `MOST`.
-    pub fn add(&mut self, interface: Interface)
+    pub(crate) fn add(&mut self, interface: Interface)
         ensures { self.new ≡ added self.old interface }
     {
         if self.count < MOST {

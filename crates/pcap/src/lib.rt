@@ -4,8 +4,12 @@
 //!
 //! - `reader`: the reader, a step for each packet or block
 //! - `fault`: what is wrong with a recording, and where
-//! - `order`, `interface`, `classic`, `blocks`: the parts of the two formats
 //! - `tag`: a frame without its VLAN tag
+//! - `order`, `interface`, `classic`, `blocks`, `options`, `records`: the parts of the two formats
+//!
+//! The caller has a buffer of `records::LONGEST` bytes. As long as a step answers `More`, it reads
+//! more of the recording behind what is there, or tells the reader's `end` where there is no more;
+//! behind `Passed` and `Packet` it goes on behind the bytes that were read; a `Fault` ends it.
 #![tactic(auto)]
 
 pub mod blocks;
@@ -15,5 +19,5 @@ pub mod interface;
 pub mod options;
 pub mod order;
 pub mod reader;
-pub mod record;
+pub mod records;
 pub mod tag;

@@ -92,7 +92,7 @@ fn option_at(
 /// the times change it, all others are passed over. Refused where one of them begins: LengthLies,
 /// UnknownResolution.
 #[tactic(auto, using(crate::proofs::OptionLaws::option_more, crate::proofs::OptionLaws::option_end, crate::proofs::OptionLaws::option_wrong))]
-pub fn with_options(
+pub(crate) fn with_options(
     order: Order,
     end: usize,
     plain: Interface,

@@ -11,7 +11,7 @@ pub enum Order {
 
 impl Order {
     /// The number in the two bytes from a place on.
-    pub fn two_at(self, bytes: &[u8], place: usize) -> u16
+    pub(crate) fn two_at(self, bytes: &[u8], place: usize) -> u16
         requires { place + 2 ≤ length bytes.now }
         ensures { result ≡ two_at self bytes.now place }
     {
@@ -23,7 +23,7 @@ impl Order {
     }
 
     /// The number in the four bytes from a place on.
-    pub fn four_at(self, bytes: &[u8], place: usize) -> u32
+    pub(crate) fn four_at(self, bytes: &[u8], place: usize) -> u32
         requires { place + 4 ≤ length bytes.now }
         ensures { result ≡ four_at self bytes.now place }
     {
@@ -40,7 +40,7 @@ impl Order {
     }
 
     /// The number in the eight bytes from a place on.
-    pub fn eight_at(self, bytes: &[u8], place: usize) -> u64
+    pub(crate) fn eight_at(self, bytes: &[u8], place: usize) -> u64
         requires { place + 8 ≤ length bytes.now }
         ensures { result ≡ eight_at self bytes.now place }
     {

@@ -2,7 +2,7 @@
 ghost use Rattle.std.specs.Prelude.{◌≡◌, ◌≢◌, ◌+◌, ◌≤◌, length, IfOk, IfErr};
 ghost use Rattle.std.specs.Prelude.{List, [], ℕ, ◌++◌, ◌<◌, ◌^◌, drop};
 ghost use Rattle.pcap.specs.declared.reader.Reader as reader;
-ghost use Rattle.pcap.specs.Record.{Within, Asks};
+ghost use Rattle.pcap.specs.Records.{Within, Asks};
 ghost use Rattle.pcap.specs.Reader.{read_of, joined, with_packets, given, used, Halts};
 ghost use Rattle.pcap.specs.Reader.{Reads, part_least, block_part, first_part, part_of, read_part};
 ghost use Rattle.pcap.specs.Reader.{read_trailer, record_of, after, passed, shown, seen, packet_of};
@@ -13,7 +13,7 @@ use crate::classic::{Classic, HEADER_BYTES};
 use crate::fault::{Fault, Flaw, Halt, Wrong};
 use crate::interface::{Interface, Interfaces, MOST, Offset};
 use crate::order::Order;
-use crate::record::{Data, Record};
+use crate::records::{Data, Record};
 
 /// What stands next in a recording.
 #[derive(Clone, Copy, Debug, PartialEq, Eq)]
@@ -322,7 +322,7 @@ fn lent(found: Data, whole: &[u8]) -> Packet<'_>
 /// that left with the rest behind it, so that it does not matter how a recording is cut; and a step
 /// gives the first packet of what is read, if it gives one, and leaves the reader where all the
 /// others are read; where it reads nothing, nothing can be read.
-#[tactic(auto, using(crate::proofs::Whole::parts, crate::proofs::Steps::steps, crate::proofs::Steps::halts))]
+#[tactic(auto, using(crate::proofs::InParts::parts, crate::proofs::Steps::steps, crate::proofs::Steps::halts))]
 pub fn in_whatever_parts()
     ensures parts { (r : reader.Reader) (xs ys : List ℕ) →
         read_of r (xs ++ ys) ≡ joined (read_of r xs) ys }

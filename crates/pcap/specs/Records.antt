@@ -3,8 +3,8 @@
 use Rattle.std.specs.Prelude.{ℕ, ◌+◌, ◌≤◌, ⊤}
 use Rattle.pcap.specs.declared.fault.Halt.{Halt}
 use Rattle.pcap.specs.declared.fault.Halt.TheVariants.{More, Flaw}
-use Rattle.pcap.specs.declared.record.Record.{Record}
-use Rattle.pcap.specs.declared.record.Record.TheVariants.{Header, Section, Interface, Packet, Other, Trailer}
+use Rattle.pcap.specs.declared.records.Record.{Record}
+use Rattle.pcap.specs.declared.records.Record.TheVariants.{Packet}
 
 -- why nothing is read of so many bytes at the front: at least a byte more is needed, and at most as
 -- many as make the longest record

@@ -1,13 +1,13 @@
 -- A recording is read alike in whatever parts it comes, and step by step: how many records are
 -- allowed for does not matter, as long as they are as many as the bytes.
-use Rattle.std.proofs.Common.{◌≡◌, ℕ, zero, suc, ◌+◌, ◌-◌, ◌≤◌, ◌<◌, ◌%◌, ◌^◌, min, Bool, true, false, cond, List, [], ◌∷◌, ◌++◌, length, drop, take, refl, ap, sym, ◌∙◌, append_assoc, arith, rules, ◌==◌, nat_lt}
+use Rattle.std.proofs.Common.{◌≡◌, ℕ, zero, suc, ◌+◌, ◌-◌, ◌≤◌, ◌%◌, ◌^◌, min, List, [], ◌∷◌, ◌++◌, length, drop, take, refl, ap, sym, ◌∙◌, append_assoc, arith}
 use Rattle.std.proofs.lemmas.List.{length-append, length-drop, take-append-le, drop-append-le, drop-drop, drop_min}
 use Rattle.std.proofs.Math.Nat.{mod-add-mod}
 use Rattle.std.specs.declared.result.Result.{Result}
 use Rattle.std.specs.declared.result.Result.TheVariants.{Ok, Err}
 use Rattle.pcap.specs.declared.fault.Halt.{Halt}
-use Rattle.pcap.specs.declared.record.Record.{Record}
-use Rattle.pcap.specs.declared.record.Record.TheVariants as record'
+use Rattle.pcap.specs.declared.records.Record.{Record}
+use Rattle.pcap.specs.declared.records.Record.TheVariants as record'
 use Rattle.pcap.specs.declared.reader.State.{State}
 use Rattle.pcap.specs.declared.reader.Reader.{Reader}
 use Rattle.pcap.specs.Reader.{record_of, after, Seen, packets_in, further, passed, behind, Read, with_packets, read_in, read_of, joined}
