@@ -61,12 +61,12 @@ def packets(seed, count):
 
 def classic(found, order='<', nanoseconds=False, link=1):
     """A pcap, with microseconds or nanoseconds."""
-    text = struct.pack(order + 'IHHiIII', 0xA1B23C4D if nanoseconds else 0xA1B2C3D4, 2, 4, 0, 0, 262144, link)
+    text = bytearray(struct.pack(order + 'IHHiIII', 0xA1B23C4D if nanoseconds else 0xA1B2C3D4, 2, 4, 0, 0, 262144, link))
     for packet in found:
         seconds, rest = divmod(packet.time, SECOND)
         fraction = rest if nanoseconds else rest // 1000
         text += struct.pack(order + 'IIII', seconds, fraction, len(packet.data), packet.wire) + packet.data
-    return text
+    return bytes(text)
 
 
 def block(order, kind, body):
@@ -123,7 +123,7 @@ def pcapng(found, order='<', resolution=None, offset=None):
 
 def mixed(found, order='<'):
     """All kinds of blocks: names, statistics and long ones of unknown kinds between enhanced and obsolete packet blocks."""
-    text = section(order, option(order, 4, b'a recorder')) + block(order, 4, bytes(20)) + interface(order)
+    text = bytearray(section(order, option(order, 4, b'a recorder')) + block(order, 4, bytes(20)) + interface(order))
     for number, packet in enumerate(found):
         if number % 5 == 2:
             text += block(order, 5, bytes(16))
@@ -133,7 +133,7 @@ def mixed(found, order='<'):
             text += obsolete(order, packet, units(packet.time))
         else:
             text += enhanced(order, packet, units(packet.time), option(order, 1, b'a comment') + option(order, 0, b''))
-    return text
+    return bytes(text)
 
 
 def untimed(found, order='<'):
@@ -148,7 +148,7 @@ def forty(found):
 
 def many(found, orders='<><'):
     """A section for each order, with as many interfaces as its number; each packet is of one after the other."""
-    text, size = b'', -(-len(found) // len(orders))
+    text, size = bytearray(), -(-len(found) // len(orders))
     for number, order in enumerate(orders):
         clocks = [(9, None), (0x80 + 30, 3600), (6, -7200)][:number + 1]
         text += section(order) + b''.join(interface(order, *clock) for clock in clocks)
@@ -156,7 +156,7 @@ def many(found, orders='<><'):
             which = place % len(clocks)
             moved = Packet(packet.time, packet.data, packet.wire, which)
             text += enhanced(order, moved, units(packet.time, *clocks[which]))
-    return text
+    return bytes(text)
 
 
 FORMS = {
