@@ -1,0 +1,4 @@
+pub mod InParts
+pub mod OptionLaws
+pub mod Stays
+pub mod Steps

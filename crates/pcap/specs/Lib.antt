@@ -1,0 +1,10 @@
+pub mod Bind
+pub mod Order
+pub mod Interface
+pub mod Records
+pub mod Classic
+pub mod Options
+pub mod Blocks
+pub mod Reader
+pub mod Tag
+pub mod Text
