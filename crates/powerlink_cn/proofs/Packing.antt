@@ -23,10 +23,10 @@ use Rattle.node.specs.declared.range.SocVerdict.TheVariants.{Lost, Kept, Open}
 use Rattle.reception.specs.declared.FrameAnswer.{FrameAnswer}
 use Rattle.reception.specs.declared.FrameAnswer.TheVariants.{NotOurs, Ours}
 use Rattle.powerlink_cn.specs.Answers.{c_error, c_errors, c_nmt, c_taken, c_frame, c_frame_taken, c_due, reset_number, verdict_number, action_node}
-use Rattle.powerlink_cn.specs.Entries.{c_entry, read_entry}
+use Rattle.powerlink_cn.specs.Entries.{c_entry, read_entry, c_handed_out}
 use Rattle.powerlink_cn.specs.Setups.{flag}
 use Rattle.powerlink_cn.specs.Readings.{reset_named}
-use Rattle.powerlink_cn.specs.Unpacked.{error_in, errors_in, nmt_in, action_in, taken_in, flag_in, due_in, frame_in, verdict_in, ReadBack}
+use Rattle.powerlink_cn.specs.Unpacked.{handed_out_in, error_in, errors_in, nmt_in, action_in, taken_in, flag_in, due_in, frame_in, verdict_in, ReadBack}
 use Rattle.types.specs.Errors.{action_number}
 
 pub error_lem : (e : DllError) → error_in (c_error e) ≡ e
@@ -111,6 +111,9 @@ entry_lem e =
     rw (mode_lem e.entry_type.mode)
     (rw (given_lem e.entry_type.is_status_entry) (rw (given_lem e.entry_type.send_to_queue) refl))
 
+pub handed_out_lem : (e : ErrorEntry) → handed_out_in (c_handed_out (option.Some e)) ≡ option.Some (Ok e)
+handed_out_lem e = ap option.Some (entry_lem e)
+
 pub verdict_lem : (v : SocVerdict) → verdict_in (verdict_number v) ≡ v
 verdict_lem Lost = refl
 verdict_lem Kept = refl
@@ -125,5 +128,9 @@ read_back_lem =
       due = due_lem;
       frame = frame_lem;
       entry = entry_lem;
+      handed_out = handed_out_lem;
+      none_waits = refl;
+      cycle = flag_lem;
+      margin = λ z. refl;
       verdict = verdict_lem;
     }

@@ -1,9 +1,11 @@
 -- How what is packed for C is read back, and the law that this gives what was packed.
 -- Assumes nothing.
-use Rattle.std.specs.Prelude.{ℕ, zero, suc, ◌≡◌, Bool, true, false, List, [], ◌∷◌, get_or}
+use Rattle.std.specs.Prelude.{ℕ, ℤ, zero, suc, ◌≡◌, Bool, true, false, List, [], ◌∷◌, get_or}
 use Rattle.std.specs.declared.option.Option.{Option}
 use Rattle.std.specs.declared.option.Option.TheVariants as option
+use Rattle.std.specs.declared.result.Result.{Result}
 use Rattle.std.specs.declared.result.Result.TheVariants.{Ok}
+use Rattle.types.specs.declared.refusals.Refusal.{Refusal}
 use Rattle.types.specs.Types.{node}
 use Rattle.types.specs.declared.frame.error.types.NmtAction.{NmtAction}
 use Rattle.types.specs.declared.frame.error.types.NmtAction.TheVariants as action
@@ -24,8 +26,9 @@ use Rattle.powerlink_cn.specs.declared.answers.PlcnNmtAnswer.{PlcnNmtAnswer}
 use Rattle.powerlink_cn.specs.declared.answers.PlcnErrorAnswer.{PlcnErrorAnswer}
 use Rattle.powerlink_cn.specs.declared.answers.PlcnFrameAnswer.{PlcnFrameAnswer}
 use Rattle.powerlink_cn.specs.declared.answers.PlcnDueAnswer.{PlcnDueAnswer}
-use Rattle.powerlink_cn.specs.Answers.{c_errors, c_nmt, c_taken, c_frame, c_due, no_error, verdict_number}
-use Rattle.powerlink_cn.specs.Entries.{c_entry, read_entry}
+use Rattle.powerlink_cn.specs.declared.entry.PlcnHandedOut.{PlcnHandedOut}
+use Rattle.powerlink_cn.specs.Answers.{c_errors, c_nmt, c_taken, c_cycle, c_margin, c_frame, c_due, no_error, verdict_number}
+use Rattle.powerlink_cn.specs.Entries.{c_entry, read_entry, c_handed_out}
 use Rattle.powerlink_cn.specs.Readings.{reset_named}
 
 -- all errors, by their kinds' numbers; a is the node that one carries, or a and b are its state and
@@ -118,6 +121,10 @@ verdict_in zero = Lost
 verdict_in (suc zero) = Kept
 verdict_in (suc (suc n)) = Open
 
+-- the entry that was handed out, if any
+abbrev pub handed_out_in : PlcnHandedOut → Option (Result ErrorEntry Refusal)
+handed_out_in c = there c.there (read_entry c.entry)
+
 -- The law: what is read back is what was packed. An entry is read back by `read_entry`, as the
 -- library itself reads one that C gives.
 pub record ReadBack : Type 0 where
@@ -127,4 +134,8 @@ pub record ReadBack : Type 0 where
   pub due : (d : Option ℕ) → due_in (c_due d) ≡ d
   pub frame : (a : FrameAnswer) → frame_in (c_frame a) ≡ a
   pub entry : (e : ErrorEntry) → read_entry (c_entry e) ≡ Ok e
+  pub handed_out : (e : ErrorEntry) → handed_out_in (c_handed_out (option.Some e)) ≡ option.Some (Ok e)
+  pub none_waits : handed_out_in (c_handed_out option.None) ≡ option.None
+  pub cycle : (b : Bool) → flag_in (c_cycle b).cleared ≡ b
+  pub margin : (z : ℤ) → (c_margin z).margin_us ≡ z
   pub verdict : (v : SocVerdict) → verdict_in (verdict_number v) ≡ v
