@@ -109,7 +109,7 @@ test: kit
 	@echo "Checking the script that replay is run on."
 	@compare/joined.sh --check
 	@echo "Proving every crate, trying the must-fail edits, running the programs; where this machine has proved the same files before, that takes half a"
-	@echo "minute. Behind it, silent where all is as expected, the program of shift totals on stored and generated inputs, the page on the watch, and names and traces."
+	@echo "minute. Behind it, silent where all is as expected, in a minute or two: shift totals, the page on the watch, names and traces, the C library and its wrapper."
 	@scripts/gate.sh
 	@scripts/build.sh --built replay shiftreport
 	@tests/shiftreport.py >target/shift.log || { cat target/shift.log; exit 1; }
