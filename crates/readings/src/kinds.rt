@@ -17,13 +17,12 @@ fn kind(code: u64) -> Option<u8>
 
 /// Prints a line for each code that names a kind, and how many codes name none.
 pub(crate) fn print_kinds(out: &mut Output) {
+    let mut refused = 0u32;
     for code in 0..=u16::MAX {
-        if let Some(place) = kind(u64::from(code)) {
-            writeln!(out, "(kind {code:#06X} {place})");
+        match kind(u64::from(code)) {
+            Some(place) => writeln!(out, "(kind {code:#06X} {place})"),
+            None => refused = refused.saturating_add(1),
         }
     }
-    let refused = (0..=u16::MAX)
-        .filter(|&code| kind(u64::from(code)).is_none())
-        .count();
     writeln!(out, "(kind refused {refused})");
 }

@@ -1,4 +1,7 @@
 //! `NetTime` at ordinary values and at the limits.
+ghost use Rattle.std.specs.Prelude.{◌≡◌};
+ghost use Rattle.readings.specs.Shown.{compared_times};
+
 use forms::output::Output;
 use types::common::NetTime;
 
@@ -24,24 +27,16 @@ const NANOS: [u64; 5] = [
 ];
 
 // The times that are added to and compared.
-const TIMES: [NetTime; 4] = [
-    NetTime {
-        seconds: 0,
-        nanoseconds: 0,
-    },
-    NetTime {
-        seconds: 0,
-        nanoseconds: 999_999_999,
-    },
-    NetTime {
-        seconds: 1,
-        nanoseconds: 500_000_000,
-    },
-    NetTime {
-        seconds: 4_294_967_295,
-        nanoseconds: 999_999_999,
-    },
-];
+fn times() -> [NetTime; 4]
+    ensures { result ≡ compared_times }
+{
+    [
+        NetTime::new(0, 0),
+        NetTime::new(0, 999_999_999),
+        NetTime::new(1, 500_000_000),
+        NetTime::new(4_294_967_295, 999_999_999),
+    ]
+}
 
 /// Prints the times of so many µs.
 pub(crate) fn print_times(out: &mut Output) {
@@ -59,7 +54,7 @@ pub(crate) fn print_times(out: &mut Output) {
 
 /// Prints the times later by so many ns.
 pub(crate) fn print_additions(out: &mut Output) {
-    for time in TIMES {
+    for time in times() {
         for nanos in NANOS {
             let sum = time.add_nanos(nanos);
             writeln!(
@@ -73,8 +68,8 @@ pub(crate) fn print_additions(out: &mut Output) {
 
 /// Prints the differences of two times, the first less the second, in ns.
 pub(crate) fn print_differences(out: &mut Output) {
-    for a in TIMES {
-        for b in TIMES {
+    for a in times() {
+        for b in times() {
             writeln!(
                 out,
                 "(difference {} {} {} {} {})",

@@ -219,12 +219,12 @@ impl DllErrorKind {
         ensures { kind_said result ≡ kind_behind code }
     {
         let mut found = None;
-        for kind in DllErrorKind::ALL {
+        for kind in &DllErrorKind::ALL {
             if u64::from(kind.to_error_code()) == code {
                 if found.is_some() {
                     return Err(Refusal::NoSingleKind);
                 }
-                found = Some(kind);
+                found = Some(*kind);
             }
         }
         found.ok_or(Refusal::NoSingleKind)
