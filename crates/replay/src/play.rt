@@ -3,8 +3,11 @@ ghost use Rattle.std.specs.Prelude.{◌≡◌, ℕ, List, Some, IfOk, IfSome};
 ghost use Rattle.std.specs.Io.Buffered.{reader_remaining};
 ghost use Rattle.std.specs.Io.BufRead.{strip_last};
 ghost use Rattle.std.specs.Io.KnownBytes.{Appends, Keeps};
+ghost use Rattle.script.specs.declared.Line.{Line};
+ghost use Rattle.script.specs.Grammar.{says, line_says};
+ghost use Rattle.replay.specs.declared.station.Said.{Said};
 ghost use Rattle.replay.specs.Played.{fresh, said_text, trace_text, found_by, moved_from};
-ghost use Rattle.replay.specs.Played.{Script};
+ghost use Rattle.replay.specs.Played.{is_played, line_text, Plays, Script};
 
 use crate::station::{Said, Station};
 use crate::trace::moved;
@@ -95,19 +98,52 @@ fn without_newline(line: &[u8]) -> &[u8]
     }
 }
 
-// What was printed is flushed before more of the script is waited for.
+// What was printed is flushed before more of the script is waited for, which it is where the buffer
+// holds no whole line.
 fn flush_before_reading<R: Read, W: Write>(script: &BufReader<R>, out: &mut W) -> io::Result<()>
     ensures { Keeps (W.contents out.old) (W.contents out.new) }
 {
-    if script.buffer().is_empty() {
+    if !script.buffer().contains(&b'\n') {
         out.flush()?;
     }
     Ok(())
 }
 
+// Plays a line at a place of the script, from 1, and writes what it prints. Answers whether it
+// could be read and played.
+fn play_line<W: Write>(
+    options: Options,
+    station: &mut Station,
+    memory: &mut LineMemory,
+    line: &[u8],
+    place: u64,
+    out: &mut W,
+) -> io::Result<bool>
+    ensures { IfOk result (λ played. (l : Line) × (o : Said)
+        × (says l ≡ line_says (strip_last 10 line.now))
+        × Plays l station.old o station.new
+        × (played ≡ is_played o)
+        × Appends (W.contents out.old) (W.contents out.new)
+        (line_text options l o place station.old station.new)) }
+{
+    let before = options.before(station);
+    let read_line = read(without_newline(line), memory);
+    let said = station.play(read_line);
+    let traced = Traced(moved_from(before, read_line, station));
+    let answered = Answered {
+        style: options.style,
+        said,
+        place,
+        station,
+    };
+    write!(out, "{answered}{traced}")?;
+    Ok(said.is_played())
+}
+
 /// Plays a script to its end, and writes what each line prints. What is printed is flushed before
 /// more of the script is read. Answers whether each line could be read and played; an error is that
-/// of the reader, of the writer, or of memory, or InvalidInput after 2^64 - 2 lines.
+/// of the reader, of the writer, or of memory, or InvalidInput after 2^64 - 2 lines. Where a read
+/// fails inside a line, what came of the line is played first.
 pub fn play<R: Read, W: Write>(
     alloc: Global,
     options: Options,
@@ -125,22 +161,24 @@ pub fn play<R: Read, W: Write>(
     for place in 1..u64::MAX {
         flush_before_reading(script, out)?;
         line.clear();
-        if script.read_until(b'\n', &mut line)? == 0 {
+        match script.read_until(b'\n', &mut line) {
+            Ok(0) => {
+                out.flush()?;
+                return Ok(all_played);
+            }
+            Ok(_) => {}
+            Err(error) => {
+                play_line(options, &mut station, &mut memory, &line, place, out)?;
+                out.flush()?;
+                return Err(error);
+            }
+        }
+        all_played &= play_line(options, &mut station, &mut memory, &line, place, out)?;
+        // A line without a newline is the last one: no more is waited for.
+        if without_newline(&line).len() == line.len() {
             out.flush()?;
             return Ok(all_played);
         }
-        let before = options.before(&station);
-        let read_line = read(without_newline(&line), &mut memory);
-        let said = station.play(read_line);
-        all_played &= said.is_played();
-        let traced = Traced(moved_from(before, read_line, &station));
-        let answered = Answered {
-            style: options.style,
-            said,
-            place,
-            station: &station,
-        };
-        write!(out, "{answered}{traced}")?;
     }
     Err(io::Error::from(ErrorKind::InvalidInput))
 }
