@@ -4,3 +4,4 @@ pub mod Starting
 pub mod Waiting
 pub mod Declines
 pub mod Asked
+pub mod Contracts

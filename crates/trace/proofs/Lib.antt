@@ -9,6 +9,7 @@ pub mod Visits
 pub mod Keeps
 pub mod Follows
 pub mod Driven
+pub mod Witnessed
 pub mod Unmoved
 pub mod Worked
 pub mod Corollaries
