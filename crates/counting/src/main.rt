@@ -4,34 +4,75 @@
 #![tactic(auto)]
 
 ghost use Rattle.std.specs.Prelude.{◌≡◌};
+ghost use Rattle.counting.specs.Shown.{levels_of, counts_of, crossings_of};
 
-use counters::counters::{CnErrorCounters, ErrorTaken, ThresholdCounter, Thresholds};
+use counters::counters::{CnErrorCounters, ErrorTaken, Thresholds};
 use forms::errors::ErrorsForm;
 use forms::generator::Generator;
 use forms::output::Output;
 use std::io;
 use types::frame::error::types::DllError;
 
-// One number of each counter.
-fn say_each<F: Fn(ThresholdCounter) -> u32>(
-    out: &mut Output,
-    name: &str,
-    counters: CnErrorCounters,
-    number: F,
-)
-    requires { F.IsAlwaysCallable number }
+// The level of each counter.
+fn levels(counters: CnErrorCounters) -> [u32; 7]
+    ensures { result ≡ levels_of counters }
 {
+    let [a, b, c, d, e, f, g] = counters.counters.each();
+    [
+        a.threshold_cnt,
+        b.threshold_cnt,
+        c.threshold_cnt,
+        d.threshold_cnt,
+        e.threshold_cnt,
+        f.threshold_cnt,
+        g.threshold_cnt,
+    ]
+}
+
+// How many errors were given to each.
+fn counts(counters: CnErrorCounters) -> [u32; 7]
+    ensures { result ≡ counts_of counters }
+{
+    let [a, b, c, d, e, f, g] = counters.counters.each();
+    [
+        a.cumulative_cnt,
+        b.cumulative_cnt,
+        c.cumulative_cnt,
+        d.cumulative_cnt,
+        e.cumulative_cnt,
+        f.cumulative_cnt,
+        g.cumulative_cnt,
+    ]
+}
+
+// How often each was at its threshold.
+fn crossings(counters: CnErrorCounters) -> [u32; 7]
+    ensures { result ≡ crossings_of counters }
+{
+    let [a, b, c, d, e, f, g] = counters.counters.each();
+    [
+        a.crossings_cnt,
+        b.crossings_cnt,
+        c.crossings_cnt,
+        d.crossings_cnt,
+        e.crossings_cnt,
+        f.crossings_cnt,
+        g.crossings_cnt,
+    ]
+}
+
+fn say_each(out: &mut Output, name: &str, numbers: [u32; 7]) {
     write!(out, " ({name}");
-    for counter in counters.counters.each() {
-        write!(out, " {}", number(counter));
+    for number in numbers {
+        write!(out, " {number}");
     }
     write!(out, ")");
 }
 
 fn say_counters(out: &mut Output, counters: CnErrorCounters) {
-    say_each(out, "levels", counters, |c| c.threshold_cnt);
-    say_each(out, "counts", counters, |c| c.cumulative_cnt);
-    say_each(out, "crossings", counters, |c| c.crossings_cnt);
+    say_each(out, "levels", levels(counters));
+    say_each(out, "counts", counts(counters));
+    say_each(out, "crossings", crossings(counters));
     writeln!(out, " (links {}))", counters.loss_of_link_cumulative);
 }
 

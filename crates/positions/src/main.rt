@@ -8,7 +8,8 @@ use std::io;
 fn main(rt: HostRuntime) -> io::Result<()> {
     let mut out = Output::new(rt.stdout());
     for line in reach::lines() {
-        write!(out, "{line}");
+        // A line is one write.
+        out.write(&reach::form(line));
     }
     out.end()
 }

@@ -5,3 +5,4 @@ pub mod Totals
 pub mod Contracts
 pub mod Example
 mod Lines
+pub mod Decimal

@@ -1,3 +1,4 @@
 pub mod Report
 pub mod Feed
 pub mod Sums
+pub mod Digits

@@ -10,7 +10,7 @@ ghost use Rattle.shift.specs.Feed.{keeping, counted, counted_all, absorbed, at_s
 pub type Counts = [u64; 65536];
 
 /// What is kept of the input so far.
-#[derive(Drop)]
+#[derive(Clone, Copy)]
 pub struct Shift {
     /// How many whole entries were read, modulo 2^64. No count is above it before 2^64 entries.
     pub entries: u64,

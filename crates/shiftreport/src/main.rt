@@ -3,9 +3,13 @@
 //! no total.
 #![tactic(auto)]
 
+ghost use Rattle.std.specs.Prelude.{IfOk};
+ghost use Rattle.std.specs.Io.KnownBytes.{Appends};
+ghost use Rattle.shift.specs.Feed.{printed};
+
 use shift::feed::Shift;
 use std::io;
-use std::io::Read;
+use std::io::{Read, Write};
 use std::process::ExitCode;
 
 // A proved loop has to end, and nothing says that the input does. So many reads of the buffer are
@@ -28,9 +32,17 @@ fn fail(rt: &(impl Eprint + Alloc), what: &str, error: io::Error) -> io::Result<
     Ok(ExitCode::FAILURE)
 }
 
+// Hands the page to a writer.
+fn write_page<W: Write>(out: &mut W, shift: &Shift) -> io::Result<()>
+    ensures { IfOk result (λ _. Appends (W.contents out.old) (W.contents out.new)
+        (printed shift.now.entries shift.now.counts shift.now.left)) }
+{
+    out.write_all(shift.report().as_slice())
+}
+
 // Prints the page, or says that it could not be written.
-fn print(rt: &(impl Print + Eprint + Alloc), shift: &Shift) -> io::Result<ExitCode> {
-    match rt.write_all(shift.report().as_slice()) {
+fn print(rt: &HostRuntime, shift: &Shift) -> io::Result<ExitCode> {
+    match write_page(&mut rt.stdout(), shift) {
         Ok(()) => Ok(ExitCode::SUCCESS),
         Err(error) => fail(rt, "writing standard output", error),
     }
