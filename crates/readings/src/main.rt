@@ -25,12 +25,11 @@ use types::types::{
 // Whether each number is a node's.
 fn print_nodes(out: &mut Output) {
     for n in 0..=255u8 {
-        let outcome = if NodeId::try_from(n).is_ok() {
-            "taken"
+        if NodeId::try_from(n).is_ok() {
+            writeln!(out, "(node {n} taken)");
         } else {
-            "refused"
-        };
-        writeln!(out, "(node {n} {outcome})");
+            writeln!(out, "(node {n} refused)");
+        }
     }
 }
 
@@ -48,14 +47,14 @@ fn print_addresses(out: &mut Output) {
     }
 }
 
-// For each number the one that it is read as, or that it is refused.
-fn print_readings<F: Fn(u8) -> Option<u8>>(out: &mut Output, name: &str, reading: F)
+// For each number the one that it is read as, or that it is refused; a line begins with `begins`.
+fn print_readings<F: Fn(u8) -> Option<u8>>(out: &mut Output, begins: &str, reading: F)
     requires { F.IsAlwaysCallable reading }
 {
     for n in 0..=255u8 {
         match reading(n) {
-            Some(number) => writeln!(out, "({name} {n} {number:#04X})"),
-            None => writeln!(out, "({name} {n} refused)"),
+            Some(number) => writeln!(out, "{begins}{n} {number:#04X})"),
+            None => writeln!(out, "{begins}{n} refused)"),
         }
     }
 }
@@ -104,26 +103,26 @@ fn main(rt: HostRuntime) -> io::Result<()> {
     print_addresses(out);
     print_readings(
         out,
-        "state",
+        "(state ",
         |n| NmtState::try_from(u64::from(n)).ok().map(NmtState::as_u8),
     );
     print_readings(
         out,
-        "command",
+        "(command ",
         |n| NmtStateCommand::try_from(u64::from(n))
             .ok()
             .map(NmtStateCommand::as_u8),
     );
     print_readings(
         out,
-        "managing",
+        "(managing ",
         |n| NmtManagingCommand::try_from(u64::from(n))
             .ok()
             .map(NmtManagingCommand::as_u8),
     );
     print_readings(
         out,
-        "message",
+        "(message ",
         |n| MessageType::try_from(n).ok().map(MessageType::as_u8),
     );
     frames::print_frames(out);
