@@ -5,10 +5,13 @@
   - with --names the stored script prints the names of what it prints without: read back as numbers, it is the same
   - with --trace it prints the same, and a line for each change of the NMT state, which `show` tells behind each line
   - a script that can't be read, and the exit status
+  - what is answered while more of a script is waited for, behind a read that fails, and at a terminal's end
 
 The numbers of the names are those of the tables of docs/CALLS.md."""
 import os
+import pty
 import re
+import select
 import subprocess
 import sys
 
@@ -147,6 +150,48 @@ def text(parts):
     return '\n'.join(str(p) for p in parts)
 
 
+STARTED = b'start 7 0 5000 2 0 1000 - 0 0 0 0\n'
+# what a call may take to be answered, in seconds: no time is measured
+PATIENCE = 20
+
+
+def first_answer():
+    """What is printed of a whole line while the rest of the next one is waited for."""
+    with subprocess.Popen([REPLAY], stdin=subprocess.PIPE, stdout=subprocess.PIPE) as run:
+        run.stdin.write(STARTED + b'with')
+        run.stdin.flush()
+        ready = select.select([run.stdout], [], [], PATIENCE)[0]
+        answer = os.read(run.stdout.fileno(), 100) if ready else b''
+        run.kill()
+    return answer
+
+
+def behind_a_failed_read():
+    """What is printed where a read fails inside a line: a pipe that has no more and may not be waited for."""
+    taken, given = os.pipe()
+    os.set_blocking(taken, False)
+    os.write(given, STARTED + b'withdraw')
+    done = subprocess.run([REPLAY], stdin=taken, capture_output=True, timeout=PATIENCE)
+    os.close(taken)
+    os.close(given)
+    return done.stdout, done.returncode
+
+
+def at_a_terminal():
+    """What is printed of a last line without a newline, behind which the input ends once."""
+    ours, theirs = pty.openpty()
+    with subprocess.Popen([REPLAY], stdin=theirs, stdout=subprocess.PIPE) as run:
+        os.write(ours, STARTED + b'withdraw\x04\x04')
+        try:
+            printed = run.communicate(timeout=PATIENCE)[0]
+        except subprocess.TimeoutExpired:
+            run.kill()
+            printed = b'nothing: it waits'
+    os.close(ours)
+    os.close(theirs)
+    return printed, run.returncode
+
+
 names = open(NAMES, encoding='utf-8').read()
 stored = open(STORED, encoding='utf-8', newline='').read()
 
@@ -168,6 +213,14 @@ for path, said in (('tests', 'Is a directory'), ('tests/none', 'No such file or 
 for script, status in (('start node=7\n', 0), ('start node=7\nnmt Soc\n', 1)):
     if play(script)[1] != status:
         failed.append(f'status {play(script)[1]} of {script!r}')
+
+for what, found, wanted in (
+    ('a line that is not whole yet', first_answer(), b'(taken)\n'),
+    ('a line that a failed read cut', behind_a_failed_read(), (b'(taken)\n(taken)\n', 1)),
+    ('a last line at a terminal', at_a_terminal(), (b'(taken)\n(taken)\n', 0)),
+):
+    if found != wanted:
+        failed.append(f'{what}: {found!r} for {wanted!r}')
 
 for wrong in failed:
     print(f'tests/replay.py: {wrong}', file=sys.stderr)
